@@ -1,0 +1,6 @@
+pub mod Streaming
+pub mod Following
+pub mod Values
+pub mod Fronts
+pub mod Stepping
+pub mod Running

@@ -1,0 +1,34 @@
+-- How a command ended decides its status.
+use Rattle.std.proofs.Common.{◌≡◌, ◌≢◌, ℕ, List, Option, Some, None, Result, Ok, Err, inl, inr, ◌⊎◌, refl, sym, ap, ◌∙◌, arith}
+use Rattle.std.specs.Prelude.{OnOk, MatchBool, IfSome, is_err}
+use Rattle.wire_base.specs.declared.passing.Stopped.{Stopped}
+use Rattle.wire_base.specs.declared.passing.Stopped.TheVariants as stopped
+use Rattle.swima_model.specs.declared.report.Kind.{Kind}
+use Rattle.swid_cli.specs.declared.step.Ending.{Ending}
+use Rattle.swid_cli.specs.declared.step.Ending.TheVariants as ending
+use Rattle.swid_cli.specs.Run.{Prints, Ran, ending_status, status_of}
+use Rattle.swid_cli.specs.Stream.{new_mirror, stream_text}
+use Rattle.swid_cli.proofs.Streaming.{nothing_left}
+
+-- A text was written, or the call failed.
+pub written_or : {A E : Type 0} (Text Rose Calm : Type 0) (result : Result A E) → OnOk result Text → MatchBool (is_err result) Rose Calm → Text ⊎ Rose
+written_or Text Rose Calm (Ok value) text cause = inl text
+written_or Text Rose Calm (Err fault) text cause = inr cause
+
+-- Status 0 is that of an input that was not refused.
+is_whole : (how : Ending) → ending_status how ≡ 0 → how ≡ ending.Whole
+is_whole ending.Whole zero = refl
+is_whole ending.Refused zero = absurd (omega arith)
+
+-- A command that ended printed all, with its status.
+pub prints : (kind : Kind) (told left-after before after : Option (List ℕ)) (result : Result Ending Stopped) (status : ℕ) → status ≡ status_of result → status ≢ 3 → status ≢ 4
+    → IfSome told (λ octets. Ran (stream_text kind octets) left-after before after result) → IfSome told (λ octets. Prints (stream_text kind octets) left-after before after status)
+prints kind None left-after before after result status is fault memory ran = tt
+prints kind (Some octets) left-after before after (Ok how) status is fault memory ran = record {
+  text = ran.0;
+  ending = is ∙ ap ending_status ran.1;
+  left = ran.2;
+  ended = λ zero. ran.2 ∙ ap (λ (o : List ℕ). Some o) (nothing_left 0 (new_mirror kind) octets (sym ran.1 ∙ is_whole how (sym is ∙ zero)));
+}
+prints kind (Some octets) left-after before after (Err stopped.Fault) status is fault memory ran = absurd (fault is)
+prints kind (Some octets) left-after before after (Err stopped.Memory) status is fault memory ran = absurd (memory is)

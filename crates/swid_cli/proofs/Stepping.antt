@@ -1,0 +1,46 @@
+-- What stands first decides the step.
+use Rattle.std.proofs.Common.{◌≡◌, ℕ, ◌+◌, ◌-◌, List, length, drop, Option, Some, Result, Ok, Err, refl, sym, ap, subst, ◌∙◌}
+use Rattle.wire_base.specs.Reading.{whole}
+use Rattle.swima_model.specs.declared.report.Report.{Report}
+use Rattle.swima_reports.specs.InventoryReading.{read_inventory}
+use Rattle.validator_core.specs.Held.{Held}
+use Rattle.swid_cli.specs.declared.front.Front.{Front}
+use Rattle.swid_cli.specs.declared.front.Front.TheVariants as front
+use Rattle.swid_cli.specs.declared.step.Ending.TheVariants as ending
+use Rattle.swid_cli.specs.declared.step.Step.{Step}
+use Rattle.swid_cli.specs.declared.step.Step.TheVariants as step
+use Rattle.swid_cli.specs.Front.{HEADER_OCTETS, front_of, left_behind}
+use Rattle.swid_cli.specs.Text.{mirror_text, refusal}
+use Rattle.swid_cli.specs.Stream.{LIMIT, front_step, refused, step_of, value_step}
+use Rattle.swid_cli.specs.Steps.{IsStep, left_of}
+
+-- What is left behind a value is behind its attribute, whether it was taken or not.
+value_left : (at : ℕ) (mirror : Held) (octets : List ℕ) (len : ℕ) (read : Result Report ℕ) → left_of (value_step at mirror octets len read) octets ≡ drop len octets
+value_left at mirror octets len (Ok report) = refl
+value_left at mirror octets len (Err place) = refl
+
+-- What is left behind what stands first is left behind the step.
+front_left : (at : ℕ) (mirror : Held) (octets : List ℕ) (first : Front) → left_of (front_step at mirror octets first) octets ≡ left_behind (LIMIT - at) octets first
+front_left at mirror octets front.End = refl
+front_left at mirror octets (front.Torn have) = refl
+front_left at mirror octets front.Limit = refl
+front_left at mirror octets front.BadLength = refl
+front_left at mirror octets front.OtherAttribute = refl
+front_left at mirror octets (front.Whole attribute) = value_left at mirror octets (length attribute) (whole read_inventory (at + HEADER_OCTETS) (drop HEADER_OCTETS attribute))
+
+-- The step of what stands first is the step of the octets.
+pub first_step : (at : ℕ) (before : Held) (octets : List ℕ) (first : Front) (taken : Step) (after : Held) (left : Option (List ℕ))
+    → (first ≡ front_of (LIMIT - at) octets) × (left ≡ Some (left_behind (LIMIT - at) octets first)) → IsStep (front_step at before octets first) taken after
+    → IsStep (step_of at before octets) taken after × (left ≡ Some (left_of (step_of at before octets) octets))
+unfolding step_of
+first_step at before octets first taken after left is steps =
+    subst (λ (f : Front). IsStep (front_step at before octets f) taken after × (left ≡ Some (left_of (front_step at before octets f) octets))) is.0
+    (steps, is.1 ∙ ap (λ (o : List ℕ). Some o) (sym (front_left at before octets first)))
+
+-- At the end the mirror is printed.
+pub ended : (at : ℕ) (mirror : Held) (octets text : List ℕ) → text ≡ mirror_text mirror → IsStep (front_step at mirror octets front.End) (step.Ends text ending.Whole) mirror
+ended at mirror octets text is = (is, refl)
+
+-- A refusal is printed.
+pub was_refused : (word : List ℕ) (number : ℕ) (left : List ℕ) (taken : Step) (mirror : Held) → taken ≡ step.Ends (refusal word number) ending.Refused → IsStep (refused word number left) taken mirror
+was_refused word number left taken mirror is = rw is (refl, refl)

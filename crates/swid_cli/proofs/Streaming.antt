@@ -1,0 +1,167 @@
+-- The text of a stream is the line of its first step and then the text of what is behind it.
+use Rattle.std.proofs.Common.{◌≡◌, ℕ, zero, suc, ◌+◌, ◌-◌, ◌<◌, ◌≤◌, min, Bool, true, false, cond, eqb, List, [], length, take, drop, Option, Some, Result, Ok, Err, refl, sym, ap, ◌∙◌, arith, length-take, length-drop, add-one}
+use Rattle.std.specs.Prelude.{not, nat_lt}
+use Rattle.std.proofs.lemmas.Bool.{ltb-false}
+use Rattle.wire_base.specs.Reading.{whole}
+use Rattle.swima_model.specs.declared.report.Report.{Report}
+use Rattle.swima_reports.specs.InventoryReading.{read_inventory}
+use Rattle.validator_core.specs.Held.{Held}
+use Rattle.swid_cli.specs.declared.front.Front.{Front}
+use Rattle.swid_cli.specs.declared.front.Front.TheVariants as front
+use Rattle.swid_cli.specs.declared.step.Ending.{Ending}
+use Rattle.swid_cli.specs.declared.step.Ending.TheVariants as ending
+use Rattle.swid_cli.specs.declared.step.Step.TheVariants as step
+use Rattle.swid_cli.specs.Front.{HEADER_OCTETS, cut, front_of, is_bad_length, is_inventory, length_of}
+use Rattle.swid_cli.specs.Stream.{LIMIT, Printed, StepOf, Goes, Ends, StreamGoesOn, after_line, and_on, front_step, step_of, stream, stream_by, value_step}
+use Rattle.swid_cli.specs.Steps.{IsStep, TakesStep, left_of}
+use Rattle.swid_cli.proofs.Fronts.{good_length}
+
+-- ---- a step that goes on takes some of the octets
+
+abbrev Takes : Front → List ℕ → Type 0
+Takes (front.Whole attribute) octets = (0 < length attribute) × (length attribute ≤ length octets)
+Takes front.End octets = Unit {0}
+Takes (front.Torn have) octets = Unit {0}
+Takes front.Limit octets = Unit {0}
+Takes front.BadLength octets = Unit {0}
+Takes front.OtherAttribute octets = Unit {0}
+
+takes_by : (test : Bool) (first second : Front) (octets : List ℕ) → (test ≡ true → Takes first octets) → (test ≡ false → Takes second octets) → Takes (cond test first second) octets
+takes_by true first second octets here there = here refl
+takes_by false first second octets here there = there refl
+
+cut_takes : (room count : ℕ) (octets : List ℕ) → Takes (cut room count) octets
+cut_takes room count octets =
+    takes_by (nat_lt room count) front.Limit (cond (eqb count 0) front.End (front.Torn count)) octets (λ e. tt)
+    (λ e. takes_by (eqb count 0) front.End (front.Torn count) octets (λ z. tt) (λ z. tt))
+
+front_takes : (room : ℕ) (octets : List ℕ) → Takes (front_of room octets) octets
+unfolding front_of
+front_takes room octets =
+    let seen = min room (length octets) in
+    let len = length_of octets in
+    takes_by (nat_lt seen HEADER_OCTETS) (cut room (length octets)) _ octets (λ e. cut_takes room (length octets) octets)
+    (λ long. takes_by (is_bad_length len) front.BadLength _ octets (λ e. tt)
+    (λ good. takes_by (not (is_inventory octets)) front.OtherAttribute _ octets (λ e. tt)
+    (λ inventory. takes_by (nat_lt seen len) (cut room (length octets)) (front.Whole (take len octets)) octets (λ e. cut_takes room (length octets) octets)
+    (λ enough. let within : len ≤ seen = ltb-false seen len enough in
+    let header = good_length len good in
+    let taken = length-take len octets in
+    (omega arith, omega arith)))))
+
+abbrev StepTakes : StepOf → List ℕ → Type 0
+StepTakes (Goes line len mirror) octets = (0 < len) × (len ≤ length octets)
+StepTakes (Ends printed) octets = Unit {0}
+
+value_takes : (at : ℕ) (mirror : Held) (octets : List ℕ) (len : ℕ) (read : Result Report ℕ) → (0 < len) × (len ≤ length octets) → StepTakes (value_step at mirror octets len read) octets
+value_takes at mirror octets len (Ok report) takes = takes
+value_takes at mirror octets len (Err place) takes = tt
+
+front_step_takes : (at : ℕ) (mirror : Held) (octets : List ℕ) (first : Front) → Takes first octets → StepTakes (front_step at mirror octets first) octets
+front_step_takes at mirror octets (front.Whole attribute) takes = value_takes at mirror octets (length attribute) (whole read_inventory (at + HEADER_OCTETS) (drop HEADER_OCTETS attribute)) takes
+front_step_takes at mirror octets front.End takes = tt
+front_step_takes at mirror octets (front.Torn have) takes = tt
+front_step_takes at mirror octets front.Limit takes = tt
+front_step_takes at mirror octets front.BadLength takes = tt
+front_step_takes at mirror octets front.OtherAttribute takes = tt
+
+step_takes : (at : ℕ) (mirror : Held) (octets : List ℕ) → StepTakes (step_of at mirror octets) octets
+unfolding step_of
+step_takes at mirror octets = front_step_takes at mirror octets (front_of (LIMIT - at) octets) (front_takes (LIMIT - at) octets)
+
+-- ---- as many steps as octets and more are all alike
+
+abbrev Alike : ℕ → ℕ → Type 0
+Alike n k = (at : ℕ) (mirror : Held) (octets : List ℕ) → length octets < n → length octets < k → stream_by n at mirror octets ≡ stream_by k at mirror octets
+
+alike_on : (n k at : ℕ) (octets : List ℕ) (taken : StepOf) → Alike n k → StepTakes taken octets → length octets < suc n → length octets < suc k
+    → and_on (stream_by n) at octets taken ≡ and_on (stream_by k) at octets taken
+alike_on n k at octets (Goes line len mirror) same takes one other =
+    let behind = length-drop len octets in
+    ap (λ (p : Printed). after_line line p) (same (at + len) mirror (drop len octets) (omega (arith, takes.0, takes.1)) (omega (arith, takes.0, takes.1)))
+alike_on n k at octets (Ends printed) same takes one other = refl
+
+alike : (n k : ℕ) → Alike n k
+alike zero k at mirror octets one other = absurd (omega arith)
+alike (suc n) zero at mirror octets one other = absurd (omega arith)
+alike (suc n) (suc k) at mirror octets one other = alike_on n k at octets (step_of at mirror octets) (alike n k) (step_takes at mirror octets) one other
+
+-- ---- the law
+
+goes_on_by : (at : ℕ) (octets : List ℕ) (taken : StepOf) → StepTakes taken octets → and_on (stream_by (length octets)) at octets taken ≡ and_on stream at octets taken
+unfolding stream
+goes_on_by at octets (Goes line len mirror) takes =
+    let behind = length-drop len octets in
+    ap (λ (p : Printed). after_line line p) (alike (length octets) (length (drop len octets) + 1) (at + len) mirror (drop len octets) (omega (arith, takes.0, takes.1)) (omega arith))
+goes_on_by at octets (Ends printed) takes = refl
+
+first_of : (at : ℕ) (mirror : Held) (octets : List ℕ) → stream at mirror octets ≡ and_on (stream_by (length octets)) at octets (step_of at mirror octets)
+unfolding stream
+first_of at mirror octets = rw add-one refl
+
+-- A stream is its first attribute, and behind it the stream of the octets behind it.
+pub stream_goes_on : StreamGoesOn
+stream_goes_on at mirror octets = first_of at mirror octets ∙ goes_on_by at octets (step_of at mirror octets) (step_takes at mirror octets)
+
+on_goes : (at : ℕ) (octets text : List ℕ) (count : ℕ) (after : Held) (left : Option (List ℕ)) (taken : StepOf) → IsStep taken (step.Goes text count) after → left ≡ Some (left_of taken octets)
+    → (and_on stream at octets taken ≡ after_line text (stream (at + count) after (drop count octets))) × (left ≡ Some (drop count octets))
+on_goes at octets text count after left (Goes line len mirror) is behind = rw (is.0, is.1, is.2) (refl, behind)
+on_goes at octets text count after left (Ends printed) is behind = absurd is
+
+on_ends : (at : ℕ) (octets text : List ℕ) (how : Ending) (after : Held) (left : Option (List ℕ)) (taken : StepOf) → IsStep taken (step.Ends text how) after → left ≡ Some (left_of taken octets)
+    → ((and_on stream at octets taken).text ≡ text) × ((and_on stream at octets taken).ending ≡ how) × (left ≡ Some (and_on stream at octets taken).left)
+on_ends at octets text how after left (Goes line len mirror) is behind = absurd is
+on_ends at octets text how after left (Ends printed) is behind = (sym is.0, sym is.1, behind)
+
+-- A step that goes on, and what is behind it.
+pub goes_on : (at : ℕ) (before : Held) (octets text : List ℕ) (count : ℕ) (after : Held) (left-before left : Option (List ℕ)) → left-before ≡ Some octets → TakesStep at before left-before left (step.Goes text count) after
+    → (stream at before octets ≡ after_line text (stream (at + count) after (drop count octets))) × (left ≡ Some (drop count octets))
+goes_on at before octets text count after left-before left told steps =
+    let is = steps octets told in
+    let on = on_goes at octets text count after left (step_of at before octets) is.0 is.1 in
+    (stream_goes_on at before octets ∙ on.0, on.1)
+
+-- The last step.
+pub ends : (at : ℕ) (before : Held) (octets text : List ℕ) (how : Ending) (after : Held) (left-before left : Option (List ℕ)) → left-before ≡ Some octets → TakesStep at before left-before left (step.Ends text how) after
+    → ((stream at before octets).text ≡ text) × ((stream at before octets).ending ≡ how) × (left ≡ Some (stream at before octets).left)
+ends at before octets text how after left-before left told steps =
+    let is = steps octets told in
+    rw (stream_goes_on at before octets) (on_ends at octets text how after left (step_of at before octets) is.0 is.1)
+
+-- ---- at the end nothing is left
+
+abbrev NothingLeft : Printed → Type 0
+NothingLeft printed = printed.ending ≡ ending.Whole → printed.left ≡ []
+
+abbrev StepLeaves : StepOf → Type 0
+StepLeaves (Goes line len mirror) = Unit {0}
+StepLeaves (Ends printed) = NothingLeft printed
+
+value_leaves : (at : ℕ) (mirror : Held) (octets : List ℕ) (len : ℕ) (read : Result Report ℕ) → StepLeaves (value_step at mirror octets len read)
+value_leaves at mirror octets len (Ok report) = tt
+value_leaves at mirror octets len (Err place) = λ whole. absurd (cc)
+
+front_leaves : (at : ℕ) (mirror : Held) (octets : List ℕ) (first : Front) → StepLeaves (front_step at mirror octets first)
+front_leaves at mirror octets front.End = λ whole. refl
+front_leaves at mirror octets (front.Torn have) = λ whole. refl
+front_leaves at mirror octets front.Limit = λ whole. absurd (cc)
+front_leaves at mirror octets front.BadLength = λ whole. absurd (cc)
+front_leaves at mirror octets front.OtherAttribute = λ whole. absurd (cc)
+front_leaves at mirror octets (front.Whole attribute) = value_leaves at mirror octets (length attribute) (whole read_inventory (at + HEADER_OCTETS) (drop HEADER_OCTETS attribute))
+
+step_leaves : (at : ℕ) (mirror : Held) (octets : List ℕ) → StepLeaves (step_of at mirror octets)
+unfolding step_of
+step_leaves at mirror octets = front_leaves at mirror octets (front_of (LIMIT - at) octets)
+
+leaves_on : (steps at : ℕ) (octets : List ℕ) (taken : StepOf) → ((at : ℕ) (mirror : Held) (octets : List ℕ) → NothingLeft (stream_by steps at mirror octets)) → StepLeaves taken → NothingLeft (and_on (stream_by steps) at octets taken)
+leaves_on steps at octets (Goes line len mirror) behind leaves = behind (at + len) mirror (drop len octets)
+leaves_on steps at octets (Ends printed) behind leaves = leaves
+
+leaves_by : (steps at : ℕ) (mirror : Held) (octets : List ℕ) → NothingLeft (stream_by steps at mirror octets)
+leaves_by zero at mirror octets = λ whole. absurd (cc)
+leaves_by (suc steps) at mirror octets = leaves_on steps at octets (step_of at mirror octets) (leaves_by steps) (step_leaves at mirror octets)
+
+-- Where the input is not refused, nothing of it is left.
+pub nothing_left : (at : ℕ) (mirror : Held) (octets : List ℕ) → (stream at mirror octets).ending ≡ ending.Whole → (stream at mirror octets).left ≡ []
+unfolding stream
+nothing_left at mirror octets = leaves_by (length octets + 1) at mirror octets

@@ -1,0 +1,28 @@
+-- What the value of an attribute makes.
+use Rattle.std.proofs.Common.{◌≡◌, ◌≢◌, ℕ, List, Result, Ok, refl, sym, ap, ◌∙◌}
+use Rattle.swima_model.specs.declared.report.Report.{Report}
+use Rattle.validator_core.specs.Held.{Held}
+use Rattle.validator_core.specs.Judge.{Judged, judge}
+use Rattle.validator_core.specs.declared.mirror.Taken.{Taken}
+use Rattle.validator_core.specs.declared.mirror.Taken.TheVariants as taken
+use Rattle.swid_cli.specs.Text.{took_line}
+use Rattle.swid_cli.specs.Stream.{value_step}
+use Rattle.swid_cli.specs.Steps.{IsStep}
+use Rattle.swid_cli.specs.declared.step.Step.TheVariants as step
+
+-- An answer that is not want of memory is the one that was judged.
+judged_is : (before after : Held) (judged : Taken × Held) (answer : Taken) → Judged before judged answer after → answer ≢ taken.Memory → judged ≡ (answer, after)
+judged_is before after judged taken.WrongKind answers some = answers
+judged_is before after judged taken.Stale answers some = answers
+judged_is before after judged (taken.Doubled id) answers some = answers
+judged_is before after judged (taken.Large count octets) answers some = answers
+judged_is before after judged taken.Adopted answers some = answers
+judged_is before after judged taken.Memory answers some = absurd (some refl)
+
+-- A report that was read and taken makes its line.
+pub goes : (at len : ℕ) (octets : List ℕ) (before after : Held) (read : Result Report ℕ) (report : Report) (answer : Taken) (line : List ℕ)
+    → read ≡ Ok report → Judged before (judge before report) answer after → answer ≢ taken.Memory → line ≡ took_line report answer
+    → IsStep (value_step at before octets len read) (step.Goes line len) after
+goes at len octets before after read report answer line is answers some printed =
+    let judged = judged_is before after (judge before report) answer answers some in
+    rw is (printed ∙ ap (λ (j : Taken × Held). took_line report j.0) (sym judged), refl, ap (λ (j : Taken × Held). j.1) (sym judged))

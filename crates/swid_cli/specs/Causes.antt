@@ -1,0 +1,18 @@
+-- Why a command over an input and an output stopped.
+use Rattle.std.specs.Prelude.{◌≡◌, ◌≤◌, ℕ, Result, Ok, Err}
+use Rattle.std.specs.Prelude.{◌⊎◌}
+use Rattle.wire_base.specs.Outside.{Rose}
+use Rattle.wire_base.specs.declared.passing.Stopped.{Stopped}
+use Rattle.wire_base.specs.declared.passing.Stopped.TheVariants as stopped
+
+-- A fault stopped it exactly where a count of faults rose, that of the input or that of the output.
+abbrev pub Cause : {A : Type 0} → ℕ → ℕ → ℕ → ℕ → Result A Stopped → Type 0
+Cause input-before input-after output-before output-after (Ok ended) = (input-after ≡ input-before) × (output-after ≡ output-before)
+Cause input-before input-after output-before output-after (Err stopped.Fault) = Rose input-before input-after ⊎ Rose output-before output-after
+Cause input-before input-after output-before output-after (Err stopped.Memory) = (input-after ≡ input-before) × (output-after ≡ output-before)
+
+-- No count falls, and a fault is answered for its cause.
+pub record HasCauses {A : Type 0} (input-before input-after output-before output-after : ℕ) (result : Result A Stopped) : Type 0 where
+  pub input : input-before ≤ input-after
+  pub output : output-before ≤ output-after
+  pub cause : Cause input-before input-after output-before output-after result

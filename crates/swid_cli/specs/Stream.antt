@@ -1,0 +1,83 @@
+-- What `mirror ids` prints, as a function of all octets of the input.
+use Rattle.std.specs.Prelude.{◌≡◌, ◌+◌, ◌-◌, ℕ, zero, suc, false, List, [], ◌++◌, None, Result, Ok, Err, length, drop, codes}
+use Rattle.wire_base.specs.Reading.{whole}
+use Rattle.swima_model.specs.declared.report.Kind.{Kind}
+use Rattle.swima_model.specs.declared.report.Report.{Report}
+use Rattle.swima_reports.specs.InventoryReading.{read_inventory}
+use Rattle.validator_core.specs.Held.{Held}
+use Rattle.validator_core.specs.Judge.{judge}
+use Rattle.swid_cli.specs.declared.front.Front.{Front}
+use Rattle.swid_cli.specs.declared.front.Front.TheVariants as front
+use Rattle.swid_cli.specs.declared.step.Ending.{Ending}
+use Rattle.swid_cli.specs.declared.step.Ending.TheVariants as ending
+use Rattle.swid_cli.specs.Front.{HEADER_OCTETS, front_of, left_behind}
+use Rattle.swid_cli.specs.Text.{mirror_text, refusal, took_line}
+
+-- The most octets of the input.
+abbrev pub LIMIT : ℕ
+LIMIT = 1073741824
+
+-- A text, how it ends, and what is left of the input then.
+pub record Printed : Type 0 where
+  pub text : List ℕ
+  pub ending : Ending
+  pub left : List ℕ
+
+-- What an attribute makes: a line, the octets that it took, and the mirror after it; or, where it is not taken, the last
+-- text.
+pub data StepOf : Type 0 where
+  Goes : List ℕ → ℕ → Held → StepOf
+  Ends : Printed → StepOf
+
+-- The last text is a refusal.
+abbrev pub refused : List ℕ → ℕ → List ℕ → StepOf
+refused word number left = Ends (record { text = refusal word number; ending = ending.Refused; left = left })
+
+-- An attribute of this length that begins at `at`, with what its value is read as.
+abbrev pub value_step : ℕ → Held → List ℕ → ℕ → Result Report ℕ → StepOf
+value_step at mirror octets len (Ok report) = Goes (took_line report (judge mirror report).0) len (judge mirror report).1
+value_step at mirror octets len (Err place) = refused (codes "attribute") at (drop len octets)
+
+-- What stands first in octets that begin at `at`.
+abbrev pub front_step : ℕ → Held → List ℕ → Front → StepOf
+front_step at mirror octets front.End = Ends (record { text = mirror_text mirror; ending = ending.Whole; left = [] })
+front_step at mirror octets (front.Torn have) = refused (codes "torn") have []
+front_step at mirror octets front.Limit = refused (codes "limit") LIMIT (left_behind (LIMIT - at) octets front.Limit)
+front_step at mirror octets front.BadLength = refused (codes "attribute") at (left_behind (LIMIT - at) octets front.BadLength)
+front_step at mirror octets front.OtherAttribute = refused (codes "later") at (left_behind (LIMIT - at) octets front.OtherAttribute)
+front_step at mirror octets (front.Whole attribute) = value_step at mirror octets (length attribute) (whole read_inventory (at + HEADER_OCTETS) (drop HEADER_OCTETS attribute))
+
+-- The first attribute of octets that begin at `at`.
+unfoldable pub step_of : ℕ → Held → List ℕ → StepOf
+step_of at mirror octets = front_step at mirror octets (front_of (LIMIT - at) octets)
+
+-- A line before a text.
+abbrev pub after_line : List ℕ → Printed → Printed
+after_line line printed = record { text = line ++ printed.text; ending = printed.ending; left = printed.left }
+
+-- What an attribute makes, and behind it what `next` makes of the octets behind it.
+abbrev pub and_on : (ℕ → Held → List ℕ → Printed) → ℕ → List ℕ → StepOf → Printed
+and_on next at octets (Goes line len mirror) = after_line line (next (at + len) mirror (drop len octets))
+and_on next at octets (Ends printed) = printed
+
+-- Octets that begin at `at`, in at most so many attributes.
+abbrev pub stream_by : ℕ → ℕ → Held → List ℕ → Printed
+stream_by zero at mirror octets = record { text = []; ending = ending.Refused; left = octets }
+stream_by (suc attributes) at mirror octets = and_on (stream_by attributes) at octets (step_of at mirror octets)
+
+-- Octets that begin at `at`. Each attribute takes at least one of them, so they are no more than the octets: what this
+-- function is, is said by `StreamGoesOn`.
+unfoldable pub stream : ℕ → Held → List ℕ → Printed
+stream at mirror octets = stream_by (length octets + 1) at mirror octets
+
+-- A stream is its first attribute, and behind it the stream of the octets behind it.
+abbrev pub StreamGoesOn : Type 0
+StreamGoesOn = (at : ℕ) (mirror : Held) (octets : List ℕ) → stream at mirror octets ≡ and_on stream at octets (step_of at mirror octets)
+
+-- A mirror that holds nothing.
+abbrev pub new_mirror : Kind → Held
+new_mirror kind = record { kind = kind; point = None; records = []; off = false }
+
+-- All of the input.
+abbrev pub stream_text : Kind → List ℕ → Printed
+stream_text kind octets = stream 0 (new_mirror kind) octets

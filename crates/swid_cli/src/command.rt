@@ -1,0 +1,24 @@
+//! The words of the command line.
+
+ghost use Rattle.std.specs.Prelude.{◌≡◌, ◌↔◌, IsSome, IfSome, map};
+ghost use Rattle.swid_cli.specs.Words.{IsCommandLine};
+
+use swima_model::Kind;
+
+/// A command that waits for nobody.
+#[derive(Clone, Copy, Debug, PartialEq, Eq)]
+pub enum Command {
+    /// `mirror ids`: take the inventories that come in, and show what a mirror holds then.
+    Mirror(Kind),
+}
+
+/// The command that the words say; `None` exactly where they are no command line.
+pub fn command_of(words: &[&str]) -> Option<Command>
+    ensures known { IsSome result ↔ IsCommandLine (map (λ word. word.now) words.now) }
+    ensures ids { IfSome result (λ command. command ≡ Command.Mirror Kind.Ids) }
+{
+    match words {
+        ["mirror", "ids"] => Some(Command::Mirror(Kind::Ids)),
+        _ => None,
+    }
+}

@@ -1,0 +1,40 @@
+//! The command `mirror`.
+
+ghost use Rattle.std.specs.Prelude.{◌≡◌, List, ℕ, IfOk, IfSome, is_err};
+ghost use Rattle.swid_cli.specs.Run.{Ran};
+ghost use Rattle.swid_cli.specs.Stream.{stream_text};
+ghost use Rattle.swid_cli.specs.Causes.{HasCauses};
+
+use crate::step::{Ending, Step, next_step};
+use std::alloc::Global;
+use swima_model::Kind;
+use validator_core::Mirror;
+use wire_base::{Sink, Source, Stopped, write_all};
+
+/// Lets a mirror of `kind` take the attributes of the input one after another, and prints what it answers to each and,
+/// at the end, what it holds.
+pub fn mirror<S: Source, K: Sink>(
+    alloc: Global,
+    kind: Kind,
+    input: &mut S,
+    output: &mut K,
+) -> Result<Ending, Stopped>
+    ensures printed { IfSome (S.left input.old) (λ octets. Ran (stream_text kind octets) (S.left input.new) (K.written output.old) (K.written output.new) result) }
+    ensures causes { HasCauses (S.faults input.old) (S.faults input.new) (K.faults output.old) (K.faults output.new) result }
+{
+    let mut mirror = Mirror::new(alloc, kind);
+    let mut at = 0;
+    loop {
+        let next = next_step(alloc, input, at, &mut mirror)?;
+        match next {
+            Step::Goes(line, length) => {
+                write_all(output, line.as_slice())?;
+                at += length;
+            }
+            Step::Ends(text, ending) => {
+                write_all(output, text.as_slice())?;
+                return Ok(ending);
+            }
+        }
+    }
+}

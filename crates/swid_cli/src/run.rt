@@ -1,0 +1,67 @@
+//! The top call.
+
+ghost use Rattle.std.specs.Prelude.{◌≡◌, ◌≢◌, ◌≤◌, ◌⊎◌, ◌↔◌, List, ℕ, IfSome, map};
+ghost use Rattle.swid_cli.specs.Run.{Prints, status_of, usage};
+ghost use Rattle.swid_cli.specs.Stream.{stream_text};
+ghost use Rattle.swid_cli.specs.Words.{IsCommandLine};
+ghost use Rattle.swima_model.specs.declared.report.Kind.TheVariants.{Ids};
+ghost use Rattle.wire_base.specs.Outside.{Adds, Rose};
+ghost use Rattle.wire_base.specs.Passing.{AddsFront};
+
+use crate::command::{Command, command_of};
+use crate::mirror::mirror;
+use crate::step::Ending;
+use std::alloc::Global;
+use wire_base::{Files, Sink, Source, Stopped, write_all};
+
+/// What is printed where the words are no command line.
+const USAGE: &[u8; 6] = b"usage\n";
+
+/// Does what the words of the command line say, over the objects of the outside that it is lent, and answers the
+/// status: 2 exactly where the words are no command line; else 4 at want of memory; else 3 exactly where a count of
+/// faults rose; else 1 exactly where the input was refused; else 0, and then the input was read to its end.
+pub fn run_plain<S: Source, K: Sink, F: Files>(
+    alloc: Global,
+    words: &[&str],
+    input: &mut S,
+    output: &mut K,
+    files: &mut F,
+) -> u8
+    // Status 2.
+    ensures usage { (result ≡ 2) ↔ ¬ IsCommandLine (map (λ word. word.now) words.now) }
+    ensures usage_front { result ≡ 2 → AddsFront (K.written output.old) (K.written output.new) usage }
+    ensures usage_text { result ≡ 2 → Adds (K.written output.old) (K.written output.new) usage ⊎ Rose (K.faults output.old) (K.faults output.new) }
+    ensures usage_input { result ≡ 2 → input.new ≡ input.old }
+
+    // Of an input that tells, the text and the status are those of its octets; in every case a front was printed.
+    ensures printed { result ≢ 2 → result ≢ 3 → result ≢ 4 → IfSome (S.left input.old) (λ octets. Prints (stream_text Ids octets) (S.left input.new) (K.written output.old) (K.written output.new) result) }
+    ensures front { result ≢ 2 → IfSome (S.left input.old) (λ octets. AddsFront (K.written output.old) (K.written output.new) (stream_text Ids octets).text) }
+
+    // Status 3, and the counts of faults.
+    ensures fault { result ≡ 3 → Rose (S.faults input.old) (S.faults input.new) ⊎ Rose (K.faults output.old) (K.faults output.new) }
+    ensures calm { result ≢ 2 → result ≢ 3 → (S.faults input.new ≡ S.faults input.old) × (K.faults output.new ≡ K.faults output.old) }
+    ensures later { (S.faults input.old ≤ S.faults input.new) × (K.faults output.old ≤ K.faults output.new) }
+
+    ensures status { result ≤ 4 }
+    ensures files { files.new ≡ files.old }
+{
+    match command_of(words) {
+        None => {
+            let _ = write_all(output, USAGE);
+            2
+        }
+        Some(Command::Mirror(kind)) => status(mirror(alloc, kind, input, output)),
+    }
+}
+
+/// The status of a command.
+fn status(ended: Result<Ending, Stopped>) -> u8
+    ensures status { result ≡ status_of ended }
+{
+    match ended {
+        Ok(Ending::Whole) => 0,
+        Ok(Ending::Refused) => 1,
+        Err(Stopped::Fault) => 3,
+        Err(Stopped::Memory) => 4,
+    }
+}

@@ -1,0 +1,3 @@
+pub mod Bounded
+pub mod DataModel
+pub mod Size

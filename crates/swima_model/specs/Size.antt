@@ -1,0 +1,13 @@
+-- How large records are.
+use Rattle.std.specs.Prelude.{◌+◌, ℕ, List, length}
+use Rattle.std.specs.List.{sum_by}
+use Rattle.swima_model.specs.declared.record.Content.{Content}
+use Rattle.swima_model.specs.declared.record.Record.{Record}
+
+-- The octets of a content: those of its identifier, its locator and its body.
+abbrev pub content_octets : Content → ℕ
+content_octets content = length content.ident + length content.locator + length content.body
+
+-- The octets of records together.
+abbrev pub records_octets : List Record → ℕ
+records_octets records = sum_by (λ (r : Record). content_octets r.content) records

@@ -1,0 +1,18 @@
+//! Software inventory evidence records and reports as values (RFC 8412, sections 3.4 and 5.7).
+//!
+//! It stands on `wire_base`. The crates above rest on `bounds` of `Bounded::new` (an identifier, a locator or a body is
+//! made exactly where its octets are within the limit) and on `equal` of each `copy`.
+#![tactic(auto)]
+
+mod bounded;
+mod record;
+mod report;
+
+pub use bounded::{
+    Body, BodyLimit, Bounded, Ident, IdentLimit, Limit, Locator, LocatorLimit, LongRefused,
+};
+pub use record::{Content, Model, Record, Records};
+pub use report::{Kind, Point, Report};
+
+#[cfg(test)]
+mod tests;

@@ -1,0 +1,72 @@
+//! Reports of an endpoint's software.
+
+use crate::record::Records;
+use wire_base::{Memory, TryCopy};
+
+/// Whether reports carry bodies.
+#[derive(Clone, Copy, Debug, PartialEq, Eq)]
+pub enum Kind {
+    /// Software identifiers only; every body is empty.
+    Ids,
+    /// Whole records.
+    Full,
+}
+
+impl TryCopy for Kind {
+    fn copy(&self) -> Result<Self, Memory> {
+        Ok(*self)
+    }
+}
+
+/// A point in the history of an endpoint's inventory (RFC 8412, section 3.8.1).
+#[derive(Clone, Copy, Debug, PartialEq, Eq)]
+pub struct Point {
+    /// The epoch of the event identifier.
+    pub epoch: u32,
+    /// The event identifier of the last event; 0 where the epoch has none yet.
+    pub eid: u32,
+}
+
+impl TryCopy for Point {
+    fn copy(&self) -> Result<Self, Memory> {
+        Ok(*self)
+    }
+}
+
+/// What an endpoint reports of its software.
+#[derive(Debug, Drop)]
+pub enum Report {
+    /// All records at a point (RFC 8412, sections 5.7 and 5.9).
+    Inventory {
+        /// Whether bodies are carried.
+        kind: Kind,
+        /// Whether the report fulfils a subscription.
+        fulfil: bool,
+        /// The identifier of the request that it answers.
+        id: u32,
+        /// The point at which the records stood.
+        point: Point,
+        /// The records.
+        records: Records,
+    },
+}
+
+impl TryCopy for Report {
+    fn copy(&self) -> Result<Self, Memory> {
+        match self {
+            Report::Inventory {
+                kind,
+                fulfil,
+                id,
+                point,
+                records,
+            } => Ok(Report::Inventory {
+                kind: *kind,
+                fulfil: *fulfil,
+                id: *id,
+                point: *point,
+                records: records.copy()?,
+            }),
+        }
+    }
+}

@@ -1,0 +1,4 @@
+pub mod Repeats
+pub mod Rises
+pub mod Placing
+pub mod Judging

@@ -1,0 +1,6 @@
+use Rattle.std.proofs.Common.{◌≡◌, take}
+use Rattle.validator_core.specs.InOrder.{ids}
+use Rattle.validator_core.proofs.doubled.doubled.Given as goal
+
+abbrev pub invariant-loop-record : goal.invariant-loop-record
+invariant-loop-record l = l.ids.items ≡ ids (take l.record-index l.records)

@@ -1,0 +1,14 @@
+-- What no report ends.
+use Rattle.std.specs.List.Sorted.{IsStrictlyIncreasing}
+use Rattle.swima_model.specs.declared.report.Report.{Report}
+use Rattle.validator_core.specs.Held.{Held}
+use Rattle.validator_core.specs.InOrder.{ids}
+use Rattle.validator_core.specs.Judge.{judge}
+
+-- Each identifier that is held is below the next.
+abbrev pub IsRising : Held → Type 0
+IsRising mirror = IsStrictlyIncreasing (ids mirror.records)
+
+-- Where that is so, it is so after each report.
+abbrev pub JudgeKeepsRising : Type 0
+JudgeKeepsRising = (mirror : Held) (report : Report) → IsRising mirror → IsRising (judge mirror report).1

@@ -1,0 +1,16 @@
+-- What the smallest doubled number is, in words that say nothing of how it is found.
+use Rattle.std.specs.Prelude.{◌≡◌, ◌==◌, ◌<◌, ◌≤◌, ◌↔◌, ℕ, List, Option, Some, None, count_by}
+use Rattle.validator_core.specs.Doubled.{doubled}
+
+-- How often a number stands among the numbers.
+abbrev pub times : ℕ → List ℕ → ℕ
+times n numbers = count_by (λ other. other == n) numbers
+
+-- The least number that stands at least twice, or `None` where none does.
+abbrev pub IsLeastRepeated : List ℕ → Option ℕ → Type 0
+IsLeastRepeated numbers None = (n : ℕ) → times n numbers < 2
+IsLeastRepeated numbers (Some least) = (2 ≤ times least numbers) × ((n : ℕ) → 2 ≤ times n numbers → least ≤ n)
+
+-- `doubled` gives this and nothing else.
+abbrev pub DoubledIsLeastRepeated : Type 0
+DoubledIsLeastRepeated = (numbers : List ℕ) (found : Option ℕ) → (doubled numbers ≡ found) ↔ IsLeastRepeated numbers found

@@ -1,0 +1,200 @@
+//! The mirror of one collector's inventory, and what it does with a report.
+
+ghost use Rattle.std.specs.Prelude.{◌≡◌, ◌<◌, ◌≤◌, ◌^◌, [], None, Some, false, IfOk, OnErr, length, slice_get};
+ghost use Rattle.std.specs.Option.{option_copied};
+ghost use Rattle.validator_core.specs.Doubled.{doubled as smallest_doubled};
+ghost use Rattle.validator_core.specs.Held.{Held};
+ghost use Rattle.validator_core.specs.InOrder.{ids};
+ghost use Rattle.validator_core.specs.Judge.{Judged, StandsAt, is_stale, is_large, judge, judge_inventory, judge_records, record_count};
+
+use crate::doubled::doubled;
+use crate::order::{in_order, octets_of};
+use std::alloc::Global;
+use std::marker::Model;
+use swima_model::{Kind, Point, Record, Records, Report};
+use wire_base::{List, Memory};
+
+/// The most records that a mirror holds.
+pub const MOST_RECORDS: usize = 65536;
+
+/// The most octets of identifiers, locators and bodies that a mirror holds.
+pub const MOST_OCTETS: u64 = 268435456;
+
+/// What a mirror answers to a report: the first that fits.
+#[derive(Clone, Copy, Debug, PartialEq, Eq)]
+pub enum Taken {
+    /// The report is not of the mirror's kind.
+    WrongKind,
+    /// The report tells nothing new: it is of the mirror's epoch, and its event identifier is below the mirror's, or the
+    /// same while the mark is not set.
+    Stale,
+    /// Two records of an inventory have one identifier.
+    Doubled {
+        /// The smallest such identifier.
+        id: u32,
+    },
+    /// There are more records than a mirror holds, or more octets of them.
+    Large {
+        /// How many records there are.
+        count: u32,
+        /// How many octets they have together.
+        octets: u64,
+    },
+    /// The inventory stands in place of what the mirror held.
+    Adopted,
+    /// Want of memory; the mirror is as it was.
+    Memory,
+}
+
+/// A copy of one collector's inventory at one point, as its reports tell it.
+#[derive(Debug, Drop)]
+pub struct Mirror {
+    kind: Kind,
+    point: Option<Point>,
+    records: Records,
+    off: bool,
+}
+
+impl Model for Mirror {
+    ghost use Rattle.std.specs.Prelude.{◌≤◌, length};
+    ghost use Rattle.validator_core.specs.Held.{Held};
+
+    ghost Value = { Held };
+
+    ghost view = { λ mirror. record { kind = mirror.kind; point = mirror.point; records = mirror.records; off = mirror.off } };
+
+    ghost invariant = { λ mirror. length mirror.records ≤ 65536 };
+}
+
+impl Mirror {
+    /// A mirror that takes reports of `kind` and holds nothing. It takes no memory.
+    pub fn new(alloc: Global, kind: Kind) -> Self
+        ensures empty { result ≡ record { kind = kind; point = None; records = []; off = false } }
+    {
+        Mirror {
+            kind,
+            point: None,
+            records: List::new(alloc),
+            off: false,
+        }
+    }
+
+    /// The kind of the reports that it takes.
+    pub fn kind(&self) -> Kind
+        ensures kind { result ≡ self.now.kind }
+    {
+        self.kind
+    }
+
+    /// The point at which its records stood; `None` before the first inventory.
+    pub fn point(&self) -> Option<Point>
+        ensures point { result ≡ self.now.point }
+    {
+        self.point
+    }
+
+    /// Whether it has met a report that does not fit what it holds, since the last inventory that it adopted.
+    pub fn off(&self) -> bool
+        ensures off { result ≡ self.now.off }
+    {
+        self.off
+    }
+
+    /// How many records it holds.
+    pub fn count(&self) -> u32
+        ensures count { result ≡ length self.now.records }
+        ensures within { result ≤ 65536 }
+    {
+        self.records.len() as u32
+    }
+
+    /// The record at `place` in order of identifier, counted from 0; `None` exactly where there is none.
+    pub fn record_at(&self, place: u32) -> Option<&Record>
+        ensures record { option_copied result ≡ slice_get self.now.records place }
+    {
+        self.records.get(place as usize)
+    }
+
+    /// All its records in order of identifier.
+    pub fn records(&self) -> &[Record]
+        ensures records { result.now ≡ self.now.records }
+    {
+        self.records.as_slice()
+    }
+
+    /// Takes a report: the answer and what the mirror holds then are the first line of the table that fits. Want of
+    /// memory stands for `Doubled`, `Large` or `Adopted` alone and leaves the mirror as it was.
+    pub fn take(&mut self, report: &Report) -> Taken
+        requires { record_count report.now < 2 ^ 32 }
+        ensures judged { Judged self.old (judge self.old report.now) result self.new }
+        ensures stands { StandsAt self.old report.now result self.new }
+    {
+        match report {
+            Report::Inventory {
+                kind,
+                point,
+                records,
+                ..
+            } => self.take_inventory(*kind, *point, records),
+        }
+    }
+
+    fn take_inventory(&mut self, kind: Kind, point: Point, records: &Records) -> Taken
+        requires { length records.now < 2 ^ 32 }
+        ensures judged { Judged self.old (judge_inventory self.old kind point records.now) result self.new }
+    {
+        if kind != self.kind {
+            return Taken::WrongKind;
+        }
+        if self.is_stale(point) {
+            return Taken::Stale;
+        }
+        match self.take_records(point, records) {
+            Ok(taken) => taken,
+            Err(Memory) => Taken::Memory,
+        }
+    }
+
+    /// Whether a report of `point` is stale.
+    fn is_stale(&self, point: Point) -> bool
+        ensures stale { result ≡ is_stale self.now.point self.now.off point }
+    {
+        match self.point {
+            None => false,
+            Some(held) => {
+                point.epoch == held.epoch
+                    && (point.eid < held.eid || (point.eid == held.eid && !self.off))
+            }
+        }
+    }
+
+    fn take_records(&mut self, point: Point, records: &Records) -> Result<Taken, Memory>
+        requires { length records.now < 2 ^ 32 }
+        ensures judged { IfOk result (λ answer. judge_records self.old point records.now (smallest_doubled (ids records.now)) ≡ (answer, self.new)) }
+        ensures memory { OnErr result (self.new ≡ self.old) }
+    {
+        if let Some(id) = doubled(records)? {
+            self.off = true;
+            return Ok(Taken::Doubled { id });
+        }
+        let octets = octets_of(records);
+        if is_large(records.len(), octets) {
+            self.off = true;
+            return Ok(Taken::Large {
+                count: records.len() as u32,
+                octets,
+            });
+        }
+        self.records = in_order(records)?;
+        self.point = Some(point);
+        self.off = false;
+        Ok(Taken::Adopted)
+    }
+}
+
+/// Whether so many records with so many octets are more than a mirror holds.
+fn is_large(count: usize, octets: u64) -> bool
+    ensures large { result ≡ is_large count octets }
+{
+    count > MOST_RECORDS || octets > MOST_OCTETS
+}

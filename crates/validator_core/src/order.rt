@@ -1,0 +1,29 @@
+//! Records in order of their identifiers.
+
+ghost use Rattle.std.specs.Prelude.{◌≡◌, ◌<◌, ◌^◌, IfOk, length};
+ghost use Rattle.swima_model.specs.Size.{records_octets};
+ghost use Rattle.validator_core.specs.InOrder.{in_order};
+
+use swima_model::Records;
+use wire_base::{List, Memory, TryCopy};
+
+/// Copies of the records in order of identifier.
+pub fn in_order(records: &Records) -> Result<Records, Memory>
+    ensures order { IfOk result (λ made. made ≡ in_order records.now) }
+{
+    let mut items = records.copy()?.into_vec();
+    items.sort_by_key(|record| record.id)?;
+    Ok(List::from_vec(items))
+}
+
+/// How many octets the records have together.
+pub fn octets_of(records: &Records) -> u64
+    requires { length records.now < 2 ^ 32 }
+    ensures octets { result ≡ records_octets records.now }
+{
+    let mut octets = 0;
+    for record in records.as_slice() {
+        octets += record.content.octets();
+    }
+    octets
+}

@@ -1,0 +1,35 @@
+-- Layouts of messages: fields one after another, in the order of the figures of the RFCs.
+use Rattle.std.specs.Prelude.{◌≡◌, ◌<◌, ◌^◌, ℕ, Bool, List, [], ◌∷◌, ◌++◌, length, nat_lt, bit_and}
+use Rattle.wire_base.specs.Numbers.{octets_of}
+
+-- A field, with what it says.
+--   Number size value     a number of so many octets, the most significant first
+--   Reserved size         so many octets that may be any
+--   Flags flags           an octet of flags: of each, the bit that it is, and whether it is set; other bits may be any
+--   Counted size octets   a length of so many octets, and then the octets that it counts
+pub data Field : Type 0 where
+  Number : ℕ → ℕ → Field
+  Reserved : ℕ → Field
+  Flags : List (ℕ × Bool) → Field
+  Counted : ℕ → List ℕ → Field
+
+-- The bit is set in the octet.
+abbrev pub is_set : ℕ → ℕ → Bool
+is_set octet bit = nat_lt 0 (bit_and octet bit)
+
+-- The flags are as the octet has them.
+abbrev pub AreFlags : ℕ → List (ℕ × Bool) → Type 0
+AreFlags octet [] = Unit {0}
+AreFlags octet (flag ∷ flags) = (is_set octet flag.0 ≡ flag.1) × AreFlags octet flags
+
+-- The octets are the field. All lists here are of octets, numbers below 256.
+abbrev pub FieldForm : Field → List ℕ → Type 0
+FieldForm (Number size value) octets = (value < 256 ^ size) × (octets ≡ octets_of size value)
+FieldForm (Reserved size) octets = length octets ≡ size
+FieldForm (Flags flags) octets = (octet : ℕ) × (octets ≡ octet ∷ []) × AreFlags octet flags
+FieldForm (Counted size counted) octets = (length counted < 256 ^ size) × (octets ≡ octets_of size (length counted) ++ counted)
+
+-- The octets are the fields, one after another.
+abbrev pub Form : List Field → List ℕ → Type 0
+Form [] octets = octets ≡ []
+Form (field ∷ fields) octets = (front : List ℕ) × (rest : List ℕ) × (octets ≡ front ++ rest) × FieldForm field front × Form fields rest

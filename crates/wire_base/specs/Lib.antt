@@ -1,0 +1,9 @@
+pub mod formers
+pub mod Counter
+pub mod Outside
+pub mod InMemory
+pub mod Numbers
+pub mod Reading
+pub mod Named
+pub mod Passing
+pub mod Layout

@@ -1,0 +1,153 @@
+//! The one list type of the project: contracts see it as the list of its items.
+
+ghost use Rattle.std.specs.Prelude.{◌≡◌, ◌∷◌, ◌++◌, ◌↔◌, [], length, slice_get, IfOk, IsTrue, OnOk, OnErr};
+ghost use Rattle.std.specs.Option.{option_copied};
+
+use crate::memory::Memory;
+use std::alloc::Global;
+use std::marker::Model;
+
+/// What can be copied, which may want memory.
+pub trait TryCopy: Drop + Sized {
+    /// A copy that equals the original; `Memory` where there is no room for one.
+    fn copy(&self) -> Result<Self, Memory>
+        ensures equal { IfOk result (λ made. made ≡ self.now) };
+
+    /// Copies of all of `items`, in their order; `Memory` where there is no room for them.
+    fn copy_all(alloc: Global, items: &[Self]) -> Result<Vec<Self>, Memory>
+        ensures equal { IfOk result (λ made. made.items ≡ items.now) }
+    {
+        let mut made = Vec::new(alloc);
+        for item in items {
+            made.push(item.copy()?)?;
+        }
+        Ok(made)
+    }
+}
+
+impl TryCopy for u8 {
+    fn copy(&self) -> Result<Self, Memory> {
+        Ok(*self)
+    }
+
+    fn copy_all(alloc: Global, items: &[Self]) -> Result<Vec<Self>, Memory> {
+        Ok(Vec::from_slice(alloc, items)?)
+    }
+}
+
+/// Items in order, of any number that memory holds. It may stand inside a type that holds itself.
+#[derive(Debug, Drop)]
+pub struct List<T> {
+    items: Vec<T>,
+}
+
+/// Octets in order.
+pub type Octets = List<u8>;
+
+impl<T> Model for List<T> {
+    ghost use Rattle.std.specs.Prelude.{List};
+    ghost use Rattle.std.specs.Coded.{coded_list};
+
+    ghost Value = { List T };
+
+    ghost coded = { coded_list T.code };
+
+    ghost view = { λ list. list.items.items };
+}
+
+impl<T> List<T> {
+    /// The empty list. It takes no memory.
+    pub fn new(alloc: Global) -> Self
+        ensures empty { result ≡ [] }
+    {
+        List {
+            items: Vec::new(alloc),
+        }
+    }
+
+    /// The empty list with room for `capacity` items, so that so many are put in without more memory.
+    pub fn with_capacity(alloc: Global, capacity: usize) -> Result<Self, Memory>
+        ensures empty { IfOk result (λ list. list ≡ []) }
+    {
+        Ok(List {
+            items: Vec::with_capacity(alloc, capacity)?,
+        })
+    }
+
+    /// The items of a `Vec`. It takes no memory.
+    pub fn from_vec(items: Vec<T>) -> Self
+        ensures items { result ≡ items.items }
+    {
+        List { items }
+    }
+
+    /// The items as a `Vec`. It takes no memory.
+    pub fn into_vec(self) -> Vec<T>
+        ensures items { result.items ≡ self }
+    {
+        let List { items } = self;
+        items
+    }
+
+    /// The allocator that the list takes its memory from.
+    pub fn allocator(&self) -> Global {
+        *self.items.allocator()
+    }
+
+    /// How many items there are.
+    pub fn len(&self) -> usize
+        ensures len { result ≡ length self.now }
+    {
+        self.items.len()
+    }
+
+    /// Whether there is no item.
+    pub fn is_empty(&self) -> bool
+        ensures empty { IsTrue result ↔ (self.now ≡ []) }
+    {
+        self.items.is_empty()
+    }
+
+    /// The item at `place`, counted from 0; `None` exactly where `place` is at least the length.
+    pub fn get(&self, place: usize) -> Option<&T>
+        ensures item { option_copied result ≡ slice_get self.now place }
+    {
+        self.items.get(place)
+    }
+
+    /// All items in order. It takes no memory.
+    pub fn as_slice(&self) -> &[T]
+        ensures items { result.now ≡ self.now }
+    {
+        self.items.as_slice()
+    }
+}
+
+impl<T: Drop> List<T> {
+    /// Puts an item at the end; at `Memory` the item is dropped and the list is as it was.
+    pub fn push(&mut self, item: T) -> Result<(), Memory>
+        ensures ok { OnOk result (self.new ≡ self.old ++ item ∷ []) }
+        ensures memory { OnErr result (self.new ≡ self.old) }
+    {
+        self.items.push(item)?;
+        Ok(())
+    }
+}
+
+impl<T: Copy> List<T> {
+    /// Puts all of `items` at the end; at `Memory` the list is as it was.
+    pub fn extend(&mut self, items: &[T]) -> Result<(), Memory>
+        ensures ok { OnOk result (self.new ≡ self.old ++ items.now) }
+        ensures memory { OnErr result (self.new ≡ self.old) }
+    {
+        self.items.extend_from_slice(items)?;
+        Ok(())
+    }
+}
+
+impl<T: TryCopy> TryCopy for List<T> {
+    fn copy(&self) -> Result<Self, Memory> {
+        let items = T::copy_all(*self.items.allocator(), self.items.as_slice())?;
+        Ok(List { items })
+    }
+}
