@@ -5,13 +5,13 @@ use Rattle.wire_base.specs.Outside.{Adds}
 use Rattle.wire_base.specs.Passing.{AddsFront, WroteFront}
 use Rattle.wire_base.proofs.Streams.{adds_none, adds_more}
 use Rattle.swima_model.specs.declared.report.Kind.{Kind}
-use Rattle.validator_core.specs.Held.{Held}
+use Rattle.validator_core.specs.Held.{Held, empty_mirror}
 use Rattle.swid_cli.specs.declared.step.Ending.{Ending}
 use Rattle.swid_cli.specs.declared.step.Step.TheVariants as step
 use Rattle.swid_cli.specs.Run.{Ran}
 use Rattle.wire_base.specs.declared.passing.Stopped.{Stopped}
 use Rattle.swid_cli.specs.Steps.{TakesStep}
-use Rattle.swid_cli.specs.Stream.{Printed, after_line, new_mirror, stream, stream_text}
+use Rattle.swid_cli.specs.Stream.{Printed, after_line, stream, stream_text}
 use Rattle.swid_cli.proofs.Streaming.{goes_on, ends}
 
 -- Of all octets that were left so many are still left, and so much was printed that, with what the rest prints behind it,
@@ -34,7 +34,7 @@ lines_join : (first second : List ℕ) (printed : Printed) → after_line (first
 lines_join first second printed = ap (λ (text : List ℕ). with_text printed text) (append_assoc first second printed.text)
 
 -- Nothing was taken yet.
-pub begun : (kind : Kind) (left written : Option (List ℕ)) → Follows kind left left written written 0 (new_mirror kind)
+pub begun : (kind : Kind) (left written : Option (List ℕ)) → Follows kind left left written written 0 (empty_mirror kind)
 begun kind left written = λ octets told. record { rest = octets; so_far = []; still = told; added = adds_none written; whole = refl }
 
 -- A line and what is behind it.

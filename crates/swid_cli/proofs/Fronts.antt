@@ -63,14 +63,14 @@ front_other : (room : ℕ) (octets : List ℕ) → HEADER_OCTETS ≤ min room (l
 unfolding front_of
 front_other room octets long good other = rw (le-ltb (min room (length octets)) HEADER_OCTETS long, good, other) refl
 
-front_sized : (room : ℕ) (octets : List ℕ) → HEADER_OCTETS ≤ min room (length octets) → is_bad_length (length_of octets) ≡ false → is_inventory octets ≡ true → front_of room octets ≡ sized_front room octets (length_of octets)
+pub front_sized : (room : ℕ) (octets : List ℕ) → HEADER_OCTETS ≤ min room (length octets) → is_bad_length (length_of octets) ≡ false → is_inventory octets ≡ true → front_of room octets ≡ sized_front room octets (length_of octets)
 unfolding front_of
 front_sized room octets long good inventory = rw (le-ltb (min room (length octets)) HEADER_OCTETS long, good, inventory) refl
 
 sized_short : (room : ℕ) (octets : List ℕ) (len : ℕ) → min room (length octets) < len → sized_front room octets len ≡ cut room (length octets)
 sized_short room octets len short = rw (lt-ltb (min room (length octets)) len short) refl
 
-sized_whole : (room : ℕ) (octets : List ℕ) (len : ℕ) → len ≤ min room (length octets) → sized_front room octets len ≡ front.Whole (take len octets)
+pub sized_whole : (room : ℕ) (octets : List ℕ) (len : ℕ) → len ≤ min room (length octets) → sized_front room octets len ≡ front.Whole (take len octets)
 sized_whole room octets len long = rw (le-ltb (min room (length octets)) len long) refl
 
 -- ---- the header is in what was read
@@ -86,10 +86,10 @@ module _ (octets held rest : List ℕ) (parts : octets ≡ held ++ rest) (header
   number_front from to order within =
       ap (λ (o : List ℕ). number_of (slice_range o from to)) parts ∙ ap (λ (o : List ℕ). number_of o) (slice_front held rest from to order (omega arith))
 
-  length_front : length_of octets ≡ length_of held
+  pub length_front : length_of octets ≡ length_of held
   length_front = number_front 8 12 (omega arith) (omega arith)
 
-  inventory_front : is_inventory octets ≡ is_inventory held
+  pub inventory_front : is_inventory octets ≡ is_inventory held
   inventory_front = rw (number_front 1 4 (omega arith) (omega arith), number_front 4 8 (omega arith) (omega arith)) refl
 
 good_by : (len : ℕ) (short : Bool) → nat_lt len HEADER_OCTETS ≡ short → (short || nat_lt 16777216 len) ≡ false → HEADER_OCTETS ≤ len

@@ -4,3 +4,4 @@ pub mod Values
 pub mod Fronts
 pub mod Stepping
 pub mod Running
+pub mod Attributes

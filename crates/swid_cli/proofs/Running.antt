@@ -4,10 +4,11 @@ use Rattle.std.specs.Prelude.{OnOk, MatchBool, IfSome, is_err}
 use Rattle.wire_base.specs.declared.passing.Stopped.{Stopped}
 use Rattle.wire_base.specs.declared.passing.Stopped.TheVariants as stopped
 use Rattle.swima_model.specs.declared.report.Kind.{Kind}
+use Rattle.validator_core.specs.Held.{empty_mirror}
 use Rattle.swid_cli.specs.declared.step.Ending.{Ending}
 use Rattle.swid_cli.specs.declared.step.Ending.TheVariants as ending
 use Rattle.swid_cli.specs.Run.{Prints, Ran, ending_status, status_of}
-use Rattle.swid_cli.specs.Stream.{new_mirror, stream_text}
+use Rattle.swid_cli.specs.Stream.{stream_text}
 use Rattle.swid_cli.proofs.Streaming.{nothing_left}
 
 -- A text was written, or the call failed.
@@ -28,7 +29,7 @@ prints kind (Some octets) left-after before after (Ok how) status is fault memor
   text = ran.0;
   ending = is ∙ ap ending_status ran.1;
   left = ran.2;
-  ended = λ zero. ran.2 ∙ ap (λ (o : List ℕ). Some o) (nothing_left 0 (new_mirror kind) octets (sym ran.1 ∙ is_whole how (sym is ∙ zero)));
+  ended = λ zero. ran.2 ∙ ap (λ (o : List ℕ). Some o) (nothing_left 0 (empty_mirror kind) octets (sym ran.1 ∙ is_whole how (sym is ∙ zero)));
 }
 prints kind (Some octets) left-after before after (Err stopped.Fault) status is fault memory ran = absurd (fault is)
 prints kind (Some octets) left-after before after (Err stopped.Memory) status is fault memory ran = absurd (memory is)

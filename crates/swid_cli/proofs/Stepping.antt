@@ -11,7 +11,7 @@ use Rattle.swid_cli.specs.declared.step.Step.{Step}
 use Rattle.swid_cli.specs.declared.step.Step.TheVariants as step
 use Rattle.swid_cli.specs.Front.{HEADER_OCTETS, front_of, left_behind}
 use Rattle.swid_cli.specs.Text.{mirror_text, refusal}
-use Rattle.swid_cli.specs.Stream.{LIMIT, front_step, refused, step_of, value_step}
+use Rattle.swid_cli.specs.Stream.{INPUT_OCTETS, front_step, refused, step_of, value_step}
 use Rattle.swid_cli.specs.Steps.{IsStep, left_of}
 
 -- What is left behind a value is behind its attribute, whether it was taken or not.
@@ -20,7 +20,7 @@ value_left at mirror octets len (Ok report) = refl
 value_left at mirror octets len (Err place) = refl
 
 -- What is left behind what stands first is left behind the step.
-front_left : (at : ℕ) (mirror : Held) (octets : List ℕ) (first : Front) → left_of (front_step at mirror octets first) octets ≡ left_behind (LIMIT - at) octets first
+front_left : (at : ℕ) (mirror : Held) (octets : List ℕ) (first : Front) → left_of (front_step at mirror octets first) octets ≡ left_behind (INPUT_OCTETS - at) octets first
 front_left at mirror octets front.End = refl
 front_left at mirror octets (front.Torn have) = refl
 front_left at mirror octets front.Limit = refl
@@ -30,7 +30,7 @@ front_left at mirror octets (front.Whole attribute) = value_left at mirror octet
 
 -- The step of what stands first is the step of the octets.
 pub first_step : (at : ℕ) (before : Held) (octets : List ℕ) (first : Front) (taken : Step) (after : Held) (left : Option (List ℕ))
-    → (first ≡ front_of (LIMIT - at) octets) × (left ≡ Some (left_behind (LIMIT - at) octets first)) → IsStep (front_step at before octets first) taken after
+    → (first ≡ front_of (INPUT_OCTETS - at) octets) × (left ≡ Some (left_behind (INPUT_OCTETS - at) octets first)) → IsStep (front_step at before octets first) taken after
     → IsStep (step_of at before octets) taken after × (left ≡ Some (left_of (step_of at before octets) octets))
 unfolding step_of
 first_step at before octets first taken after left is steps =

@@ -12,7 +12,7 @@ use Rattle.swid_cli.specs.declared.step.Ending.{Ending}
 use Rattle.swid_cli.specs.declared.step.Ending.TheVariants as ending
 use Rattle.swid_cli.specs.declared.step.Step.TheVariants as step
 use Rattle.swid_cli.specs.Front.{HEADER_OCTETS, cut, front_of, is_bad_length, is_inventory, length_of}
-use Rattle.swid_cli.specs.Stream.{LIMIT, Printed, StepOf, Goes, Ends, StreamGoesOn, after_line, and_on, front_step, step_of, stream, stream_by, value_step}
+use Rattle.swid_cli.specs.Stream.{INPUT_OCTETS, Printed, StepOf, Goes, Ends, StreamGoesOn, after_line, and_on, front_step, step_of, stream, stream_by, value_step}
 use Rattle.swid_cli.specs.Steps.{IsStep, TakesStep, left_of}
 use Rattle.swid_cli.proofs.Fronts.{good_length}
 
@@ -67,7 +67,7 @@ front_step_takes at mirror octets front.OtherAttribute takes = tt
 
 step_takes : (at : ℕ) (mirror : Held) (octets : List ℕ) → StepTakes (step_of at mirror octets) octets
 unfolding step_of
-step_takes at mirror octets = front_step_takes at mirror octets (front_of (LIMIT - at) octets) (front_takes (LIMIT - at) octets)
+step_takes at mirror octets = front_step_takes at mirror octets (front_of (INPUT_OCTETS - at) octets) (front_takes (INPUT_OCTETS - at) octets)
 
 -- ---- as many steps as octets and more are all alike
 
@@ -151,7 +151,7 @@ front_leaves at mirror octets (front.Whole attribute) = value_leaves at mirror o
 
 step_leaves : (at : ℕ) (mirror : Held) (octets : List ℕ) → StepLeaves (step_of at mirror octets)
 unfolding step_of
-step_leaves at mirror octets = front_leaves at mirror octets (front_of (LIMIT - at) octets)
+step_leaves at mirror octets = front_leaves at mirror octets (front_of (INPUT_OCTETS - at) octets)
 
 leaves_on : (steps at : ℕ) (octets : List ℕ) (taken : StepOf) → ((at : ℕ) (mirror : Held) (octets : List ℕ) → NothingLeft (stream_by steps at mirror octets)) → StepLeaves taken → NothingLeft (and_on (stream_by steps) at octets taken)
 leaves_on steps at octets (Goes line len mirror) behind leaves = behind (at + len) mirror (drop len octets)

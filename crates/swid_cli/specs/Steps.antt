@@ -6,7 +6,7 @@ use Rattle.swid_cli.specs.declared.front.Front.TheVariants as front
 use Rattle.swid_cli.specs.declared.step.Step.{Step}
 use Rattle.swid_cli.specs.declared.step.Step.TheVariants as step
 use Rattle.swid_cli.specs.Front.{ATTRIBUTE_OCTETS, HEADER_OCTETS, front_of, left_behind}
-use Rattle.swid_cli.specs.Stream.{LIMIT, StepOf, Goes, Ends, step_of}
+use Rattle.swid_cli.specs.Stream.{INPUT_OCTETS, StepOf, Goes, Ends, step_of}
 
 -- What stood first in what was left, of which `room` octets may be looked at, and what is left behind it.
 abbrev pub TakesFront : ℕ → Option (List ℕ) → Option (List ℕ) → Front → Type 0
@@ -36,5 +36,5 @@ TakesStep at before left-before left-after taken after = (octets : List ℕ) →
 
 -- A step that goes on takes a header at least, and no more than may be looked at, whether the input tells or not.
 abbrev pub Advances : ℕ → Step → Type 0
-Advances at (step.Goes text taken) = (HEADER_OCTETS ≤ taken) × (at + taken ≤ LIMIT)
+Advances at (step.Goes text taken) = (HEADER_OCTETS ≤ taken) × (at + taken ≤ INPUT_OCTETS)
 Advances at (step.Ends text ended) = Unit {0}

@@ -1,10 +1,10 @@
 -- What `mirror ids` prints, as a function of all octets of the input.
-use Rattle.std.specs.Prelude.{◌≡◌, ◌+◌, ◌-◌, ℕ, zero, suc, false, List, [], ◌++◌, None, Result, Ok, Err, length, drop, codes}
+use Rattle.std.specs.Prelude.{◌≡◌, ◌+◌, ◌-◌, ℕ, zero, suc, List, [], ◌++◌, Result, Ok, Err, length, drop, codes}
 use Rattle.wire_base.specs.Reading.{whole}
 use Rattle.swima_model.specs.declared.report.Kind.{Kind}
 use Rattle.swima_model.specs.declared.report.Report.{Report}
 use Rattle.swima_reports.specs.InventoryReading.{read_inventory}
-use Rattle.validator_core.specs.Held.{Held}
+use Rattle.validator_core.specs.Held.{Held, empty_mirror}
 use Rattle.validator_core.specs.Judge.{judge}
 use Rattle.swid_cli.specs.declared.front.Front.{Front}
 use Rattle.swid_cli.specs.declared.front.Front.TheVariants as front
@@ -14,8 +14,8 @@ use Rattle.swid_cli.specs.Front.{HEADER_OCTETS, front_of, left_behind}
 use Rattle.swid_cli.specs.Text.{mirror_text, refusal, took_line}
 
 -- The most octets of the input.
-abbrev pub LIMIT : ℕ
-LIMIT = 1073741824
+abbrev pub INPUT_OCTETS : ℕ
+INPUT_OCTETS = 1073741824
 
 -- A text, how it ends, and what is left of the input then.
 pub record Printed : Type 0 where
@@ -42,14 +42,14 @@ value_step at mirror octets len (Err place) = refused (codes "attribute") at (dr
 abbrev pub front_step : ℕ → Held → List ℕ → Front → StepOf
 front_step at mirror octets front.End = Ends (record { text = mirror_text mirror; ending = ending.Whole; left = [] })
 front_step at mirror octets (front.Torn have) = refused (codes "torn") have []
-front_step at mirror octets front.Limit = refused (codes "limit") LIMIT (left_behind (LIMIT - at) octets front.Limit)
-front_step at mirror octets front.BadLength = refused (codes "attribute") at (left_behind (LIMIT - at) octets front.BadLength)
-front_step at mirror octets front.OtherAttribute = refused (codes "later") at (left_behind (LIMIT - at) octets front.OtherAttribute)
+front_step at mirror octets front.Limit = refused (codes "limit") INPUT_OCTETS (left_behind (INPUT_OCTETS - at) octets front.Limit)
+front_step at mirror octets front.BadLength = refused (codes "attribute") at (left_behind (INPUT_OCTETS - at) octets front.BadLength)
+front_step at mirror octets front.OtherAttribute = refused (codes "later") at (left_behind (INPUT_OCTETS - at) octets front.OtherAttribute)
 front_step at mirror octets (front.Whole attribute) = value_step at mirror octets (length attribute) (whole read_inventory (at + HEADER_OCTETS) (drop HEADER_OCTETS attribute))
 
 -- The first attribute of octets that begin at `at`.
 unfoldable pub step_of : ℕ → Held → List ℕ → StepOf
-step_of at mirror octets = front_step at mirror octets (front_of (LIMIT - at) octets)
+step_of at mirror octets = front_step at mirror octets (front_of (INPUT_OCTETS - at) octets)
 
 -- A line before a text.
 abbrev pub after_line : List ℕ → Printed → Printed
@@ -74,10 +74,6 @@ stream at mirror octets = stream_by (length octets + 1) at mirror octets
 abbrev pub StreamGoesOn : Type 0
 StreamGoesOn = (at : ℕ) (mirror : Held) (octets : List ℕ) → stream at mirror octets ≡ and_on stream at octets (step_of at mirror octets)
 
--- A mirror that holds nothing.
-abbrev pub new_mirror : Kind → Held
-new_mirror kind = record { kind = kind; point = None; records = []; off = false }
-
 -- All of the input.
 abbrev pub stream_text : Kind → List ℕ → Printed
-stream_text kind octets = stream 0 (new_mirror kind) octets
+stream_text kind octets = stream 0 (empty_mirror kind) octets

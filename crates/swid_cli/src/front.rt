@@ -3,6 +3,7 @@
 ghost use Rattle.std.specs.Prelude.{◌≡◌, ◌<◌, ◌≤◌, ◌^◌, not, IfOk, length};
 ghost use Rattle.swid_cli.specs.Front.{HEADER_OCTETS, cut, is_bad_length, is_inventory};
 ghost use Rattle.swid_cli.specs.Steps.{IsWithin, TakesFront};
+ghost use Rattle.swid_cli.specs.Stream.{INPUT_OCTETS};
 ghost use Rattle.wire_base.specs.Outside.{HasCause};
 ghost use Rattle.wire_base.specs.Passing.{is_fault};
 
@@ -14,7 +15,7 @@ use wire_base::{List, Octets, Source, Stopped, fill, u24_at, u32_at};
 pub const HEADER: usize = 12;
 
 /// The most octets of an attribute.
-const MOST: u32 = 16777216;
+const MOST_ATTRIBUTE_OCTETS: u32 = 16777216;
 
 /// What stands first in what is left of the input.
 #[derive(Debug, Drop)]
@@ -25,7 +26,7 @@ pub enum Front {
     Torn(u32),
     /// The input has more octets than it may have.
     Limit,
-    /// The length of an attribute is no length.
+    /// The length of an attribute is below that of its header, or above the most octets of an attribute.
     BadLength,
     /// An attribute of another vendor or type.
     OtherAttribute,
@@ -36,8 +37,9 @@ pub enum Front {
 /// Takes the first attribute of what is left of the input, of which `room` octets may be looked at. It reads no octet
 /// behind what it has to look at.
 pub fn take_front<S: Source>(alloc: Global, input: &mut S, room: usize) -> Result<Front, Stopped>
-    requires { room ≤ 1073741824 }
-    ensures front { IfOk result (λ first. TakesFront room (S.left input.old) (S.left input.new) first) }
+    requires { room ≤ INPUT_OCTETS }
+    ensures front { IfOk result
+        (λ first. TakesFront room (S.left input.old) (S.left input.new) first) }
     ensures within { IfOk result (λ first. IsWithin room first) }
     ensures cause { HasCause (S.faults input.old) (S.faults input.new) (is_fault result) }
 {
@@ -79,7 +81,7 @@ fn cut(room: usize, held: usize) -> Front
 fn is_bad_length(length: u32) -> bool
     ensures bad { result ≡ is_bad_length length }
 {
-    length < HEADER as u32 || MOST < length
+    length < HEADER as u32 || MOST_ATTRIBUTE_OCTETS < length
 }
 
 /// Whether the header is that of a Software Identifier Inventory.

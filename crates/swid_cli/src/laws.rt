@@ -1,8 +1,15 @@
 //! What the definitions mean, proved of every value: the calls do nothing.
 
+ghost use Rattle.swid_cli.specs.Attribute.{WholeIsAttribute};
 ghost use Rattle.swid_cli.specs.Stream.{StreamGoesOn};
 
 /// What a stream prints is what its first attribute makes, and behind it what the stream behind that attribute prints.
 pub fn stream_goes_on()
     ensures law { StreamGoesOn }
+{}
+
+/// What is found first in the input is a whole attribute exactly where the octets there are laid out as one (RFC 5792,
+/// section 4.1): an inventory, no longer than an attribute may be and than may be looked at.
+pub fn whole_is_attribute()
+    ensures law { WholeIsAttribute }
 {}

@@ -19,8 +19,11 @@ pub fn mirror<S: Source, K: Sink>(
     input: &mut S,
     output: &mut K,
 ) -> Result<Ending, Stopped>
-    ensures printed { IfSome (S.left input.old) (λ octets. Ran (stream_text kind octets) (S.left input.new) (K.written output.old) (K.written output.new) result) }
-    ensures causes { HasCauses (S.faults input.old) (S.faults input.new) (K.faults output.old) (K.faults output.new) result }
+    ensures printed { IfSome (S.left input.old) (λ octets.
+        Ran (stream_text kind octets) (S.left input.new)
+        (K.written output.old) (K.written output.new) result) }
+    ensures causes { HasCauses (S.faults input.old) (S.faults input.new)
+        (K.faults output.old) (K.faults output.new) result }
 {
     let mut mirror = Mirror::new(alloc, kind);
     let mut at = 0;

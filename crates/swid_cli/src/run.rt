@@ -27,20 +27,35 @@ pub fn run_plain<S: Source, K: Sink, F: Files>(
     output: &mut K,
     files: &mut F,
 ) -> u8
-    // Status 2.
+    // Words that are no command line: `usage` is printed, and nothing is read.
     ensures usage { (result ≡ 2) ↔ ¬ IsCommandLine (map (λ word. word.now) words.now) }
-    ensures usage_front { result ≡ 2 → AddsFront (K.written output.old) (K.written output.new) usage }
-    ensures usage_text { result ≡ 2 → Adds (K.written output.old) (K.written output.new) usage ⊎ Rose (K.faults output.old) (K.faults output.new) }
+    ensures usage_front { result ≡ 2
+        → AddsFront (K.written output.old) (K.written output.new) usage }
+    ensures usage_text { result ≡ 2
+        → Adds (K.written output.old) (K.written output.new) usage
+        ⊎ Rose (K.faults output.old) (K.faults output.new) }
     ensures usage_input { result ≡ 2 → input.new ≡ input.old }
 
-    // Of an input that tells, the text and the status are those of its octets; in every case a front was printed.
-    ensures printed { result ≢ 2 → result ≢ 3 → result ≢ 4 → IfSome (S.left input.old) (λ octets. Prints (stream_text Ids octets) (S.left input.new) (K.written output.old) (K.written output.new) result) }
-    ensures front { result ≢ 2 → IfSome (S.left input.old) (λ octets. AddsFront (K.written output.old) (K.written output.new) (stream_text Ids octets).text) }
+    // Words that are one: of an input that tells its octets, the text, the status and what is left of the input are those
+    // of these octets; where a call failed or memory was wanting, a front of the text was printed.
+    ensures printed { result ≢ 2 → result ≢ 3 → result ≢ 4
+        → IfSome (S.left input.old) (λ octets.
+        Prints (stream_text Ids octets) (S.left input.new)
+        (K.written output.old) (K.written output.new) result) }
+    ensures front { result ≢ 2
+        → IfSome (S.left input.old) (λ octets.
+        AddsFront (K.written output.old) (K.written output.new)
+        (stream_text Ids octets).text) }
 
-    // Status 3, and the counts of faults.
-    ensures fault { result ≡ 3 → Rose (S.faults input.old) (S.faults input.new) ⊎ Rose (K.faults output.old) (K.faults output.new) }
-    ensures calm { result ≢ 2 → result ≢ 3 → (S.faults input.new ≡ S.faults input.old) × (K.faults output.new ≡ K.faults output.old) }
-    ensures later { (S.faults input.old ≤ S.faults input.new) × (K.faults output.old ≤ K.faults output.new) }
+    // Status 3 tells a fault, no other status hides one, and no count falls.
+    ensures fault { result ≡ 3
+        → Rose (S.faults input.old) (S.faults input.new)
+        ⊎ Rose (K.faults output.old) (K.faults output.new) }
+    ensures no_input_fault { result ≢ 3 → S.faults input.new ≡ S.faults input.old }
+    ensures no_output_fault { result ≢ 2 → result ≢ 3
+        → K.faults output.new ≡ K.faults output.old }
+    ensures input_count { S.faults input.old ≤ S.faults input.new }
+    ensures output_count { K.faults output.old ≤ K.faults output.new }
 
     ensures status { result ≤ 4 }
     ensures files { files.new ≡ files.old }

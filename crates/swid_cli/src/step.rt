@@ -3,7 +3,7 @@
 ghost use Rattle.std.specs.Prelude.{◌≡◌, ◌+◌, ◌≤◌, List, ℕ, IfOk, drop, length};
 ghost use Rattle.swid_cli.specs.Front.{HEADER_OCTETS};
 ghost use Rattle.swid_cli.specs.Steps.{Advances, IsStep, TakesStep};
-ghost use Rattle.swid_cli.specs.Stream.{value_step};
+ghost use Rattle.swid_cli.specs.Stream.{INPUT_OCTETS, value_step};
 ghost use Rattle.swid_cli.specs.Text.{refusal};
 ghost use Rattle.swima_reports.specs.InventoryReading.{read_inventory};
 ghost use Rattle.wire_base.specs.Reading.{whole};
@@ -18,7 +18,7 @@ use validator_core::{Mirror, Taken};
 use wire_base::{FieldRefused, Memory, Octets, Source, Stopped};
 
 /// The most octets of the input.
-pub const LIMIT: u32 = 1073741824;
+pub const MOST_INPUT_OCTETS: u32 = 1073741824;
 
 /// How the output ends.
 #[derive(Clone, Copy, Debug, PartialEq, Eq)]
@@ -45,16 +45,17 @@ pub fn next_step<S: Source>(
     at: u32,
     mirror: &mut Mirror,
 ) -> Result<Step, Stopped>
-    requires { at ≤ 1073741824 }
-    ensures step { IfOk result (λ taken. TakesStep at mirror.old (S.left input.old) (S.left input.new) taken mirror.new) }
+    requires { at ≤ INPUT_OCTETS }
+    ensures step { IfOk result (λ taken.
+        TakesStep at mirror.old (S.left input.old) (S.left input.new) taken mirror.new) }
     ensures advances { IfOk result (λ taken. Advances at taken) }
     ensures cause { HasCause (S.faults input.old) (S.faults input.new) (is_fault result) }
 {
-    let first = take_front(alloc, input, (LIMIT - at) as usize)?;
+    let first = take_front(alloc, input, (MOST_INPUT_OCTETS - at) as usize)?;
     match first {
         Front::End => Ok(Step::Ends(mirror_text(alloc, mirror)?, Ending::Whole)),
         Front::Torn(have) => Ok(refuse(alloc, "torn", have)?),
-        Front::Limit => Ok(refuse(alloc, "limit", LIMIT)?),
+        Front::Limit => Ok(refuse(alloc, "limit", MOST_INPUT_OCTETS)?),
         Front::BadLength => Ok(refuse(alloc, "attribute", at)?),
         Front::OtherAttribute => Ok(refuse(alloc, "later", at)?),
         Front::Whole(attribute) => Ok(take_value(alloc, attribute.as_slice(), at, mirror)?),
@@ -62,7 +63,8 @@ pub fn next_step<S: Source>(
 }
 
 fn refuse(alloc: Global, word: &str, number: u32) -> Result<Step, Memory>
-    ensures refused { IfOk result (λ made. made ≡ Step.Ends (refusal word.now number) Ending.Refused) }
+    ensures refused { IfOk result
+        (λ made. made ≡ Step.Ends (refusal word.now number) Ending.Refused) }
 {
     Ok(Step::Ends(refusal(alloc, word, number)?, Ending::Refused))
 }
@@ -70,8 +72,11 @@ fn refuse(alloc: Global, word: &str, number: u32) -> Result<Step, Memory>
 /// Reads the value of an attribute that begins at `at`, and lets the mirror take the report.
 fn take_value(alloc: Global, attribute: &[u8], at: u32, mirror: &mut Mirror) -> Result<Step, Memory>
     requires header { HEADER_OCTETS ≤ length attribute.now }
-    requires places { at + length attribute.now ≤ 1073741824 }
-    ensures value { IfOk result (λ made. (octets : List ℕ) → IsStep (value_step at mirror.old octets (length attribute.now) (whole read_inventory (at + HEADER_OCTETS) (drop HEADER_OCTETS attribute.now))) made mirror.new) }
+    requires places { at + length attribute.now ≤ INPUT_OCTETS }
+    ensures value { IfOk result (λ made. (octets : List ℕ) → IsStep
+        (value_step at mirror.old octets (length attribute.now)
+        (whole read_inventory (at + HEADER_OCTETS) (drop HEADER_OCTETS attribute.now)))
+        made mirror.new) }
     ensures advances { IfOk result (λ made. Advances at made) }
 {
     let (_, value) = attribute.split_at(HEADER);

@@ -24,57 +24,67 @@ fn run(
     Ok((status, written))
 }
 
+/// Inputs of `mirror ids`, with what it prints and its status.
+const EXAMPLES: [(&[u8], &str, u8); 16] = [
+    (b"", "mirror none\n", 0),
+    (EMPTY, "took adopted 7 0 0\nmirror 7 0 0\n", 0),
+    // The same inventory again.
+    (
+        b"\0\0\0\0\0\0\0\x0e\0\0\0\x1c\0\0\0\0\0\0\0\x01\0\0\0\x07\0\0\0\0\0\0\0\0\0\0\0\x0e\0\0\0\x1c\0\0\0\0\0\0\0\x01\0\0\0\x07\0\0\0\0",
+        "took adopted 7 0 0\ntook stale\nmirror 7 0 0\n",
+        0,
+    ),
+    // Two records of one identifier.
+    (
+        b"\0\0\0\0\0\0\0\x0e\0\0\0\x3a\0\0\0\x02\0\0\0\x01\0\0\0\x07\0\0\0\x03\0\0\0\x01\0\0\0\x02\0\0\0\x01a\0\0\0\0\0\x01\0\0\0\x02\0\0\0\x01a\0\0",
+        "took doubled 1\nmirror none\n",
+        0,
+    ),
+    // The largest event identifier; flags and the reserved octet are not looked at.
+    (
+        b"\xff\0\0\0\0\0\0\x0e\0\0\0\x2b\xff\0\0\x01\0\0\0\x01\0\0\0\x07\xff\xff\xff\xff\xff\xff\xff\xff\xff\xff\xff\xff\xff\xff\0\x01\x5c\0\0",
+        "took adopted 7 4294967295 1\nmirror 7 4294967295 1\nrecord 4294967295 16777215/255 255 \\x5c \\e -\n",
+        0,
+    ),
+    // The first and the last octets that stand for themselves, and those round them.
+    (
+        b"\0\0\0\0\0\0\0\x0e\0\0\0\x31\0\0\0\x01\0\0\0\x01\0\0\0\x07\0\0\0\x03\0\0\0\x01\0\0\0\x02\0\0\0\x03\x20\x21\x7e\0\x04\x7f\x5b\x5c\x5d",
+        "took adopted 7 3 1\nmirror 7 3 1\nrecord 1 0/2 0 \\x20!~ \\x7f[\\x5c] -\n",
+        0,
+    ),
+    // Epoch 0 is an epoch like the others.
+    (
+        b"\0\0\0\0\0\0\0\x0e\0\0\0\x1c\0\0\0\0\0\0\0\x01\0\0\0\0\0\0\0\x05",
+        "took adopted 0 5 0\nmirror 0 5 0\n",
+        0,
+    ),
+    // The input ends inside a value, and inside a header.
+    (
+        b"\0\0\0\0\0\0\0\x0e\0\0\0\x1c\0\0\0\0\0\0\0\x01",
+        "torn 20\n",
+        1,
+    ),
+    (b"\0\0\0\0\0\0\0\x0e\0\0\0", "torn 11\n", 1),
+    // Lengths of no attribute show after the header.
+    (b"\0\0\0\0\0\0\0\x0e\0\0\0\x0b", "attribute 0\n", 1),
+    (b"\0\0\0\0\0\0\0\x0e\x01\0\0\x01", "attribute 0\n", 1),
+    (b"\0\0\0\0\0\0\0\x0e\x01\0\0\0", "torn 12\n", 1),
+    // A bad length goes before another type.
+    (b"\0\0\0\0\0\0\0\x0f\0\0\0\x0b", "attribute 0\n", 1),
+    // Another vendor, and another type.
+    (b"\0\0\0\x01\0\0\0\x0e\0\0\0\x1c", "later 0\n", 1),
+    (b"\0\0\0\0\0\0\0\x0f\0\0\0\x1c", "later 0\n", 1),
+    // A value that ends inside a field, behind a good attribute.
+    (
+        b"\0\0\0\0\0\0\0\x0e\0\0\0\x1c\0\0\0\0\0\0\0\x01\0\0\0\x07\0\0\0\0\0\0\0\0\0\0\0\x0e\0\0\0\x1b\0\0\0\0\0\0\0\x01\0\0\0\x07\0\0\0",
+        "took adopted 7 0 0\nattribute 28\n",
+        1,
+    ),
+];
+
 #[test]
 fn prints_the_worked_examples(rt: HostRuntime) -> Result<(), Fail> {
-    let cases: [(&[u8], &str, u8); 14] = [
-        (b"", "mirror none\n", 0),
-        (EMPTY, "took adopted 7 0 0\nmirror 7 0 0\n", 0),
-        // The same inventory again.
-        (
-            b"\0\0\0\0\0\0\0\x0e\0\0\0\x1c\0\0\0\0\0\0\0\x01\0\0\0\x07\0\0\0\0\0\0\0\0\0\0\0\x0e\0\0\0\x1c\0\0\0\0\0\0\0\x01\0\0\0\x07\0\0\0\0",
-            "took adopted 7 0 0\ntook stale\nmirror 7 0 0\n",
-            0,
-        ),
-        // Two records of one identifier.
-        (
-            b"\0\0\0\0\0\0\0\x0e\0\0\0\x3a\0\0\0\x02\0\0\0\x01\0\0\0\x07\0\0\0\x03\0\0\0\x01\0\0\0\x02\0\0\0\x01a\0\0\0\0\0\x01\0\0\0\x02\0\0\0\x01a\0\0",
-            "took doubled 1\nmirror none\n",
-            0,
-        ),
-        // The largest event identifier; flags and the reserved octet are not looked at.
-        (
-            b"\x7f\0\0\0\0\0\0\x0e\0\0\0\x2b\xff\0\0\x01\0\0\0\x01\0\0\0\x07\xff\xff\xff\xff\xff\xff\xff\xff\xff\xff\xff\xff\xff\xff\0\x01\x5c\0\0",
-            "took adopted 7 4294967295 1\nmirror 7 4294967295 1\nrecord 4294967295 16777215/255 255 \\x5c \\e -\n",
-            0,
-        ),
-        // The first and the last octets that stand for themselves, and those round them.
-        (
-            b"\0\0\0\0\0\0\0\x0e\0\0\0\x31\0\0\0\x01\0\0\0\x01\0\0\0\x07\0\0\0\x03\0\0\0\x01\0\0\0\x02\0\0\0\x03\x20\x21\x7e\0\x04\x7f\x5b\x5c\x5d",
-            "took adopted 7 3 1\nmirror 7 3 1\nrecord 1 0/2 0 \\x20!~ \\x7f[\\x5c] -\n",
-            0,
-        ),
-        // The input ends inside a value, and inside a header.
-        (
-            b"\0\0\0\0\0\0\0\x0e\0\0\0\x1c\0\0\0\0\0\0\0\x01",
-            "torn 20\n",
-            1,
-        ),
-        (b"\0\0\0\0\0\0\0\x0e\0\0\0", "torn 11\n", 1),
-        // Lengths of no attribute show after the header.
-        (b"\0\0\0\0\0\0\0\x0e\0\0\0\x0b", "attribute 0\n", 1),
-        (b"\0\0\0\0\0\0\0\x0e\x01\0\0\x01", "attribute 0\n", 1),
-        (b"\0\0\0\0\0\0\0\x0e\x01\0\0\0", "torn 12\n", 1),
-        // Another vendor, and another type.
-        (b"\0\0\0\x01\0\0\0\x0e\0\0\0\x1c", "later 0\n", 1),
-        (b"\0\0\0\0\0\0\0\x0f\0\0\0\x1c", "later 0\n", 1),
-        // A value that ends inside a field, behind a good attribute.
-        (
-            b"\0\0\0\0\0\0\0\x0e\0\0\0\x1c\0\0\0\0\0\0\0\x01\0\0\0\x07\0\0\0\0\0\0\0\0\0\0\0\x0e\0\0\0\x1b\0\0\0\0\0\0\0\x01\0\0\0\x07\0\0\0",
-            "took adopted 7 0 0\nattribute 28\n",
-            1,
-        ),
-    ];
-    for (input, output, status) in cases {
+    for (input, output, status) in EXAMPLES {
         let (answered, written) = run(rt.alloc(), &["mirror", "ids"], input, &[], &[])?;
         assert_eq!(rt; written.as_slice(), output.as_bytes());
         assert_eq!(rt; answered, status, "{output}");
@@ -103,18 +113,21 @@ fn refuses_other_words(rt: HostRuntime) -> Result<(), Fail> {
     Ok(())
 }
 
+/// Calls that fail, of the input and of the output, and what is printed before.
+const FAILING: [(&[u8], &[u64], &[u64], &str); 6] = [
+    // The inventory is read in two calls, one for the header and one for the value; the third finds the end.
+    (EMPTY, &[1], &[], ""),
+    (EMPTY, &[2], &[], ""),
+    (EMPTY, &[3], &[], "took adopted 7 0 0\n"),
+    (EMPTY, &[], &[1], ""),
+    (EMPTY, &[], &[2], "took adopted 7 0 0\n"),
+    (b"", &[], &[1], ""),
+];
+
 #[test]
 fn stops_at_failing_calls(rt: HostRuntime) -> Result<(), Fail> {
-    // The first inventory is read in two calls, one for the header and one for the value.
-    let reads: [(&[u64], &str); 3] = [(&[1], ""), (&[2], ""), (&[3], "took adopted 7 0 0\n")];
-    for (failing, output) in reads {
-        let (status, written) = run(rt.alloc(), &["mirror", "ids"], EMPTY, failing, &[])?;
-        assert_eq!(rt; written.as_slice(), output.as_bytes());
-        assert_eq!(rt; status, 3);
-    }
-    let writes: [(&[u64], &str); 2] = [(&[1], ""), (&[2], "took adopted 7 0 0\n")];
-    for (failing, output) in writes {
-        let (status, written) = run(rt.alloc(), &["mirror", "ids"], EMPTY, &[], failing)?;
+    for (input, reads, writes, output) in FAILING {
+        let (status, written) = run(rt.alloc(), &["mirror", "ids"], input, reads, writes)?;
         assert_eq!(rt; written.as_slice(), output.as_bytes());
         assert_eq!(rt; status, 3);
     }

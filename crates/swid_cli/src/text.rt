@@ -27,23 +27,23 @@ fn took_inventory(alloc: Global, point: Point, count: usize, taken: Taken) -> Re
     ensures answered { OnOk result (taken ≢ Taken.Memory) }
 {
     match taken {
-        Taken::WrongKind => Ok(octets_of(format!(in alloc; "took wrong-kind\n")?)),
-        Taken::Stale => Ok(octets_of(format!(in alloc; "took stale\n")?)),
-        Taken::Doubled { id } => Ok(octets_of(format!(in alloc; "took doubled {id}\n")?)),
+        Taken::WrongKind => Ok(from_string(format!(in alloc; "took wrong-kind\n")?)),
+        Taken::Stale => Ok(from_string(format!(in alloc; "took stale\n")?)),
+        Taken::Doubled { id } => Ok(from_string(format!(in alloc; "took doubled {id}\n")?)),
         Taken::Large { count, octets } => {
-            Ok(octets_of(format!(in alloc; "took large {count} {octets}\n")?))
+            Ok(from_string(format!(in alloc; "took large {count} {octets}\n")?))
         }
         Taken::Adopted => {
             let epoch = point.epoch;
             let eid = point.eid;
-            Ok(octets_of(format!(in alloc; "took adopted {epoch} {eid} {count}\n")?))
+            Ok(from_string(format!(in alloc; "took adopted {epoch} {eid} {count}\n")?))
         }
         Taken::Memory => Err(Memory),
     }
 }
 
-/// The octets of a text.
-fn octets_of(text: String) -> Octets
+/// The octets of a string.
+fn from_string(text: String) -> Octets
     ensures octets { result ≡ string_bytes text }
 {
     List::from_vec(text.into_bytes())
@@ -53,7 +53,7 @@ fn octets_of(text: String) -> Octets
 pub fn refusal(alloc: Global, word: &str, number: u32) -> Result<Octets, Memory>
     ensures line { IfOk result (λ made. made ≡ refusal word.now number) }
 {
-    Ok(octets_of(format!(in alloc; "{word} {number}\n")?))
+    Ok(from_string(format!(in alloc; "{word} {number}\n")?))
 }
 
 /// What a mirror holds: its point and how many records, and a line for each record.
@@ -61,12 +61,12 @@ pub fn mirror_text(alloc: Global, mirror: &Mirror) -> Result<Octets, Memory>
     ensures text { IfOk result (λ made. made ≡ mirror_text mirror.now) }
 {
     let Some(point) = mirror.point() else {
-        return Ok(octets_of(format!(in alloc; "mirror none\n")?));
+        return Ok(from_string(format!(in alloc; "mirror none\n")?));
     };
     let epoch = point.epoch;
     let eid = point.eid;
     let count = mirror.count();
-    let mut out = octets_of(format!(in alloc; "mirror {epoch} {eid} {count}\n")?);
+    let mut out = from_string(format!(in alloc; "mirror {epoch} {eid} {count}\n")?);
     push_records(alloc, &mut out, mirror.records())?;
     Ok(out)
 }

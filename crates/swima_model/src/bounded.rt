@@ -4,7 +4,7 @@ ghost use Rattle.std.specs.Prelude.{◌≡◌, ◌≤◌, [], ℕ, length, IfOk}
 ghost use Rattle.swima_model.specs.Bounded.{Bounds};
 ghost use Rattle.swima_model.specs.declared.bounded.LongRefused.TheVariants as refused;
 
-use std::alloc::{AllocError, Global};
+use std::alloc::Global;
 use std::marker::{Model, PhantomData};
 use thiserror::Error;
 use wire_base::{List, Memory, Octets, TryCopy};
@@ -23,10 +23,10 @@ pub enum LongRefused {
     Memory,
 }
 
-impl From<AllocError> for LongRefused {
+impl From<Memory> for LongRefused {
     ghost from_gives = { λ _ e. e ≡ refused.Memory };
 
-    fn from(_refused: AllocError) -> Self {
+    fn from(_memory: Memory) -> Self {
         LongRefused::Memory
     }
 }
@@ -66,6 +66,14 @@ impl<L: Limit> Bounded<L> {
                 len: bytes.len() as u64,
             });
         }
+        Ok(Self::of(alloc, bytes)?)
+    }
+
+    /// A copy of `bytes`, of which there are no more than the limit.
+    pub fn of(alloc: Global, bytes: &[u8]) -> Result<Self, Memory>
+        requires { length bytes.now ≤ L.OCTETS }
+        ensures octets { IfOk result (λ made. made ≡ bytes.now) }
+    {
         let octets = List::from_vec(Vec::from_slice(alloc, bytes)?);
         Ok(Bounded {
             octets,

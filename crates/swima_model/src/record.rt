@@ -1,7 +1,7 @@
 //! Software inventory evidence records.
 
 ghost use Rattle.std.specs.Prelude.{◌≡◌, ◌≤◌};
-ghost use Rattle.swima_model.specs.Size.{content_octets};
+ghost use Rattle.swima_model.specs.Size.{MOST_OCTETS, content_octets};
 
 use crate::bounded::{Body, Ident, Locator};
 use std::marker;
@@ -55,7 +55,7 @@ impl Content {
     /// How many octets the identifier, the locator and the body have together. It takes no memory.
     pub fn octets(&self) -> u64
         ensures octets { result ≡ content_octets self.now }
-        ensures within { result ≤ 1179646 }
+        ensures within { result ≤ MOST_OCTETS }
     {
         let ident = self.ident.bytes().len();
         let locator = self.locator.bytes().len();

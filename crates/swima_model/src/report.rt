@@ -3,10 +3,10 @@
 use crate::record::Records;
 use wire_base::{Memory, TryCopy};
 
-/// Whether reports carry bodies.
+/// Whether reports carry bodies (RFC 8412, section 5.2).
 #[derive(Clone, Copy, Debug, PartialEq, Eq)]
 pub enum Kind {
-    /// Software identifiers only; every body is empty.
+    /// Software identifiers only: what is read of such a report has no bodies.
     Ids,
     /// Whole records.
     Full,
@@ -18,7 +18,7 @@ impl TryCopy for Kind {
     }
 }
 
-/// A point in the history of an endpoint's inventory (RFC 8412, section 3.8.1).
+/// A point in the history of an endpoint's inventory (RFC 8412, section 3.7.1).
 #[derive(Clone, Copy, Debug, PartialEq, Eq)]
 pub struct Point {
     /// The epoch of the event identifier.

@@ -4,10 +4,10 @@ use crate::{
     Body, BodyLimit, Bounded, Content, Ident, IdentLimit, Kind, Limit, Locator, LocatorLimit,
     LongRefused, Model, Point, Record, Report,
 };
-use std::alloc::{AllocError, Global};
+use std::alloc::Global;
 use std::process::Abort;
 use std::test::Fail;
-use wire_base::{List, TryCopy};
+use wire_base::{List, Memory, TryCopy};
 
 /// Whether octets of `length` are taken and read back whole.
 fn takes<L: Limit>(alloc: Global, length: usize) -> Result<bool, LongRefused> {
@@ -16,7 +16,7 @@ fn takes<L: Limit>(alloc: Global, length: usize) -> Result<bool, LongRefused> {
     Ok(bounded.bytes() == octets.as_slice())
 }
 
-fn zeros(alloc: Global, length: usize) -> Result<Vec<u8>, AllocError> {
+fn zeros(alloc: Global, length: usize) -> Result<Vec<u8>, Memory> {
     let mut octets = Vec::new(alloc);
     octets.resize(length, 0)?;
     Ok(octets)
@@ -65,45 +65,61 @@ fn octets_are_taken_up_to_the_limit(rt: HostRuntime) -> Result<(), Fail> {
     Ok(())
 }
 
-#[test]
-fn copies_equal_their_originals(rt: HostRuntime) -> Result<(), Fail> {
-    let alloc = rt.alloc();
-    let model = Model {
-        pen: 16_777_215,
-        kind: 9,
-    };
+const MODEL: Model = Model {
+    pen: 16_777_215,
+    kind: 9,
+};
+
+const POINT: Point = Point { epoch: 5, eid: 6 };
+
+fn report_of(alloc: Global) -> Result<Report, Fail> {
     let mut records = List::new(alloc);
     for (id, ident) in [(7, "first"), (4_294_967_295, "second")] {
-        let content = content_of(alloc, model, ident.as_bytes())?;
-        expect_same_content(&rt, &content.copy()?, &content);
+        let content = content_of(alloc, MODEL, ident.as_bytes())?;
         records.push(Record { id, content })?;
     }
-    let point = Point { epoch: 5, eid: 6 };
-    let report = Report::Inventory {
+    Ok(Report::Inventory {
         kind: Kind::Full,
         fulfil: true,
         id: 11,
-        point,
-        records: records.copy()?,
-    };
+        point: POINT,
+        records,
+    })
+}
+
+#[test]
+fn a_copy_of_a_report_equals_it(rt: HostRuntime) -> Result<(), Fail> {
+    let report = report_of(rt.alloc())?;
+    let copy = report.copy()?;
+    let Report::Inventory { records, .. } = &report;
     let Report::Inventory {
         kind,
         fulfil,
         id,
-        point: at,
+        point,
         records: copies,
-    } = report.copy()?;
-    assert_eq!(rt; (kind, fulfil, id, at), (Kind::Full, true, 11, point));
+    } = &copy;
+    assert_eq!(rt;
+        (*kind, *fulfil, *id, *point),
+        (Kind::Full, true, 11, POINT)
+    );
     assert_eq!(rt; copies.len(), 2);
     for place in 0..2 {
         let record = records.get(place).ok_or("a record")?;
-        let copy = copies.get(place).ok_or("a copy")?;
-        assert_eq!(rt; copy.id, record.id);
-        expect_same_content(&rt, &copy.content, &record.content);
+        let copied = copies.get(place).ok_or("a copy")?;
+        assert_eq!(rt; copied.id, record.id);
+        expect_same_content(&rt, &copied.content, &record.content);
     }
+    Ok(())
+}
+
+#[test]
+fn copies_equal_their_originals(rt: HostRuntime) -> Result<(), Fail> {
+    let content = content_of(rt.alloc(), MODEL, b"swid")?;
+    expect_same_content(&rt, &content.copy()?, &content);
     assert_eq!(rt;
-        (model.copy()?, Kind::Ids.copy()?, point.copy()?),
-        (model, Kind::Ids, point)
+        (MODEL.copy()?, Kind::Ids.copy()?, POINT.copy()?),
+        (MODEL, Kind::Ids, POINT)
     );
     Ok(())
 }

@@ -2,10 +2,9 @@
 use Rattle.std.proofs.Common.{◌≡◌, ℕ, [], Bool, List, Result, Ok, Err, refl, subst}
 use Rattle.std.specs.Prelude.{IfOk}
 use Rattle.std.specs.List.{AllByRecursion}
-use Rattle.wire_base.specs.Layout.{Field, is_set}
+use Rattle.wire_base.specs.Layout.{AreOctets, Field, is_set}
 use Rattle.wire_base.specs.declared.refused.FieldRefused.{FieldRefused}
 use Rattle.wire_base.specs.Reading.{whole, Gives}
-use Rattle.wire_base.proofs.Spelled.{AreOctets}
 use Rattle.wire_base.proofs.Exact.{Exact, Anything, Nothing}
 use Rattle.wire_base.proofs.Blocks.{then_number, then_counted, then_reserved, then_flags, last_several, gives, ends, whole_forth, whole_back}
 use Rattle.swima_model.specs.declared.record.Record.{Record}
@@ -14,7 +13,7 @@ use Rattle.swima_model.specs.declared.report.Point.{Point}
 use Rattle.swima_model.specs.declared.report.Report.{Report}
 use Rattle.swima_model.specs.declared.report.Report.TheVariants.{Inventory}
 use Rattle.swima_reports.specs.Inventory.{FULFIL, record_fields, inventory_fields, InventoryForm}
-use Rattle.swima_reports.specs.InventoryReading.{read_record, read_inventory}
+use Rattle.swima_reports.specs.InventoryReading.{read_record, read_inventory, ReadingIsForm}
 
 -- A record is made of its parts.
 record_is : (r : Record) → r ≡ record { id = r.id; content = record { model = record { pen = r.content.model.pen; kind = r.content.model.kind }; source = r.content.source; ident = r.content.ident; locator = r.content.locator; body = r.content.body } }
@@ -61,3 +60,7 @@ found base octets (Err e) are given = tt
 pub only : (base : ℕ) (octets : List ℕ) (report : Report) → InventoryForm report octets → whole read_inventory base octets ≡ Ok report
 only base octets (Inventory kind.Ids fulfil id point records) form = whole_back inventory_exact base octets (record { fulfil = fulfil; id = id; point = point; records = records }) form.0 form.1
 only base octets (Inventory kind.Full fulfil id point records) form = absurd form
+
+-- Octets are read as a report exactly where they have its form.
+pub reading_is_form : ReadingIsForm
+reading_is_form base octets report are = (λ read. found base octets (Ok report) are read, λ form. only base octets report form)

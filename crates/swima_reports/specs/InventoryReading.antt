@@ -1,13 +1,13 @@
 -- The same layout read field by field, in the order of the figure of RFC 8412, section 5.7: it gives the report, or the
 -- place of the first fault. Of a counted text that does not fit that is its length.
-use Rattle.std.specs.Prelude.{[]}
-use Rattle.wire_base.specs.Layout.{is_set}
-use Rattle.wire_base.specs.Reading.{Reader, ◌>>=◌, done, octets, number, counted, several, at_end}
+use Rattle.std.specs.Prelude.{◌≡◌, ◌↔◌, ℕ, List, [], Ok}
+use Rattle.wire_base.specs.Layout.{AreOctets, is_set}
+use Rattle.wire_base.specs.Reading.{Reader, ◌>>=◌, done, octets, number, counted, several, at_end, whole}
 use Rattle.swima_model.specs.declared.record.Record.{Record}
 use Rattle.swima_model.specs.declared.report.Kind.TheVariants as kinds
 use Rattle.swima_model.specs.declared.report.Report.{Report}
 use Rattle.swima_model.specs.declared.report.Report.TheVariants.{Inventory}
-use Rattle.swima_reports.specs.Inventory.{FULFIL}
+use Rattle.swima_reports.specs.Inventory.{FULFIL, InventoryForm}
 
 -- A record.
 unfoldable pub read_record : Reader Record
@@ -31,3 +31,7 @@ read_inventory = do
   eid ← number 4
   records ← several count read_record
   at_end (Inventory kinds.Ids (is_set flags FULFIL) id (record { epoch = epoch; eid = eid }) records)
+
+-- A report is read of octets exactly where they have its form.
+abbrev pub ReadingIsForm : Type 0
+ReadingIsForm = (base : ℕ) (octets : List ℕ) (report : Report) → AreOctets octets → (whole read_inventory base octets ≡ Ok report) ↔ InventoryForm report octets

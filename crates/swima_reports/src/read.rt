@@ -7,9 +7,7 @@ ghost use Rattle.swima_reports.specs.InventoryReading.{read_record, read_invento
 ghost use Rattle.wire_base.specs.Reading.{Gives, counted, several, value_alone, whole};
 
 use std::alloc::Global;
-use swima_model::{
-    Bounded, Content, Kind, Limit, LongRefused, Model, Point, Record, Records, Report,
-};
+use swima_model::{Bounded, Content, Kind, Limit, Model, Point, Record, Records, Report};
 use wire_base::{Cursor, FieldRefused, List};
 
 /// The attribute type of a Software Identifier Inventory (RFC 8412, section 5.2).
@@ -18,7 +16,7 @@ pub const SOFTWARE_IDENTIFIER_INVENTORY: u32 = 14;
 /// The flag of a report that fulfils a subscription.
 const FULFIL: u8 = 0x80;
 
-/// The report that is the value of an attribute of type 14.
+/// The report that is the value of an attribute of type 14 (RFC 8412, section 5.7).
 ///
 /// `Fault` comes exactly where the value has no form; its offset is the place of the first fault, counted from `base`,
 /// the place of the value's first octet.
@@ -31,7 +29,8 @@ pub fn read_report(
     requires kind { attr_type ≡ 14 }
     requires places { base + length value.now < 2 ^ 32 }
     ensures found { IfOk result (λ report. InventoryForm report value.now) }
-    ensures only { (report : ReportValue) → InventoryForm report value.now → Gives (λ read. read) result (Ok report) }
+    ensures only { (report : ReportValue) → InventoryForm report value.now
+        → Gives (λ read. read) result (Ok report) }
     ensures exact { Gives (λ read. read) result (whole read_inventory base value.now) }
 {
     inventory(alloc, Cursor::new(base, value))
@@ -58,12 +57,12 @@ fn inventory(alloc: Global, mut cursor: Cursor) -> Result<Report, FieldRefused>
 }
 
 /// The fewest octets of a record.
-const RECORD_OCTETS: usize = 14;
+const FEWEST_RECORD_OCTETS: usize = 14;
 
 fn records(alloc: Global, cursor: &mut Cursor, count: u32) -> Result<Records, FieldRefused>
     ensures records { Gives (λ read. (read, cursor.new)) result (several count read_record cursor.old) }
 {
-    let fit = cursor.left() / RECORD_OCTETS;
+    let fit = cursor.left() / FEWEST_RECORD_OCTETS;
     let mut records = List::with_capacity(alloc, fit.min(count as usize))?;
     for _ in 0..count {
         records.push(record(alloc, cursor)?)?;
@@ -97,10 +96,5 @@ fn bounded<L: Limit>(alloc: Global, cursor: &mut Cursor) -> Result<Bounded<L>, F
     requires { 65535 ≤ L.OCTETS }
     ensures counted { Gives (λ read. (read, cursor.new)) result (counted 2 cursor.old) }
 {
-    let octets = cursor.counted(2)?;
-    match Bounded::new(alloc, octets) {
-        Ok(bounded) => Ok(bounded),
-        Err(LongRefused::TooLong { .. }) => unreachable!(),
-        Err(LongRefused::Memory) => Err(FieldRefused::Memory),
-    }
+    Ok(Bounded::of(alloc, cursor.counted(2)?)?)
 }

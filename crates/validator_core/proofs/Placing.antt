@@ -8,7 +8,8 @@ use Rattle.std.proofs.lemmas.List.Sorted.{length_permutation, IsPermutation-refl
 use Rattle.swima_model.specs.declared.record.Record.{Record}
 use Rattle.validator_core.specs.InOrder.{ids, put, in_order}
 use Rattle.validator_core.specs.Doubled.{doubled}
-use Rattle.validator_core.specs.Repeated.{times, IsLeastRepeated}
+use Rattle.validator_core.specs.Repeated.{IsLeastRepeated}
+use Rattle.validator_core.specs.Doubled.{times}
 use Rattle.validator_core.specs.Rising.{of_id, IsRisingPermutation, InOrderIsRisingPermutation}
 use Rattle.validator_core.proofs.Repeats.{times_permuted, doubled_least}
 use Rattle.validator_core.proofs.Rises.{AllFrom, Rises, from_lower, rises, rises_by, does_not_fall, strictly}

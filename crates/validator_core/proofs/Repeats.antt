@@ -5,8 +5,8 @@ use Rattle.std.specs.List.Sorted.{IsPermutation}
 use Rattle.std.proofs.lemmas.Bool.{cases_eq, cases_lt, cond-true, cond-false}
 use Rattle.std.proofs.lemmas.List.Sums.{sum_by-cons}
 use Rattle.std.proofs.lemmas.List.Sorted.{sum_by-IsPermutation}
-use Rattle.validator_core.specs.Doubled.{smallest, stands_twice, doubled}
-use Rattle.validator_core.specs.Repeated.{times, IsLeastRepeated, DoubledIsLeastRepeated}
+use Rattle.validator_core.specs.Doubled.{smallest, times, stands_twice, doubled}
+use Rattle.validator_core.specs.Repeated.{IsLeastRepeated, DoubledIsLeastRepeated}
 
 -- A number before a list.
 pub times_cons : (n x : ℕ) (xs : List ℕ) → times n (x ∷ xs) ≡ cond (eqb x n) 1 0 + times n xs

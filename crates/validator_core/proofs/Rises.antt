@@ -5,7 +5,8 @@ use Rattle.std.specs.Option.{option_eq}
 use Rattle.std.proofs.lemmas.Bool.{false≢true, cases_eq, cases_lt, cond-true, cond-false}
 use Rattle.std.proofs.lemmas.List.{at_drop_more}
 use Rattle.std.proofs.lemmas.List.Sums.{count_by-le-length}
-use Rattle.validator_core.specs.Repeated.{times, IsLeastRepeated}
+use Rattle.validator_core.specs.Repeated.{IsLeastRepeated}
+use Rattle.validator_core.specs.Doubled.{times}
 use Rattle.validator_core.proofs.Repeats.{times_here, times_other, times_more}
 
 -- None of the numbers is below `n`.

@@ -1,5 +1,5 @@
 -- What a mirror holds of one collector's inventory.
-use Rattle.std.specs.Prelude.{Bool, List, Option}
+use Rattle.std.specs.Prelude.{Bool, false, List, [], Option, None}
 use Rattle.swima_model.specs.declared.record.Record.{Record}
 use Rattle.swima_model.specs.declared.report.Kind.{Kind}
 use Rattle.swima_model.specs.declared.report.Point.{Point}
@@ -11,3 +11,7 @@ pub record Held : Type 0 where
   pub point : Option Point
   pub records : List Record
   pub off : Bool
+
+-- A mirror that holds nothing.
+abbrev pub empty_mirror : Kind → Held
+empty_mirror kind = record { kind = kind; point = None; records = []; off = false }

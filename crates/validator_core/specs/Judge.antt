@@ -1,5 +1,5 @@
 -- What a mirror answers to a report, and what it holds then: the first line that fits. The table is our own; its words
--- are those of RFC 8412, section 3.8.
+-- are those of RFC 8412, section 3.7.
 use Rattle.std.specs.Prelude.{◌≡◌, ◌==◌, ◌&&◌, ◌||◌, ℕ, Bool, true, false, not, List, length, Option, Some, None, nat_lt, if◌then◌else◌}
 use Rattle.swima_model.specs.declared.record.Record.{Record}
 use Rattle.swima_model.specs.declared.report.Kind.{Kind}
@@ -22,7 +22,7 @@ same_kind Full Ids = false
 same_kind Full Full = true
 
 -- A report of this point tells nothing new: it is of the epoch that is held, and its event identifier is below the one
--- that is held, or the same while the mark is not set. Epochs and event identifiers are those of RFC 8412, section 3.8;
+-- that is held, or the same while the mark is not set. Epochs and event identifiers are those of RFC 8412, section 3.7;
 -- the rule is our own.
 abbrev pub is_stale : Option Point → Bool → Point → Bool
 is_stale None off point = false

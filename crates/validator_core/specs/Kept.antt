@@ -1,4 +1,4 @@
--- What no report ends.
+-- What every report keeps.
 use Rattle.std.specs.List.Sorted.{IsStrictlyIncreasing}
 use Rattle.swima_model.specs.declared.report.Report.{Report}
 use Rattle.validator_core.specs.Held.{Held}

@@ -1,10 +1,6 @@
 -- What the smallest doubled number is, in words that say nothing of how it is found.
-use Rattle.std.specs.Prelude.{◌≡◌, ◌==◌, ◌<◌, ◌≤◌, ◌↔◌, ℕ, List, Option, Some, None, count_by}
-use Rattle.validator_core.specs.Doubled.{doubled}
-
--- How often a number stands among the numbers.
-abbrev pub times : ℕ → List ℕ → ℕ
-times n numbers = count_by (λ other. other == n) numbers
+use Rattle.std.specs.Prelude.{◌≡◌, ◌<◌, ◌≤◌, ◌↔◌, ℕ, List, Option, Some, None}
+use Rattle.validator_core.specs.Doubled.{doubled, times}
 
 -- The least number that stands at least twice, or `None` where none does.
 abbrev pub IsLeastRepeated : List ℕ → Option ℕ → Type 0

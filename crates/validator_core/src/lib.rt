@@ -1,4 +1,4 @@
-//! The mirror of one collector's inventory (RFC 8412, section 3.8).
+//! The mirror of one collector's inventory (RFC 8412, section 3.7).
 //!
 //! It stands on `swima_model` and `wire_base`. The crates above rest on `judged` of `Mirror::take`: the answer to a
 //! report, and what the mirror holds then, are `judge` of `specs/Judge.antt`; want of memory leaves it as it was. The
@@ -6,11 +6,10 @@
 #![tactic(auto)]
 
 mod doubled;
-mod laws;
+pub mod laws;
 mod mirror;
 mod order;
 #[cfg(test)]
 mod tests;
 
-pub use laws::{doubled_is_least_repeated, in_order_is_rising_permutation, judge_keeps_rising};
 pub use mirror::{Mirror, Taken};

@@ -3,22 +3,22 @@
 ghost use Rattle.std.specs.Prelude.{◌≡◌, ◌<◌, ◌≤◌, ◌^◌, [], None, Some, false, IfOk, OnErr, length, slice_get};
 ghost use Rattle.std.specs.Option.{option_copied};
 ghost use Rattle.validator_core.specs.Doubled.{doubled as smallest_doubled};
-ghost use Rattle.validator_core.specs.Held.{Held};
+ghost use Rattle.validator_core.specs.Held.{Held, empty_mirror};
 ghost use Rattle.validator_core.specs.InOrder.{ids};
 ghost use Rattle.validator_core.specs.Judge.{Judged, StandsAt, is_stale, is_large, judge, judge_inventory, judge_records, record_count};
 
 use crate::doubled::doubled;
-use crate::order::{in_order, octets_of};
+use crate::order::{in_order, records_octets};
 use std::alloc::Global;
 use std::marker::Model;
 use swima_model::{Kind, Point, Record, Records, Report};
 use wire_base::{List, Memory};
 
 /// The most records that a mirror holds.
-pub const MOST_RECORDS: usize = 65536;
+const MOST_RECORDS: usize = 65536;
 
 /// The most octets of identifiers, locators and bodies that a mirror holds.
-pub const MOST_OCTETS: u64 = 268435456;
+const MOST_OCTETS: u64 = 268435456;
 
 /// What a mirror answers to a report: the first that fits.
 #[derive(Clone, Copy, Debug, PartialEq, Eq)]
@@ -46,7 +46,7 @@ pub enum Taken {
     Memory,
 }
 
-/// A copy of one collector's inventory at one point, as its reports tell it.
+/// A copy of one collector's inventory at one point, as its reports tell it (RFC 8412, section 3.7).
 #[derive(Debug, Drop)]
 pub struct Mirror {
     kind: Kind,
@@ -69,7 +69,7 @@ impl Model for Mirror {
 impl Mirror {
     /// A mirror that takes reports of `kind` and holds nothing. It takes no memory.
     pub fn new(alloc: Global, kind: Kind) -> Self
-        ensures empty { result ≡ record { kind = kind; point = None; records = []; off = false } }
+        ensures empty { result ≡ empty_mirror kind }
     {
         Mirror {
             kind,
@@ -141,7 +141,8 @@ impl Mirror {
 
     fn take_inventory(&mut self, kind: Kind, point: Point, records: &Records) -> Taken
         requires { length records.now < 2 ^ 32 }
-        ensures judged { Judged self.old (judge_inventory self.old kind point records.now) result self.new }
+        ensures judged { Judged self.old (judge_inventory self.old kind point records.now)
+            result self.new }
     {
         if kind != self.kind {
             return Taken::WrongKind;
@@ -170,14 +171,16 @@ impl Mirror {
 
     fn take_records(&mut self, point: Point, records: &Records) -> Result<Taken, Memory>
         requires { length records.now < 2 ^ 32 }
-        ensures judged { IfOk result (λ answer. judge_records self.old point records.now (smallest_doubled (ids records.now)) ≡ (answer, self.new)) }
+        ensures judged { IfOk result (λ answer.
+            judge_records self.old point records.now (smallest_doubled (ids records.now))
+            ≡ (answer, self.new)) }
         ensures memory { OnErr result (self.new ≡ self.old) }
     {
         if let Some(id) = doubled(records)? {
             self.off = true;
             return Ok(Taken::Doubled { id });
         }
-        let octets = octets_of(records);
+        let octets = records_octets(records);
         if is_large(records.len(), octets) {
             self.off = true;
             return Ok(Taken::Large {

@@ -17,7 +17,7 @@ pub fn in_order(records: &Records) -> Result<Records, Memory>
 }
 
 /// How many octets the records have together.
-pub fn octets_of(records: &Records) -> u64
+pub fn records_octets(records: &Records) -> u64
     requires { length records.now < 2 ^ 32 }
     ensures octets { result ≡ records_octets records.now }
 {

@@ -15,9 +15,8 @@ use Rattle.std.specs.List.{flat_map, AllByRecursion}
 use Rattle.std.proofs.lemmas.Bool.{eqb-true}
 use Rattle.std.proofs.lemmas.List.{append-nil, nil_from_length}
 use Rattle.wire_base.specs.Numbers.{number_of, octets_of}
-use Rattle.wire_base.specs.Layout.{Field, Number, Reserved, Flags, Counted, AreFlags, Form}
+use Rattle.wire_base.specs.Layout.{AreOctets, Field, Number, Reserved, Flags, Counted, AreFlags, Form}
 use Rattle.wire_base.specs.Reading.{Reader, Rest, ◌>>=◌, done, octets, number, counted, at_end, several, value_alone, whole, and_then}
-use Rattle.wire_base.proofs.Spelled.{AreOctets}
 use Rattle.wire_base.proofs.Exact.{Exact, LaidOut, Anything, Nothing, behind, then_fields, alone, from_alone, octets_forth, octets_back, number_exact, counted_exact, several_exact}
 
 -- Equal lists of fields are one layout.

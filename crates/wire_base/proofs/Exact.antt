@@ -4,9 +4,9 @@ use Rattle.std.specs.List.{flat_map, AllByRecursion}
 use Rattle.std.proofs.lemmas.Bool.{ltb-false, le-ltb}
 use Rattle.std.proofs.lemmas.List.{take_at, drop_at, take-append-drop, append-nil}
 use Rattle.wire_base.specs.Numbers.{number_of, octets_of}
-use Rattle.wire_base.specs.Layout.{Field, Number, Counted, FieldForm, Form}
+use Rattle.wire_base.specs.Layout.{AreOctets, Field, Number, Counted, FieldForm, Form}
 use Rattle.wire_base.specs.Reading.{Reader, Rest, ◌>>=◌, and_then, done, octets, number, counted, faults_at, several}
-use Rattle.wire_base.proofs.Spelled.{AreOctets, AreOctets-front, AreOctets-rest, length-octets_of, number_of-octets_of, octets_of-number_of, number_of-below}
+use Rattle.wire_base.proofs.Spelled.{AreOctets-front, AreOctets-rest, length-octets_of, number_of-octets_of, octets_of-number_of, number_of-below}
 
 -- A reader took these octets from the front.
 pub record Takes (before : Rest) (front : List ℕ) (after : Rest) : Type 0 where

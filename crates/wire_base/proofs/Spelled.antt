@@ -5,10 +5,7 @@ use Rattle.std.proofs.lemmas.Bool.{cases_lt}
 use Rattle.std.proofs.lemmas.List.{take_more, take_all, get_or-take, get_or_past, get_or-append-add, get_or_append_left, nil_from_length}
 use Rattle.std.proofs.lemmas.List.Sums.{fold_push}
 use Rattle.wire_base.specs.Numbers.{number_of, octets_of}
-
--- Each number of the list is an octet.
-abbrev pub AreOctets : List ℕ → Type 0
-AreOctets octets = (i : ℕ) → get_or octets i 0 < 256
+use Rattle.wire_base.specs.Layout.{AreOctets}
 
 -- A front of octets has octets.
 pub AreOctets-take : (count : ℕ) (octets : List ℕ) → AreOctets octets → AreOctets (take count octets)

@@ -1,6 +1,10 @@
 -- Layouts of messages: fields one after another, in the order of the figures of the RFCs.
-use Rattle.std.specs.Prelude.{◌≡◌, ◌<◌, ◌^◌, ℕ, Bool, List, [], ◌∷◌, ◌++◌, length, nat_lt, bit_and}
+use Rattle.std.specs.Prelude.{◌≡◌, ◌<◌, ◌^◌, ℕ, Bool, List, [], ◌∷◌, ◌++◌, length, nat_lt, slice_index, bit_and}
 use Rattle.wire_base.specs.Numbers.{octets_of}
+
+-- Each number of the list is an octet.
+abbrev pub AreOctets : List ℕ → Type 0
+AreOctets octets = (i : ℕ) → slice_index octets i < 256
 
 -- A field, with what it says.
 --   Number size value     a number of so many octets, the most significant first

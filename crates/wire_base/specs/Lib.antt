@@ -4,6 +4,7 @@ pub mod Outside
 pub mod InMemory
 pub mod Numbers
 pub mod Reading
-pub mod Named
+pub mod Adapter
+pub mod NamedFile
 pub mod Passing
 pub mod Layout

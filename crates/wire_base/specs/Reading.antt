@@ -66,9 +66,8 @@ Gives view (Err refused.Memory) read = Unit {0}
 
 -- The same of a call that takes no memory.
 abbrev pub GivesExactly : {X Y : Type 0} → (X → Y) → Result X FieldRefused → Result Y ℕ → Type 0
-GivesExactly view (Ok value) read = read ≡ Ok (view value)
-GivesExactly view (Err (refused.Fault offset)) read = read ≡ Err offset
 GivesExactly view (Err refused.Memory) read = ⊥
+GivesExactly view result read = Gives view result read
 
 -- A value without what is left behind it.
 abbrev pub value_alone : {A : Type 0} → Result (A × Rest) ℕ → Result A ℕ

@@ -31,17 +31,17 @@ impl FailingCalls {
         })
     }
 
-    /// Counts a call that begins now and says whether it fails: where it can do nothing, as `idle` says, or is one of
-    /// those that fail. Then it counts the fault.
-    pub fn next_fails(&mut self, idle: bool) -> bool
-        ensures answer { result ≡ (idle || next_fails self.old.made self.old.failing) }
+    /// Counts a call that begins now and says whether it fails: where the object is full, or the call is one of those
+    /// that fail. Then it counts the fault.
+    pub fn begin_call(&mut self, is_full: bool) -> bool
+        ensures answer { result ≡ (is_full || next_fails self.old.made self.old.failing) }
         ensures made { self.new.made ≡ next self.old.made }
         ensures failing { self.new.failing ≡ self.old.failing }
         ensures faults { self.new.faults ≡ (if result then next self.old.faults else self.old.faults) }
         ensures later { self.old.faults ≤ self.new.faults }
     {
         self.made = self.made.saturating_add(1);
-        let fails = idle | self.failing.as_slice().contains(&self.made);
+        let fails = is_full | self.failing.as_slice().contains(&self.made);
         if fails {
             self.faults = self.faults.saturating_add(1);
         }

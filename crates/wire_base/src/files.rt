@@ -2,7 +2,7 @@
 
 ghost use Rattle.std.specs.Prelude.{◌≡◌, List, ℕ, [], Option, Some};
 ghost use Rattle.wire_base.specs.declared.files.FileAnswer.TheVariants as answer;
-ghost use Rattle.wire_base.specs.Named.{Named, IsAnswer, has_failed};
+ghost use Rattle.wire_base.specs.NamedFile.{NamedFile, IsAnswer, has_failed};
 ghost use Rattle.wire_base.specs.Outside.{HasCause};
 
 use crate::list::Octets;
@@ -25,7 +25,7 @@ pub enum FileAnswer {
 /// What gives files by their names.
 pub trait Files {
     /// The names and contents of all files, where they are told.
-    ghost contents: { Self → Option (List Named) };
+    ghost contents: { Self → Option (List NamedFile) };
 
     /// How many calls failed. It never falls.
     ghost faults: { Self → ℕ };

@@ -65,7 +65,7 @@ impl<T> List<T> {
         }
     }
 
-    /// The empty list with room for `capacity` items, so that so many are put in without more memory.
+    /// The empty list. It asks for room for `capacity` items at once; no clause says so.
     pub fn with_capacity(alloc: Global, capacity: usize) -> Result<Self, Memory>
         ensures empty { IfOk result (λ list. list ≡ []) }
     {

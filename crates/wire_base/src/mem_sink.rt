@@ -35,7 +35,8 @@ impl Model for MemSink {
 impl MemSink {
     /// An empty sink with room for `room` octets, that fails at the calls numbered in `failing`, the first being 1.
     pub fn new(alloc: Global, room: usize, failing: &[u64]) -> Result<Self, Memory>
-        ensures made { IfOk result (λ sink. sink ≡ record { written = []; room = room; made = 0; failing = failing.now; faults = 0 }) }
+        ensures made { IfOk result (λ sink. sink
+            ≡ record { written = []; room = room; made = 0; failing = failing.now; faults = 0 }) }
     {
         let octets = Vec::with_capacity(alloc, room)?;
         Ok(MemSink {
@@ -66,12 +67,13 @@ impl Sink for MemSink {
         ensures writes { Writes (Some self.old.written) (Some self.new.written) result piece.now }
         ensures cause { HasCause self.old.faults self.new.faults (is_err result) }
         ensures fails { is_err result ≡ (self.old.room == 0 || next_fails self.old.made self.old.failing) }
-        ensures all { IfOk result (λ count. (count ≡ min (length piece.now) self.old.room) × (self.new.room ≡ self.old.room - count)) }
+        ensures all { IfOk result (λ count. count ≡ min (length piece.now) self.old.room) }
+        ensures room { IfOk result (λ count. self.new.room ≡ self.old.room - count) }
         ensures kept { OnErr result (self.new.room ≡ self.old.room) }
         ensures faults { self.new.faults ≡ (if is_err result then next self.old.faults else self.old.faults) }
         ensures calls { (self.new.made ≡ next self.old.made) × (self.new.failing ≡ self.old.failing) }
     {
-        if self.calls.next_fails(self.room == 0) {
+        if self.calls.begin_call(self.room == 0) {
             return Err(Failed);
         }
         let count = piece.len().min(self.room);

@@ -31,7 +31,8 @@ impl Model for MemSource {
 impl MemSource {
     /// A source that has all of `octets` left, and fails at the calls numbered in `failing`, the first being 1.
     pub fn new(alloc: Global, octets: Octets, failing: &[u64]) -> Result<Self, Memory>
-        ensures made { IfOk result (λ source. source ≡ record { left = octets; made = 0; failing = failing.now; faults = 0 }) }
+        ensures made { IfOk result (λ source. source
+            ≡ record { left = octets; made = 0; failing = failing.now; faults = 0 }) }
     {
         Ok(MemSource {
             octets: NoFaultSource::new(octets),
@@ -56,7 +57,7 @@ impl Source for MemSource {
         ensures faults { self.new.faults ≡ (if is_err result then next self.old.faults else self.old.faults) }
         ensures calls { (self.new.made ≡ next self.old.made) × (self.new.failing ≡ self.old.failing) }
     {
-        if self.calls.next_fails(false) {
+        if self.calls.begin_call(false) {
             return Err(Failed);
         }
         Ok(self.octets.take(buf))

@@ -43,11 +43,13 @@ impl From<Memory> for Stopped {
 const PIECE: usize = 4096;
 
 /// Reads until `held` has `want` octets or the input ends, and no octet more. Where a call fails, `held` has what was
-/// read before it; want of memory loses at most what the last call read.
+/// read before it; at want of memory nothing is said of what was read.
 pub fn fill<S: Source>(input: &mut S, held: &mut Octets, want: usize) -> Result<(), Stopped>
     requires { length held.old ≤ want }
-    ensures fills { OnOk result (Fills want (S.left input.old) (S.left input.new) held.old held.new) }
-    ensures kept { OnTrue (is_fault result) (Gains (S.left input.old) (S.left input.new) held.old held.new) }
+    ensures fills { OnOk result
+        (Fills want (S.left input.old) (S.left input.new) held.old held.new) }
+    ensures kept { OnTrue (is_fault result)
+        (Gains (S.left input.old) (S.left input.new) held.old held.new) }
     ensures within { length held.new ≤ want }
     ensures cause { HasCause (S.faults input.old) (S.faults input.new) (is_fault result) }
 {

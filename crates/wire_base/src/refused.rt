@@ -4,7 +4,6 @@ ghost use Rattle.std.specs.Prelude.{◌≡◌};
 ghost use Rattle.wire_base.specs.declared.refused.FieldRefused.TheVariants as refused;
 
 use crate::memory::Memory;
-use std::alloc::{AllocError, AllocFailed};
 use thiserror::Error;
 
 /// Why octets are not read as a value.
@@ -26,22 +25,6 @@ impl From<Memory> for FieldRefused {
     ghost from_gives = { λ _ e. e ≡ refused.Memory };
 
     fn from(_memory: Memory) -> Self {
-        FieldRefused::Memory
-    }
-}
-
-impl From<AllocError> for FieldRefused {
-    ghost from_gives = { λ _ e. e ≡ refused.Memory };
-
-    fn from(_refused: AllocError) -> Self {
-        FieldRefused::Memory
-    }
-}
-
-impl<T: Drop> From<AllocFailed<T>> for FieldRefused {
-    ghost from_gives = { λ _ e. e ≡ refused.Memory };
-
-    fn from(_refused: AllocFailed<T>) -> Self {
         FieldRefused::Memory
     }
 }

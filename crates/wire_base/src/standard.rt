@@ -8,6 +8,7 @@ ghost use Rattle.wire_base.specs.Outside.{HasCause, Reads, Writes};
 use crate::sink::Sink;
 use crate::source::{Failed, Source};
 use std::io::{Read, Write};
+use std::marker::Model;
 
 /// A reader of the system as a source, as standard input. Each error is a fault.
 #[derive(Debug, Drop)]
@@ -16,11 +17,18 @@ pub struct StdinSource<R> {
     faults: u64,
 }
 
+impl<R> Model for StdinSource<R> {
+    ghost use Rattle.wire_base.specs.Adapter.{Adapter};
+
+    ghost Value = { Adapter R };
+
+    ghost view = { λ source. record { inner = source.reader; faults = source.faults } };
+}
+
 impl<R: Read> StdinSource<R> {
     /// A source over `reader`, with no fault yet.
     pub fn new(reader: R) -> Self
-        ensures reader { result.reader ≡ reader }
-        ensures faults { result.faults ≡ 0 }
+        ensures made { result ≡ record { inner = reader; faults = 0 } }
     {
         StdinSource { reader, faults: 0 }
     }
@@ -37,7 +45,7 @@ impl<R: Read> Source for StdinSource<R> {
         ensures within { IfOk result (λ count. count ≤ length buf.new) }
         ensures reads { Reads None None result buf.new }
         ensures cause { HasCause self.old.faults self.new.faults (is_err result) }
-        ensures passed { ReadConsumes (R.remaining self.old.reader) (R.remaining self.new.reader) result buf.new }
+        ensures passed { ReadConsumes (R.remaining self.old.inner) (R.remaining self.new.inner) result buf.new }
         ensures faults { self.new.faults ≡ (if is_err result then next self.old.faults else self.old.faults) }
     {
         match self.reader.read(buf) {
@@ -57,11 +65,18 @@ pub struct StdoutSink<W> {
     faults: u64,
 }
 
+impl<W> Model for StdoutSink<W> {
+    ghost use Rattle.wire_base.specs.Adapter.{Adapter};
+
+    ghost Value = { Adapter W };
+
+    ghost view = { λ sink. record { inner = sink.writer; faults = sink.faults } };
+}
+
 impl<W: Write> StdoutSink<W> {
     /// A sink over `writer`, with no fault yet.
     pub fn new(writer: W) -> Self
-        ensures writer { result.writer ≡ writer }
-        ensures faults { result.faults ≡ 0 }
+        ensures made { result ≡ record { inner = writer; faults = 0 } }
     {
         StdoutSink { writer, faults: 0 }
     }
@@ -79,7 +94,7 @@ impl<W: Write> Sink for StdoutSink<W> {
         ensures within { IfOk result (λ count. count ≤ length piece.now) }
         ensures writes { Writes None None result piece.now }
         ensures cause { HasCause self.old.faults self.new.faults (is_err result) }
-        ensures passed { WriteAppends (W.contents self.old.writer) (W.contents self.new.writer) result piece.now }
+        ensures passed { WriteAppends (W.contents self.old.inner) (W.contents self.new.inner) result piece.now }
         ensures faults { self.new.faults ≡ (if is_err result then next self.old.faults else self.old.faults) }
     {
         match self.writer.write(piece) {

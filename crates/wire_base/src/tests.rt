@@ -3,9 +3,9 @@
 ghost use Rattle.std.specs.Prelude.{◌≡◌, IfOk};
 
 use crate::{
-    Cursor, Failed, FieldRefused, FileAnswer, Files, List, MemFiles, MemSink, MemSource, Memory,
-    NoFaultSink, NoFaultSource, Octets, Sink, Source, StdinSource, StdoutSink, Stopped, TryCopy,
-    fill, number_of, u24_at, u32_at, write_all,
+    Cursor, Failed, FieldRefused, List, MemSink, MemSource, Memory, NoFaultSink, NoFaultSource,
+    Octets, Sink, Source, StdinSource, StdoutSink, Stopped, TryCopy, fill, number_of, u24_at,
+    u32_at, write_all,
 };
 use std::alloc::Global;
 use std::io;
@@ -144,7 +144,7 @@ fn lists_hold_what_is_put_in(rt: HostRuntime) -> Result<(), Fail> {
 }
 
 #[test]
-fn lists_of_lists_and_of_structs_are_copied(rt: HostRuntime) -> Result<(), Fail> {
+fn lists_of_lists_are_copied(rt: HostRuntime) -> Result<(), Fail> {
     let alloc = rt.alloc();
     let mut lists = List::new(alloc);
     lists.push(octets_of(alloc, b"ab")?)?;
@@ -158,6 +158,12 @@ fn lists_of_lists_and_of_structs_are_copied(rt: HostRuntime) -> Result<(), Fail>
             lists.get(place).map(List::as_slice)
         );
     }
+    Ok(())
+}
+
+#[test]
+fn lists_of_structs_are_copied(rt: HostRuntime) -> Result<(), Fail> {
+    let alloc = rt.alloc();
     let mut named = List::new(alloc);
     for (number, name) in [(7, "one"), (8, "two")] {
         let name = octets_of(alloc, name.as_bytes())?;
@@ -340,11 +346,6 @@ fn a_writer_of_the_system_is_a_sink(rt: HostRuntime) -> Result<(), Fail> {
     assert_eq!(rt; sink.write(b"abc"), Ok(2));
     assert_eq!(rt; sink.write(b"c"), Err(Failed), "a write of nothing");
     Ok(())
-}
-
-#[test]
-fn there_are_no_files(rt: HostRuntime) {
-    assert!(rt; matches!(MemFiles.read("swid", 9), FileAnswer::Missing));
 }
 
 #[test]

@@ -1,6 +1,6 @@
 use Rattle.std.proofs.Common.{[]}
 use Rattle.std.specs.Prelude.{codes}
-use Rattle.swid_cli.specs.Stream.{LIMIT}
+use Rattle.swid_cli.specs.Stream.{INPUT_OCTETS}
 use Rattle.swid_cli.proofs.Stepping.{first_step, ended, was_refused}
 use Rattle.swid_cli.proofs.step.next_step.Goals as goal
 
@@ -14,7 +14,7 @@ returns-in_ok-refuse-in-Torn-clause-step g c = λ octets told.
 
 pub returns-in_ok-refuse-in-Limit-clause-step : goal.returns-in_ok-refuse-in-Limit-clause-step
 returns-in_ok-refuse-in-Limit-clause-step g c = λ octets told.
-    first_step _ _ octets _ _ _ _ (rw c.in-Limit.is at (c.in_ok-first.ensures.front octets told)) (was_refused (codes "limit") LIMIT [] _ c.args.mirror.now c.in_ok-refuse-in-Limit.ensures.refused)
+    first_step _ _ octets _ _ _ _ (rw c.in-Limit.is at (c.in_ok-first.ensures.front octets told)) (was_refused (codes "limit") INPUT_OCTETS [] _ c.args.mirror.now c.in_ok-refuse-in-Limit.ensures.refused)
 
 pub returns-in_ok-refuse-in-BadLength-clause-step : goal.returns-in_ok-refuse-in-BadLength-clause-step
 returns-in_ok-refuse-in-BadLength-clause-step g c = λ octets told.

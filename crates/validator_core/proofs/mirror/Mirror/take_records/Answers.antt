@@ -7,5 +7,5 @@ use Rattle.validator_core.proofs.mirror.Mirror.take_records.Goals as goal
 
 pub invariant_of-self-2 : goal.invariant_of-self-2
 invariant_of-self-2 c =
-    let few = count_fits c.len.result c.octets_of-octets.result (sym c.is_large.ensures.large ∙ c.if-is_large.false) in
+    let few = count_fits c.len.result c.records_octets-octets.result (sym c.is_large.ensures.large ∙ c.if-is_large.false) in
     omega (arith, few, c.len.ensures.len, length_in_order c.args.records.now, ap (λ (records : List Record). length records) c.in_ok-self-inside.ensures.order)

@@ -1,6 +1,6 @@
 use Rattle.std.proofs.Common.{◌≡◌, ◌*◌, ◌≤◌, take}
 use Rattle.swima_model.specs.Size.{records_octets}
-use Rattle.validator_core.proofs.order.octets_of.Given as goal
+use Rattle.validator_core.proofs.order.records_octets.Given as goal
 
 abbrev pub invariant-loop-record : goal.invariant-loop-record
 invariant-loop-record l =
