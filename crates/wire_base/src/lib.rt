@@ -1,10 +1,10 @@
 //! What every crate stands on: the outside as traits with memory forms and adapters, the one list type, numbers, the
 //! layout of messages, and the cursor that reads them.
 //!
-//! It stands on std, and on `thiserror` for the texts of errors. The crates above rest on `reads`, `writes` and `cause` of `Source` and `Sink` (what was left
-//! or written, and faults that are counted), on `field` of each method of `Cursor` (what a reader gives, or the place of
-//! the first fault), and on `equal` of `TryCopy::copy`. The words of these clauses are in `specs/`: `Outside`, `Passing`,
-//! `Numbers`, `Layout`, `Reading`.
+//! It stands on std, and on `thiserror` for the texts of errors. The crates above rest on `reads`, `writes` and `cause` of
+//! `Source` and `Sink` (what was left or written, and faults that are counted), on `field` of each method of `Cursor` (what
+//! a reader gives, or the place of the first fault), and on `equal` of `TryCopy::copy`. The words of these clauses are in
+//! `specs/`: `Outside`, `Passing`, `Numbers`, `Layout`, `Reading`.
 #![tactic(auto)]
 
 mod cursor;
