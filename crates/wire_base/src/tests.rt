@@ -3,9 +3,9 @@
 ghost use Rattle.std.specs.Prelude.{◌≡◌, IfOk};
 
 use crate::{
-    Cursor, Failed, FieldRefused, List, MemSink, MemSource, Memory, NoFaultSink, NoFaultSource,
-    Octets, Sink, Source, StdinSource, StdoutSink, Stopped, TryCopy, fill, number_of, u24_at,
-    u32_at, write_all,
+    Cursor, Failed, FieldRefused, FileAnswer, Files, List, MemFiles, MemSink, MemSource, Memory,
+    NoFaultSink, NoFaultSource, Octets, Sink, Source, StdinSource, StdoutSink, Stopped, TryCopy,
+    fill, number_of, u24_at, u32_at, write_all,
 };
 use std::alloc::Global;
 use std::io;
@@ -346,6 +346,11 @@ fn a_writer_of_the_system_is_a_sink(rt: HostRuntime) -> Result<(), Fail> {
     assert_eq!(rt; sink.write(b"abc"), Ok(2));
     assert_eq!(rt; sink.write(b"c"), Err(Failed), "a write of nothing");
     Ok(())
+}
+
+#[test]
+fn there_are_no_files(rt: HostRuntime) {
+    assert!(rt; matches!(MemFiles.read("swid", 9), FileAnswer::Missing));
 }
 
 #[test]
