@@ -1,24 +1,28 @@
 #!/usr/bin/env bash
-# Measures `swid mirror ids` on inventories of 1,000, 10,000 and 65,536 records, on one of 65,537, which is
-# answered by `took large`, and on an attribute of nearly 16 MiB with as many records as one can hold, each of
-# 14 octets (`smallest`). It is a measurement and no test: it judges no output, and no time or size makes it
-# fail.
+# Measures `swid mirror ids` and `swid mirror full` beside `sha256sum`, which reads the same octets and computes one
+# digest of all of them. It is a measurement and no test: it judges no output, and no time makes it fail. The goal
+# is a ratio of at most 1.5 in the last row of the kind full, of 65,536 records with bodies of 1 KiB.
 #
-# usage: bench/mirror.sh [RUNS]     each input is run RUNS times, 5 if not given
+# usage: bench/mirror.sh [RUNS]     each of the two runs RUNS times on each input, in turns, 5 if not given
 #
-# The program is built first where that is needed, and building is not measured. Inputs and outputs lie in a
-# temporary folder, which is removed at the end. Needs python3, awk and GNU time (/usr/bin/time).
+# The program is built first where that is needed, and building is not measured; the times are those of the program
+# alone, without the start script, and with its output thrown away. `bench/streams.py` writes the inputs into a
+# temporary folder, which is removed at the end; the largest has 77 MB. Needs python3, awk, sha256sum and GNU time
+# (/usr/bin/time).
 #
-# Columns: the input; its octets; the exit status; the wall time, the lowest of all runs, and the same over that
-# of 1,000 records; the peak memory, the highest of all runs, and the same over that of 1,000 records; the
-# octets of peak memory for each octet of input; the first line of output. Times and memory are those of
-# `./swid`, so they have in them what the start script takes. The row `empty`, an inventory without records,
-# shows what that is. In the columns under `less empty` the figures of that row are subtracted first.
+# Rows: `ids N` and `full N` are N records, and a sixteenth as many events over them; `empty` is an inventory
+# without records; `ids 65537` has one record too many; `smallest` is an attribute of nearly 16 MiB with as many
+# records as one can hold; `churn` has 441,504 events over 65,536 records, all in one report, and `single` has 64
+# events over them, each in a report of its own.
+#
+# Columns: the input; its octets; the wall time of `swid`, the lowest of all runs; that of `sha256sum`; the one over
+# the other; the time of `swid` for each octet of input, which stays where the time grows as the input; its peak
+# memory, and that for each octet of input; its status; its answer to the last report.
 
 set -u
 
 top=$(dirname -- "$(readlink -f -- "${BASH_SOURCE[0]}")")/..
-swid=$top/swid
+program=$top/crates/swid/out/swid
 runs=${1:-5}
 
 if [[ ! $runs =~ ^[1-9][0-9]*$ ]] || [ $# -gt 1 ]; then
@@ -29,7 +33,7 @@ if [ ! -x /usr/bin/time ]; then
     echo "mirror.sh: needs GNU time, /usr/bin/time" >&2
     exit 1
 fi
-"$swid" mirror ids </dev/null >/dev/null
+"$top/swid" mirror ids </dev/null >/dev/null
 if [ $? -eq 70 ]; then
     echo "mirror.sh: the program was not built" >&2
     exit 1
@@ -37,48 +41,56 @@ fi
 
 folder=$(mktemp -d) || exit 1
 trap 'rm -rf -- "$folder"' EXIT
+input=$folder/input
+output=$folder/output
 
-# Prints a line for the input NAME: name, octets, status, microseconds, KiB, first line of output.
-measure() {
-    local name=$1 input=$folder/$1.patnc best='' peak=0 status=0 first='' start stop took kib
-    for ((run = 0; run < runs; run++)); do
-        start=${EPOCHREALTIME/[.,]/}
-        /usr/bin/time -q -f %M -o "$folder/kib" "$swid" mirror ids <"$input" >"$folder/output"
-        status=$?
-        stop=${EPOCHREALTIME/[.,]/}
-        took=$((stop - start))
-        kib=$(<"$folder/kib")
-        if [ -z "$best" ] || [ "$took" -lt "$best" ]; then best=$took; fi
-        if [ "$kib" -gt "$peak" ]; then peak=$kib; fi
-    done
-    IFS= read -r first <"$folder/output"
-    printf '%s\t%s\t%s\t%s\t%s\t%s\n' "$name" "$(stat -c %s -- "$input")" "$status" "$best" "$peak" "$first"
+# The microseconds that a command takes on the input.
+microseconds() {
+    local start=${EPOCHREALTIME/[.,]/}
+    "$@" <"$input" >/dev/null
+    echo $((${EPOCHREALTIME/[.,]/} - start))
 }
 
-names=(empty 1000 10000 65536 65537 smallest)
-for name in "${names[@]}"; do
-    count=$name
-    if [ "$name" = empty ]; then count=0; fi
-    python3 "$top/bench/inventory.py" "$count" "$folder/$name.patnc" || exit 1
-done
+# Writes the stream of the words after the kind, measures, and prints a line: name, octets, microseconds of both,
+# KiB, status, last answer.
+measure() {
+    local name=$1 kind=$2 ours='' theirs='' took status
+    python3 "$top/bench/streams.py" "${@:3}" "$input" || exit 1
+    for ((run = 0; run < runs; run++)); do
+        took=$(microseconds "$program" mirror "$kind")
+        if [ -z "$ours" ] || [ "$took" -lt "$ours" ]; then ours=$took; fi
+        took=$(microseconds sha256sum)
+        if [ -z "$theirs" ] || [ "$took" -lt "$theirs" ]; then theirs=$took; fi
+    done
+    /usr/bin/time -q -f %M -o "$folder/kib" "$program" mirror "$kind" <"$input" >"$output"
+    status=$?
+    printf '%s\t%s\t%s\t%s\t%s\t%s\t%s\n' "$name" "$(stat -c %s -- "$input")" "$ours" "$theirs" \
+        "$(<"$folder/kib")" "$status" "$(grep '^took' "$output" | tail -n 1)"
+}
 
-for name in "${names[@]}"; do measure "$name"; done | awk -F '\t' -v runs="$runs" '
-    function ratio(a, b) { return b > 0 ? sprintf("%.2f", a / b) : "-" }
-    function row(name, octets, status, ms, time1, time2, kib, mem1, mem2, each1, each2, answer) {
-        printf "%-9s %9s %6s %9s %8s %10s %9s %8s %10s %9s %10s  %s\n",
-            name, octets, status, ms, time1, time2, kib, mem1, mem2, each1, each2, answer
+all() {
+    measure empty ids ids 0 0
+    for kind in ids full; do
+        for count in 1024 4096 16384 65536; do measure "$kind $count" "$kind" "$kind" "$count" $((count / 16)); done
+    done
+    measure 'ids 65537' ids ids 65537 0
+    measure smallest ids smallest
+    measure churn ids churn
+    measure single ids single 64
+}
+
+all | awk -F '\t' -v runs="$runs" '
+    function row(name, octets, ours, theirs, ratio, time, kib, memory, status, answer) {
+        printf "%-10s %9s %9s %9s %6s %9s %9s %9s %6s  %s\n",
+            name, octets, ours, theirs, ratio, time, kib, memory, status, answer
     }
-    { name[NR] = $1; octets[NR] = $2; status[NR] = $3; us[NR] = $4; kib[NR] = $5; answer[NR] = $6 }
-    $1 == "empty" { zero = NR }
-    $1 == "1000" { base = NR }
-    END {
-        printf "swid mirror ids, lowest time and highest memory of %d runs\n\n", runs
-        row("", "", "", "wall", "over", "less empty", "peak", "over", "less empty", "memory", "less empty", "")
-        row("input", "octets", "status", "ms", "1000", "over 1000", "KiB", "1000", "over 1000", "an octet",
-            "an octet", "first line")
-        for (i = 1; i <= NR; i++)
-            row(name[i], octets[i], status[i], sprintf("%.1f", us[i] / 1000), ratio(us[i], us[base]),
-                ratio(us[i] - us[zero], us[base] - us[zero]), kib[i], ratio(kib[i], kib[base]),
-                ratio(kib[i] - kib[zero], kib[base] - kib[zero]), ratio(kib[i] * 1024, octets[i]),
-                ratio((kib[i] - kib[zero]) * 1024, octets[i]), answer[i])
+    function an_octet(form, amount) { return $2 < 1000 ? "-" : sprintf(form, amount / $2) }
+    BEGIN {
+        printf "swid mirror and sha256sum, lowest time of %d runs each\n\n", runs
+        row("", "", "swid", "sha256sum", "", "ns", "peak", "memory", "", "")
+        row("input", "octets", "ms", "ms", "ratio", "an octet", "KiB", "an octet", "status", "last answer")
+    }
+    {
+        row($1, $2, sprintf("%.1f", $3 / 1000), sprintf("%.1f", $4 / 1000), sprintf("%.2f", $3 / $4),
+            an_octet("%.1f", $3 * 1000), $5, an_octet("%.2f", $5 * 1024), $6, $7)
     }'

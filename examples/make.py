@@ -1,157 +1,29 @@
 #!/usr/bin/env python3
-"""Writes the example files of this folder, each with the output and the status that belong to it.
+"""Writes the example files of this folder, each with the words, the output and the status that belong to it.
 
-Each example is a list of values. From the values this script builds the octets of NAME.patnc by the
-layout of RFC 5792, section 4.1, and RFC 8412, section 5.7, and from the same values it computes
-NAME.out and, where the status is not 0, NAME.status. It never runs the program and never reads back the
-octets that it built.
+Each example is a kind of mirror and a list of values. `formats.py` says what octets and what output belong to
+them. NAME.patnc has the octets, NAME.args the words after `swid`, NAME.out the output, and NAME.status the
+status where it is not 0. The program is not run.
 """
 
 import os
-from dataclasses import dataclass, field
+import sys
+from dataclasses import replace
+
+sys.dont_write_bytecode = True
+
+from formats import ALTERATION, COSWID, CREATION, DELETION, FULFILMENT, FULL, IDS, NOSKIP, SWID_2009, SWID_2015
+from formats import Event, Events, Inventory, Record, Refused, Skipped, Torn, attribute, replaced, run
 
 HERE = os.path.dirname(os.path.abspath(__file__))
 
-INVENTORY = 14  # Software Identifier Inventory
-EVENTS = 15  # Software Identifier Events
-FULFILMENT = 0x80
-HEADER = 12
-MOST_RECORDS = 65_536
-MOST_OCTETS = 268_435_456
-
 EXAMPLE_PEN = 32473  # the enterprise number that RFC 5612 keeps for documentation
-SWID_2015 = (0, 0)  # the data model of ISO 2015 SWID tags: vendor and type
-SWID_2009 = (0, 1)
 
 
-def number(value, size):
-    return value.to_bytes(size, "big")
-
-
-def attribute(value, kind=INVENTORY, vendor=0, flags=0, length=None):
-    """One PA-TNC attribute. A length that is given stands in the header in place of the right one."""
-    length = HEADER + len(value) if length is None else length
-    return number(flags, 1) + number(vendor, 3) + number(kind, 4) + number(length, 4) + value
-
-
-@dataclass
-class Record:
-    identifier: int
-    ident: str
-    locator: str = ""
-    model: tuple = SWID_2015
-    source: int = 0
-
-    def parts(self):
-        return self.ident.encode("utf-8"), self.locator.encode("utf-8")
-
-    def octets(self):
-        vendor, kind = self.model
-        ident, locator = self.parts()
-        head = number(self.identifier, 4) + number(vendor, 3) + number(kind, 1)
-        head += number(self.source, 1) + number(0, 1)
-        return head + number(len(ident), 2) + ident + number(len(locator), 2) + locator
-
-    def line(self):
-        vendor, kind = self.model
-        ident, locator = (printed(it) for it in self.parts())
-        return f"record {self.identifier} {vendor}/{kind} {self.source} {ident} {locator} -"
-
-
-@dataclass
-class Inventory:
-    epoch: int
-    eid: int
-    records: list = field(default_factory=list)
-    request: int = 1
-    flags: int = 0
-    left_over: bytes = b""
-
-    def value(self):
-        head = number(self.flags, 1) + number(len(self.records), 3) + number(self.request, 4)
-        head += number(self.epoch, 4) + number(self.eid, 4)
-        return head + b"".join(it.octets() for it in self.records) + self.left_over
-
-    def octets(self):
-        return attribute(self.value())
-
-
-@dataclass
-class Raw:
-    """Octets that no inventory of this script gives, with the line that refuses them.
-
-    In the line, {at} stands for the offset at which the octets begin in the input.
-    """
-
-    data: bytes
-    refusal: str
-
-    def octets(self):
-        return self.data
-
-
-def printed(octets):
-    """An octet text as it is printed."""
-    if not octets:
-        return "\\e"
-    return "".join(chr(it) if 0x21 <= it <= 0x7E and it != 0x5C else f"\\x{it:02x}" for it in octets)
-
-
-class Mirror:
-    """What the mirror keeps: the point of the last inventory adopted, its records, and the mark `off`."""
-
-    def __init__(self):
-        self.point, self.records, self.off = None, [], False
-
-    def is_stale(self, report):
-        if self.point is None or self.point[0] != report.epoch:
-            return False
-        return report.eid < self.point[1] or (report.eid == self.point[1] and not self.off)
-
-    def take(self, report):
-        """Judges one inventory and returns its line."""
-        if self.is_stale(report):
-            return "took stale"
-        identifiers = [it.identifier for it in report.records]
-        doubled = [it for it in identifiers if identifiers.count(it) > 1]
-        count, octets = len(identifiers), sum(len(part) for it in report.records for part in it.parts())
-        if doubled:
-            self.off = True
-            return f"took doubled {min(doubled)}"
-        if count > MOST_RECORDS or octets > MOST_OCTETS:
-            self.off = True
-            return f"took large {count} {octets}"
-        self.point, self.off = (report.epoch, report.eid), False
-        self.records = sorted(report.records, key=lambda it: it.identifier)
-        return f"took adopted {report.epoch} {report.eid} {count}"
-
-    def lines(self):
-        if self.point is None:
-            return ["mirror none"]
-        epoch, eid = self.point
-        return [f"mirror {epoch} {eid} {len(self.records)}", *(it.line() for it in self.records)]
-
-
-def run(parts):
-    """The octets of the parts, the text that they give, and the status."""
-    mirror, octets, lines = Mirror(), b"", []
-    for part in parts:
-        start = len(octets)
-        octets += part.octets()
-        if isinstance(part, Raw):
-            lines.append(part.refusal.format(at=start))
-            return octets, text(lines), 1
-        lines.append(mirror.take(part))
-    return octets, text([*lines, *mirror.lines()]), 0
-
-
-def text(lines):
-    return "".join(f"{it}\n" for it in lines)
-
-
-# The values.
+# Records.
 
 EDITOR = Record(17, "example.com__org.example.editor_4.2.1", "/usr/lib/editor")
+EDITOR_NEXT = Record(17, "example.com__org.example.editor_4.3.0", "/usr/lib/editor")
 SHELL = Record(3, "example.com__org.example.shell_5.2", "/usr/bin/example-shell")
 FONTS = Record(2048, "example.org__café-fonts_1.0", "file:///usr/share/fonts/cafe", SWID_2015, 2)
 VIEWER = Record(5, "example.net__Example Viewer 3", "/opt/Example Viewer", SWID_2009, 1)
@@ -170,6 +42,27 @@ def numbered(index):
     return Record(index * 617 % 1009, f"example.com__org.example.{name}_{version}", locator, model, index % 3)
 
 
+# Events.
+
+MORNING = "2026-01-05T09:30:00Z"
+LEAP_SECOND = "2016-12-31T23:59:60Z"
+UNKNOWN_TIME = "0000-00-00T00:00:00Z"
+
+
+def created(eid, record, stamp=MORNING):
+    return Event(eid, stamp, CREATION, record)
+
+
+def altered(eid, record, stamp=MORNING):
+    return Event(eid, stamp, ALTERATION, record)
+
+
+def deleted(eid, record, stamp=MORNING):
+    return Event(eid, stamp, DELETION, record)
+
+
+# Streams of reports. Beside each stands what a mirror makes of it.
+
 UPDATES = [
     Inventory(1024, 7, [EDITOR, SHELL, VIEWER], request=1),  # adopted: the mirror had no point
     Inventory(1024, 7, [EDITOR], request=2),  # stale: the same EID
@@ -182,36 +75,111 @@ UPDATES = [
     Inventory(2048, 1, [LIBRARY, EDITOR], flags=FULFILMENT),  # adopted: another epoch
 ]
 
-# A Software Identifier Events attribute without events: flags and count, subscription, epoch, last EID,
-# last EID consulted.
-NO_EVENTS = number(0, 4) + number(1, 4) + number(1024, 4) + number(8, 4) + number(8, 4)
+EVENTS = [
+    Inventory(1024, 7, [SHELL]),  # adopted
+    Events(2048, 2, 2, [created(1, SHELL), deleted(2, SHELL)]),  # other-epoch 1024 2048
+    Inventory(2048, 2, []),  # adopted: puts the mirror right
+    Events(2048, 5, 5, [created(4, EDITOR), created(5, LIBRARY)]),  # gap 2 4: 3 is missing
+    Events(2048, 5, 5, []),  # gap 2 0: up to 5 was consulted, and no event is there
+    Inventory(2048, 5, [SHELL, EDITOR, LIBRARY]),  # adopted: puts the mirror right
+    # advanced 5 8
+    Events(2048, 8, 8, [created(6, VIEWER), altered(7, EDITOR_NEXT), deleted(8, SHELL, LEAP_SECOND)]),
+    Events(2048, 8, 8, [altered(7, EDITOR_NEXT), deleted(8, SHELL)]),  # stale: both were told
+    # advanced 8 10: what was told is passed over, and 11 is left for another report
+    Events(2048, 11, 10, [deleted(8, SHELL), created(9, FONTS, UNKNOWN_TIME), altered(10, LIBRARY)]),
+    Events(2048, 11, 11, [created(11, DRIVER)], flags=FULFILMENT),  # advanced 10 11
+    Events(2048, 11, 11, []),  # stale: nothing new
+]
+
+CONTRADICTIONS = [
+    Events(1024, 7, 7, [created(7, SHELL)]),  # other-epoch none 1024: no inventory yet
+    Inventory(1024, 7, [SHELL, EDITOR]),  # adopted
+    Events(1024, 8, 8, [created(8, SHELL)]),  # contradiction 8: the record is there
+    Events(1024, 9, 9, [created(8, VIEWER), altered(9, FONTS)]),  # contradiction 9: it is not, and 8 is not kept
+    Events(1024, 8, 8, [deleted(8, LIBRARY)]),  # contradiction 8: it is not there
+    Inventory(1024, 7, [SHELL, EDITOR]),  # adopted: the same EID, with the mark set
+    Events(1024, 9, 9, [deleted(8, SHELL), created(9, SHELL)]),  # advanced 7 9: one after the other they fit
+]
+
+# Records with bodies. That of LIBRARY stays empty.
+SHELL_TAG = replace(SHELL, body=b'<SoftwareIdentity name="shell" version="5.2"/>')
+EDITOR_TAG = replace(EDITOR, body=b'<SoftwareIdentity name="editor" version="4.2.1"/>')
+EDITOR_NEXT_TAG = replace(EDITOR_NEXT, body=b'<SoftwareIdentity name="editor" version="4.3.0"/>')
+CONCISE = bytes.fromhex("da53574944a400616101616202a2181f61631821010c00")
+CONCISE_TAG = Record(21, "invalid.unavailable__a", "", COSWID, 4, CONCISE)
+
+BODIES = [
+    Inventory(1024, 2, [SHELL_TAG, LIBRARY, EDITOR_TAG], FULL),  # adopted
+    # advanced 2 5
+    Events(1024, 5, 5, [altered(3, EDITOR_NEXT_TAG), created(4, CONCISE_TAG), deleted(5, SHELL_TAG)], FULL),
+]
+
+MIXED = [
+    Inventory(1024, 7, [SHELL]),  # wrong-kind
+    Inventory(1024, 7, [SHELL_TAG], FULL),  # adopted
+    Events(1024, 8, 8, [created(8, EDITOR)]),  # wrong-kind
+    Events(1024, 8, 8, [created(8, EDITOR_TAG)], FULL),  # advanced 7 8
+]
+
+SKIPPED = [
+    Skipped(13, value=bytes(12)),  # a SWIMA Request, which a collector reads
+    Inventory(1024, 7, [EDITOR]),  # adopted
+    Skipped(14, EXAMPLE_PEN, b"not an inventory"),  # type 14 of another vendor
+    Events(1024, 8, 8, [created(8, SHELL)]),  # advanced 7 8
+    Skipped(EXAMPLE_PEN, EXAMPLE_PEN),  # without a value
+]
+
+
+# Refusals.
 
 GOOD = Inventory(1024, 7, [EDITOR])
-ODD = Inventory(1024, 8, [EDITOR, SHELL], left_over=b"\x00")
-CUT = Inventory(1024, 8, [EDITOR, SHELL])
-HAVE = 40  # octets of the cut attribute that are there
+NEXT = Inventory(1024, 8, [EDITOR, SHELL])
+NEXT_EVENTS = Events(1024, 9, 9, [created(8, SHELL), altered(9, EDITOR_NEXT)])
+GOOD_TAG = Inventory(1024, 7, [EDITOR_TAG], FULL)
+NEXT_TAG = Inventory(1024, 8, [EDITOR_TAG, LIBRARY], FULL)
+
+LEFT_OVER = attribute(14, [*NEXT.value(), ("left over", b"\x00")])
+MUST_UNDERSTAND = attribute(13, [("value", bytes(12))], flags=NOSKIP)
+
+
+def wrong(report, name, octets, nth=1):
+    """The report with these octets in the nth field of that name, at which it is refused."""
+    return Refused(replaced(report.fields(), name, octets, nth), 1, name, nth)
+
 
 EXAMPLES = {
-    "empty": [Inventory(7, 0, [], request=1)],
-    "inventory": [Inventory(1024, 7, [EDITOR, SHELL, FONTS, VIEWER, DRIVER])],
-    "thousand": [Inventory(1024, 5000, [numbered(it) for it in range(1000)])],
-    "updates": UPDATES,
-    "bad-length": [Raw(attribute(b"", length=HEADER - 1), "attribute {at}")],
-    "bad-value": [GOOD, Raw(ODD.octets(), "attribute {at}")],
-    "other-type": [GOOD, Raw(attribute(NO_EVENTS, EVENTS), "later {at}")],
-    "torn": [GOOD, Raw(CUT.octets()[:HAVE], f"torn {HAVE}")],
+    "empty": (IDS, [Inventory(7, 0, [], request=1)]),
+    "inventory": (IDS, [Inventory(1024, 7, [EDITOR, SHELL, FONTS, VIEWER, DRIVER])]),
+    "thousand": (IDS, [Inventory(1024, 5000, [numbered(it) for it in range(1000)])]),
+    "updates": (IDS, UPDATES),
+    "events": (IDS, EVENTS),
+    "contradictions": (IDS, CONTRADICTIONS),
+    "bodies": (FULL, BODIES),
+    "mixed": (FULL, MIXED),
+    "skipped": (IDS, SKIPPED),
+    "torn": (IDS, [GOOD, Torn(NEXT, 40)]),
+    "fault-noskip": (IDS, [GOOD, Refused(MUST_UNDERSTAND, 3, "attribute flags")]),
+    "fault-vendor": (IDS, [GOOD, wrong(NEXT, "vendor", b"\xff\xff\xff")]),
+    "fault-length": (IDS, [wrong(Inventory(7, 0), "length", b"\x00\x00\x00\x0b")]),
+    "fault-identifier": (IDS, [GOOD, wrong(NEXT, "identifier length", b"\xff\xff", 2)]),
+    "fault-left-over": (IDS, [GOOD, Refused(LEFT_OVER, 1, "left over")]),
+    "fault-body": (FULL, [GOOD_TAG, wrong(NEXT_TAG, "body length", b"\x00\x10\x00\x01", 2)]),
+    "fault-consulted": (IDS, [GOOD, wrong(NEXT_EVENTS, "last EID consulted", b"\x00\x00\x00\x0a")]),
+    "fault-stamp": (IDS, [GOOD, wrong(NEXT_EVENTS, "timestamp", b"2026-02-30T09:30:00Z", 2)]),
+    "fault-action": (IDS, [GOOD, wrong(NEXT_EVENTS, "action", b"\x04", 2)]),
 }
 
 
-def write(name, data):
+def write(name, octets):
     with open(os.path.join(HERE, name), "wb") as it:
-        it.write(data)
+        it.write(octets)
 
 
 def main():
-    for name, parts in EXAMPLES.items():
-        octets, output, status = run(parts)
+    for name, (kind, parts) in EXAMPLES.items():
+        octets, output, status = run(kind, parts)
         write(f"{name}.patnc", octets)
+        write(f"{name}.args", f"mirror {kind}\n".encode("ascii"))
         write(f"{name}.out", output.encode("ascii"))
         if status:
             write(f"{name}.status", f"{status}\n".encode("ascii"))

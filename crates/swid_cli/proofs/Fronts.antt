@@ -1,14 +1,18 @@
 -- What was read of the input decides what stands first in it.
-use Rattle.std.proofs.Common.{◌≡◌, ℕ, ◌+◌, ◌-◌, ◌<◌, ◌≤◌, min, Bool, true, false, cond, List, [], ◌++◌, length, take, drop, eqb, ◌⊎◌, Option, Some, None, refl, sym, ap, subst, ◌∙◌, append_assoc, arith, inl, inr, length-append, length-drop}
-use Rattle.std.specs.Prelude.{slice_range, nat_lt, ◌||◌}
+use Rattle.std.proofs.Common.{◌≡◌, ℕ, ◌+◌, ◌-◌, ◌<◌, ◌≤◌, min, Bool, true, false, cond, List, [], ◌∷◌, ◌++◌, length, take, drop, eqb, ◌⊎◌, Option, Some, None, refl, sym, ap, subst, ◌∙◌, append_assoc, arith, inl, inr, length-append, length-drop}
+use Rattle.std.specs.Prelude.{slice_index, slice_range, find, option_map, nat_lt, ◌||◌, ◌==◌}
 use Rattle.std.proofs.lemmas.Bool.{cases_lt, lt-ltb, le-ltb, ltb-true, ltb-false}
-use Rattle.std.proofs.lemmas.List.{drop-append-le, take-append-le}
+use Rattle.std.proofs.lemmas.List.{drop-append-le, take-append-le, get_or_append_left}
 use Rattle.std.proofs.Math.Seq.{drop-append_seam, take-append_seam}
 use Rattle.wire_base.specs.Outside.{Moves, NothingLeft}
 use Rattle.wire_base.specs.Passing.{Fills}
 use Rattle.wire_base.specs.Numbers.{number_of}
 use Rattle.swid_cli.specs.declared.front.Front.TheVariants as front
-use Rattle.swid_cli.specs.Front.{HEADER_OCTETS, cut, front_of, left_behind, sized_front, is_bad_length, is_inventory, length_of}
+use Rattle.swid_cli.specs.declared.header.ErrorCode.TheVariants.{InvalidParameter, TypeNotSupported}
+use Rattle.swid_cli.specs.declared.header.Header.{Header}
+use Rattle.swid_cli.specs.declared.header.HeaderFault.{HeaderFault}
+use Rattle.swid_cli.specs.Front.{cut, front_of, left_behind, sized_front}
+use Rattle.swid_cli.specs.Header.{ATTRIBUTE_OCTETS, HEADER_OCTETS, RESERVED_TYPE, RESERVED_VENDOR, Row, header_fault, header_of, is_bad_length, is_refused}
 
 -- Of some octets, `held` were read and `rest` is left; where fewer than `want` were, nothing is.
 pub record HasRead (want : ℕ) (octets : List ℕ) (left : Option (List ℕ)) (held : List ℕ) : Type 0 where
@@ -55,23 +59,19 @@ front_short : (room : ℕ) (octets : List ℕ) → min room (length octets) < HE
 unfolding front_of
 front_short room octets short = rw (lt-ltb (min room (length octets)) HEADER_OCTETS short) refl
 
-front_bad : (room : ℕ) (octets : List ℕ) → HEADER_OCTETS ≤ min room (length octets) → is_bad_length (length_of octets) ≡ true → front_of room octets ≡ front.BadLength
+front_faulty : (room : ℕ) (octets : List ℕ) (fault : HeaderFault) → HEADER_OCTETS ≤ min room (length octets) → header_fault (header_of octets) ≡ Some fault → front_of room octets ≡ front.Faulty fault
 unfolding front_of
-front_bad room octets long bad = rw (le-ltb (min room (length octets)) HEADER_OCTETS long, bad) refl
+front_faulty room octets fault long faulty = rw (le-ltb (min room (length octets)) HEADER_OCTETS long, faulty) refl
 
-front_other : (room : ℕ) (octets : List ℕ) → HEADER_OCTETS ≤ min room (length octets) → is_bad_length (length_of octets) ≡ false → is_inventory octets ≡ false → front_of room octets ≡ front.OtherAttribute
+pub front_sized : (room : ℕ) (octets : List ℕ) → HEADER_OCTETS ≤ min room (length octets) → header_fault (header_of octets) ≡ None → front_of room octets ≡ sized_front room octets (header_of octets)
 unfolding front_of
-front_other room octets long good other = rw (le-ltb (min room (length octets)) HEADER_OCTETS long, good, other) refl
+front_sized room octets long good = rw (le-ltb (min room (length octets)) HEADER_OCTETS long, good) refl
 
-pub front_sized : (room : ℕ) (octets : List ℕ) → HEADER_OCTETS ≤ min room (length octets) → is_bad_length (length_of octets) ≡ false → is_inventory octets ≡ true → front_of room octets ≡ sized_front room octets (length_of octets)
-unfolding front_of
-front_sized room octets long good inventory = rw (le-ltb (min room (length octets)) HEADER_OCTETS long, good, inventory) refl
+sized_short : (room : ℕ) (octets : List ℕ) (header : Header) → min room (length octets) < header.length → sized_front room octets header ≡ cut room (length octets)
+sized_short room octets header short = rw (lt-ltb (min room (length octets)) header.length short) refl
 
-sized_short : (room : ℕ) (octets : List ℕ) (len : ℕ) → min room (length octets) < len → sized_front room octets len ≡ cut room (length octets)
-sized_short room octets len short = rw (lt-ltb (min room (length octets)) len short) refl
-
-pub sized_whole : (room : ℕ) (octets : List ℕ) (len : ℕ) → len ≤ min room (length octets) → sized_front room octets len ≡ front.Whole (take len octets)
-sized_whole room octets len long = rw (le-ltb (min room (length octets)) len long) refl
+pub sized_whole : (room : ℕ) (octets : List ℕ) (header : Header) → header.length ≤ min room (length octets) → sized_front room octets header ≡ front.Whole header (take header.length octets)
+sized_whole room octets header long = rw (le-ltb (min room (length octets)) header.length long) refl
 
 -- ---- the header is in what was read
 
@@ -86,19 +86,60 @@ module _ (octets held rest : List ℕ) (parts : octets ≡ held ++ rest) (header
   number_front from to order within =
       ap (λ (o : List ℕ). number_of (slice_range o from to)) parts ∙ ap (λ (o : List ℕ). number_of o) (slice_front held rest from to order (omega arith))
 
-  pub length_front : length_of octets ≡ length_of held
-  length_front = number_front 8 12 (omega arith) (omega arith)
+  flags_front : slice_index octets 0 ≡ slice_index held 0
+  flags_front = ap (λ (o : List ℕ). slice_index o 0) parts ∙ get_or_append_left held rest 0 0 (omega arith)
 
-  pub inventory_front : is_inventory octets ≡ is_inventory held
-  inventory_front = rw (number_front 1 4 (omega arith) (omega arith), number_front 4 8 (omega arith) (omega arith)) refl
+  pub header_front : header_of octets ≡ header_of held
+  unfolding header_of
+  header_front = rw (flags_front, number_front 1 4 (omega arith) (omega arith), number_front 4 8 (omega arith) (omega arith), number_front 8 12 (omega arith) (omega arith)) refl
+
+-- ---- a header without a fault
+
+-- No row of the table holds.
+pub record IsFaultless (header : Header) : Type 0 where
+  pub known : is_refused header ≡ false
+  pub vendor : (header.vendor == RESERVED_VENDOR) ≡ false
+  pub attr_type : (header.attr_type == RESERVED_TYPE) ≡ false
+  pub sized : is_bad_length header.length ≡ false
+
+abbrev first_row : Bool → Bool → Bool → Bool → Option HeaderFault
+first_row refused vendor attr_type bad =
+    option_map (λ (r : Row). record { code = r.code; place = r.place }) (find (λ (r : Row). r.holds)
+    (record { holds = refused; code = TypeNotSupported; place = 0 } ∷ record { holds = vendor; code = InvalidParameter; place = 1 }
+    ∷ record { holds = attr_type; code = InvalidParameter; place = 4 } ∷ record { holds = bad; code = InvalidParameter; place = 8 } ∷ []))
+
+no_row : (refused vendor attr_type bad : Bool) → first_row refused vendor attr_type bad ≡ None → (refused ≡ false) × (vendor ≡ false) × (attr_type ≡ false) × (bad ≡ false)
+no_row true vendor attr_type bad e = absurd cc
+no_row false true attr_type bad e = absurd cc
+no_row false false true bad e = absurd cc
+no_row false false false true e = absurd cc
+no_row false false false false e = (refl, refl, refl, refl)
+
+pub faultless : (header : Header) → header_fault header ≡ None → IsFaultless header
+unfolding header_fault
+faultless header none =
+    let n = no_row (is_refused header) (header.vendor == RESERVED_VENDOR) (header.attr_type == RESERVED_TYPE) (is_bad_length header.length) none in
+    record { known = n.0; vendor = n.1; attr_type = n.2; sized = n.3 }
+
+pub no_fault : (header : Header) → IsFaultless header → header_fault header ≡ None
+unfolding header_fault
+no_fault header is = rw (is.known, is.vendor, is.attr_type, is.sized) refl
 
 good_by : (len : ℕ) (short : Bool) → nat_lt len HEADER_OCTETS ≡ short → (short || nat_lt 16777216 len) ≡ false → HEADER_OCTETS ≤ len
 good_by len true is good = absurd cc
 good_by len false is good = ltb-false len HEADER_OCTETS is
 
 -- A good length is that of a header at least.
-pub good_length : (len : ℕ) → is_bad_length len ≡ false → HEADER_OCTETS ≤ len
-good_length len good = good_by len (nat_lt len HEADER_OCTETS) refl good
+pub good_length : (header : Header) → header_fault header ≡ None → HEADER_OCTETS ≤ header.length
+good_length header none = good_by header.length (nat_lt header.length HEADER_OCTETS) refl (faultless header none).sized
+
+short_by : (len : ℕ) (short : Bool) → (short || nat_lt 16777216 len) ≡ false → len ≤ ATTRIBUTE_OCTETS
+short_by len true is = absurd cc
+short_by len false is = ltb-false 16777216 len is
+
+-- It is no more than an attribute may have.
+pub short_length : (header : Header) → header_fault header ≡ None → header.length ≤ ATTRIBUTE_OCTETS
+short_length header none = short_by header.length (nat_lt header.length HEADER_OCTETS) (faultless header none).sized
 
 -- ---- less than was wanted
 
@@ -149,7 +190,7 @@ is_cut size room octets left held read short =
           (λ all. let fewer : length held ≤ room = ltb-false room (length held) all in read.still ∙ ap (λ (o : List ℕ). Some o) (read.ended (omega arith))),
     )
 
--- ---- the five exits
+-- ---- the four exits
 
 pub is_short : (room : ℕ) (octets : List ℕ) (left : Option (List ℕ)) (held : List ℕ) → HasRead (min HEADER_OCTETS (room + 1)) octets left held → min (length held) room < HEADER_OCTETS
     → (cut room (length held) ≡ front_of room octets) × (left ≡ Some (left_behind room octets (cut room (length held))))
@@ -161,34 +202,31 @@ module _ (room : ℕ) (octets : List ℕ) (left : Option (List ℕ)) (held : Lis
   header-there : HEADER_OCTETS ≤ min room (length octets)
   header-there = let sum = parts_length octets held read.rest read.parts in omega arith
 
-  header-held : HEADER_OCTETS ≤ length held
-  header-held = omega arith
+  header-is : header_of octets ≡ header_of held
+  header-is = header_front octets held read.rest read.parts (omega arith)
 
   header-left : left ≡ Some (drop HEADER_OCTETS octets)
   header-left = let within = read.within in left_after octets left held (min HEADER_OCTETS (room + 1)) HEADER_OCTETS read (omega arith)
 
-  pub is_bad : is_bad_length (length_of held) ≡ true → (front.BadLength ≡ front_of room octets) × (left ≡ Some (drop HEADER_OCTETS octets))
-  is_bad bad = (sym (front_bad room octets header-there (ap is_bad_length (length_front octets held read.rest read.parts header-held) ∙ bad)), header-left)
+  pub is_faulty : (fault : HeaderFault) → header_fault (header_of held) ≡ Some fault → (front.Faulty fault ≡ front_of room octets) × (left ≡ Some (drop HEADER_OCTETS octets))
+  is_faulty fault faulty = (sym (front_faulty room octets fault header-there (ap header_fault header-is ∙ faulty)), header-left)
 
-  pub is_other : is_bad_length (length_of held) ≡ false → is_inventory held ≡ false → (front.OtherAttribute ≡ front_of room octets) × (left ≡ Some (drop HEADER_OCTETS octets))
-  is_other good other = (sym (front_other room octets header-there (ap is_bad_length (length_front octets held read.rest read.parts header-held) ∙ good) (inventory_front octets held read.rest read.parts header-held ∙ other)), header-left)
-
-  is_sized : is_bad_length (length_of held) ≡ false → is_inventory held ≡ true → front_of room octets ≡ sized_front room octets (length_of held)
-  is_sized good inventory =
-      front_sized room octets header-there (ap is_bad_length (length_front octets held read.rest read.parts header-held) ∙ good) (inventory_front octets held read.rest read.parts header-held ∙ inventory)
-      ∙ ap (λ (len : ℕ). sized_front room octets len) (length_front octets held read.rest read.parts header-held)
+  is_sized : header_fault (header_of held) ≡ None → front_of room octets ≡ sized_front room octets (header_of held)
+  is_sized good = front_sized room octets header-there (ap header_fault header-is ∙ good) ∙ ap (λ (header : Header). sized_front room octets header) header-is
 
   -- the value was read on behind the header
-  module _ (good : is_bad_length (length_of held) ≡ false) (inventory : is_inventory held ≡ true) (left-after : Option (List ℕ)) (whole : List ℕ) (read-on : HasRead (min (length_of held) (room + 1)) octets left-after whole) where
-    pub is_torn : min (length whole) room < length_of held → (cut room (length whole) ≡ front_of room octets) × (left-after ≡ Some (left_behind room octets (cut room (length whole))))
+  module _ (good : header_fault (header_of held) ≡ None) (left-after : Option (List ℕ)) (whole : List ℕ) (read-on : HasRead (min (header_of held).length (room + 1)) octets left-after whole) where
+    pub is_torn : min (length whole) room < (header_of held).length → (cut room (length whole) ≡ front_of room octets) × (left-after ≡ Some (left_behind room octets (cut room (length whole))))
     is_torn short =
-        let c = is_cut (length_of held) room octets left-after whole read-on short in
-        (c.0 ∙ sym (is_sized good inventory ∙ sized_short room octets (length_of held) c.1), c.2)
+        let c = is_cut (header_of held).length room octets left-after whole read-on short in
+        (c.0 ∙ sym (is_sized good ∙ sized_short room octets (header_of held) c.1), c.2)
 
-    pub is_whole : length_of held ≤ min (length whole) room → (front.Whole whole ≡ front_of room octets) × (left-after ≡ Some (drop (length whole) octets))
+    pub is_whole : (header_of held).length ≤ min (length whole) room → (front.Whole (header_of held) whole ≡ front_of room octets) × (left-after ≡ Some (drop (length whole) octets))
     is_whole enough =
         let sum = parts_length octets whole read-on.rest read-on.parts in
         let within = read-on.within in
-        let len : length_of held ≡ length whole = omega arith in
-        let taken : take (length_of held) octets ≡ whole = ap (λ (n : ℕ). take n octets) len ∙ ap (λ (o : List ℕ). take (length whole) o) read-on.parts ∙ take-append_seam whole read-on.rest in
-        (ap (λ (o : List ℕ). front.Whole o) (sym taken) ∙ sym (is_sized good inventory ∙ sized_whole room octets (length_of held) (omega arith)), left_after octets left-after whole (min (length_of held) (room + 1)) (length whole) read-on refl)
+        let len : (header_of held).length ≡ length whole = omega arith in
+        let taken : take (header_of held).length octets ≡ whole = ap (λ (n : ℕ). take n octets) len ∙ ap (λ (o : List ℕ). take (length whole) o) read-on.parts ∙ take-append_seam whole read-on.rest in (
+          ap (λ (o : List ℕ). front.Whole (header_of held) o) (sym taken) ∙ sym (is_sized good ∙ sized_whole room octets (header_of held) (omega arith)),
+          left_after octets left-after whole (min (header_of held).length (room + 1)) (length whole) read-on refl,
+        )

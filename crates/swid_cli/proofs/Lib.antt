@@ -2,6 +2,9 @@ pub mod Streaming
 pub mod Following
 pub mod Values
 pub mod Fronts
+pub mod Headers
 pub mod Stepping
 pub mod Running
 pub mod Attributes
+pub mod Answered
+pub mod Bodies

@@ -1,14 +1,19 @@
 -- How a command ended decides its status.
-use Rattle.std.proofs.Common.{◌≡◌, ◌≢◌, ℕ, List, Option, Some, None, Result, Ok, Err, inl, inr, ◌⊎◌, refl, sym, ap, ◌∙◌, arith}
-use Rattle.std.specs.Prelude.{OnOk, MatchBool, IfSome, is_err}
+use Rattle.std.proofs.Common.{◌≡◌, ◌≢◌, ℕ, List, Option, Some, None, Result, Ok, Err, inl, inr, ◌⊎◌, [], ◌∷◌, refl, sym, ap, ◌∙◌, arith}
+use Rattle.std.specs.Prelude.{OnOk, MatchBool, IfSome, is_err, codes}
 use Rattle.wire_base.specs.declared.passing.Stopped.{Stopped}
 use Rattle.wire_base.specs.declared.passing.Stopped.TheVariants as stopped
 use Rattle.swima_model.specs.declared.report.Kind.{Kind}
+use Rattle.swima_model.specs.declared.report.Kind.TheVariants.{Ids, Full}
 use Rattle.validator_core.specs.Held.{empty_mirror}
 use Rattle.swid_cli.specs.declared.step.Ending.{Ending}
 use Rattle.swid_cli.specs.declared.step.Ending.TheVariants as ending
 use Rattle.swid_cli.specs.Run.{Prints, Ran, ending_status, status_of}
 use Rattle.swid_cli.specs.Stream.{stream_text}
+use Rattle.swid_cli.specs.Commands.{Says}
+use Rattle.swid_cli.specs.Words.{IsMirror, kind_word}
+use Rattle.swid_cli.specs.declared.command.Command.{Command}
+use Rattle.swid_cli.specs.declared.command.Command.TheVariants.{Mirror}
 use Rattle.swid_cli.proofs.Streaming.{nothing_left}
 
 -- A text was written, or the call failed.
@@ -17,7 +22,7 @@ written_or Text Rose Calm (Ok value) text cause = inl text
 written_or Text Rose Calm (Err fault) text cause = inr cause
 
 -- Status 0 is that of an input that was not refused.
-is_whole : (how : Ending) → ending_status how ≡ 0 → how ≡ ending.Whole
+pub is_whole : (how : Ending) → ending_status how ≡ 0 → how ≡ ending.Whole
 is_whole ending.Whole zero = refl
 is_whole ending.Refused zero = absurd (omega arith)
 
@@ -33,3 +38,20 @@ prints kind (Some octets) left-after before after (Ok how) status is fault memor
 }
 prints kind (Some octets) left-after before after (Err stopped.Fault) status is fault memory ran = absurd (fault is)
 prints kind (Some octets) left-after before after (Err stopped.Memory) status is fault memory ran = absurd (memory is)
+
+-- Words are of one kind.
+one_kind : (one other : Kind) (words : List (List ℕ)) → IsMirror one words → IsMirror other words → one ≡ other
+one_kind Ids Ids words a b = refl
+one_kind Ids Full words a b = absurd (differ (sym a ∙ b))
+  where
+    differ : (codes "mirror" ∷ kind_word Ids ∷ []) ≡ (codes "mirror" ∷ kind_word Full ∷ []) → ⊥
+    differ e = absurd cc
+one_kind Full Ids words a b = absurd (differ (sym a ∙ b))
+  where
+    differ : (codes "mirror" ∷ kind_word Full ∷ []) ≡ (codes "mirror" ∷ kind_word Ids ∷ []) → ⊥
+    differ e = absurd cc
+one_kind Full Full words a b = refl
+
+-- A command that words of a kind say is of this kind.
+pub one_command : (command : Command) (kind : Kind) (words : List (List ℕ)) → Says command words → IsMirror kind words → command ≡ Mirror kind
+one_command (Mirror one) kind words said is = ap (λ (k : Kind). Mirror k) (one_kind one kind words said is)

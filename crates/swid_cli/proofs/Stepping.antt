@@ -1,32 +1,40 @@
 -- What stands first decides the step.
 use Rattle.std.proofs.Common.{◌≡◌, ℕ, ◌+◌, ◌-◌, List, length, drop, Option, Some, Result, Ok, Err, refl, sym, ap, subst, ◌∙◌}
+use Rattle.std.proofs.lemmas.Bool.{cond_both}
 use Rattle.wire_base.specs.Reading.{whole}
 use Rattle.swima_model.specs.declared.report.Report.{Report}
-use Rattle.swima_reports.specs.InventoryReading.{read_inventory}
+use Rattle.swima_reports.specs.ReportReading.{read_report}
 use Rattle.validator_core.specs.Held.{Held}
 use Rattle.swid_cli.specs.declared.front.Front.{Front}
 use Rattle.swid_cli.specs.declared.front.Front.TheVariants as front
 use Rattle.swid_cli.specs.declared.step.Ending.TheVariants as ending
 use Rattle.swid_cli.specs.declared.step.Step.{Step}
 use Rattle.swid_cli.specs.declared.step.Step.TheVariants as step
-use Rattle.swid_cli.specs.Front.{HEADER_OCTETS, front_of, left_behind}
-use Rattle.swid_cli.specs.Text.{mirror_text, refusal}
-use Rattle.swid_cli.specs.Stream.{INPUT_OCTETS, front_step, refused, step_of, value_step}
+use Rattle.swid_cli.specs.declared.header.Header.{Header}
+use Rattle.swid_cli.specs.Front.{front_of, left_behind}
+use Rattle.swid_cli.specs.Header.{HEADER_OCTETS, carries_report}
+use Rattle.swid_cli.specs.Text.{mirror_text, skipped_line}
+use Rattle.swid_cli.specs.Stream.{INPUT_OCTETS, Goes, attribute_step, front_step, refused, report_step, step_of}
 use Rattle.swid_cli.specs.Steps.{IsStep, left_of}
 
--- What is left behind a value is behind its attribute, whether it was taken or not.
-value_left : (at : ℕ) (mirror : Held) (octets : List ℕ) (len : ℕ) (read : Result Report ℕ) → left_of (value_step at mirror octets len read) octets ≡ drop len octets
-value_left at mirror octets len (Ok report) = refl
-value_left at mirror octets len (Err place) = refl
+-- What is left behind an attribute is behind all its octets, whether a report was taken or not.
+report_left : (mirror : Held) (octets : List ℕ) (len : ℕ) (read : Result Report ℕ) → left_of (report_step mirror octets len read) octets ≡ drop len octets
+report_left mirror octets len (Ok report) = refl
+report_left mirror octets len (Err place) = refl
+
+attribute_left : (at : ℕ) (mirror : Held) (octets : List ℕ) (header : Header) (attribute : List ℕ) → left_of (attribute_step at mirror octets header attribute) octets ≡ drop (length attribute) octets
+attribute_left at mirror octets header attribute =
+    let read = whole (read_report header.attr_type) (at + HEADER_OCTETS) (drop HEADER_OCTETS attribute) in
+    cond_both (carries_report header) (report_step mirror octets (length attribute) read) (Goes (skipped_line header.vendor header.attr_type) (length attribute) mirror)
+    (λ taken. left_of taken octets ≡ drop (length attribute) octets) (λ carries. report_left mirror octets (length attribute) read) (λ skipped. refl)
 
 -- What is left behind what stands first is left behind the step.
 front_left : (at : ℕ) (mirror : Held) (octets : List ℕ) (first : Front) → left_of (front_step at mirror octets first) octets ≡ left_behind (INPUT_OCTETS - at) octets first
 front_left at mirror octets front.End = refl
 front_left at mirror octets (front.Torn have) = refl
 front_left at mirror octets front.Limit = refl
-front_left at mirror octets front.BadLength = refl
-front_left at mirror octets front.OtherAttribute = refl
-front_left at mirror octets (front.Whole attribute) = value_left at mirror octets (length attribute) (whole read_inventory (at + HEADER_OCTETS) (drop HEADER_OCTETS attribute))
+front_left at mirror octets (front.Faulty fault) = refl
+front_left at mirror octets (front.Whole header attribute) = attribute_left at mirror octets header attribute
 
 -- The step of what stands first is the step of the octets.
 pub first_step : (at : ℕ) (before : Held) (octets : List ℕ) (first : Front) (taken : Step) (after : Held) (left : Option (List ℕ))
@@ -42,5 +50,5 @@ pub ended : (at : ℕ) (mirror : Held) (octets text : List ℕ) → text ≡ mir
 ended at mirror octets text is = (is, refl)
 
 -- A refusal is printed.
-pub was_refused : (word : List ℕ) (number : ℕ) (left : List ℕ) (taken : Step) (mirror : Held) → taken ≡ step.Ends (refusal word number) ending.Refused → IsStep (refused word number left) taken mirror
-was_refused word number left taken mirror is = rw is (refl, refl)
+pub was_refused : (text left : List ℕ) (taken : Step) (mirror : Held) → taken ≡ step.Ends text ending.Refused → IsStep (refused text left) taken mirror
+was_refused text left taken mirror is = rw is (refl, refl)

@@ -1,30 +1,33 @@
 -- The text of a stream is the line of its first step and then the text of what is behind it.
 use Rattle.std.proofs.Common.{◌≡◌, ℕ, zero, suc, ◌+◌, ◌-◌, ◌<◌, ◌≤◌, min, Bool, true, false, cond, eqb, List, [], length, take, drop, Option, Some, Result, Ok, Err, refl, sym, ap, ◌∙◌, arith, length-take, length-drop, add-one}
-use Rattle.std.specs.Prelude.{not, nat_lt}
-use Rattle.std.proofs.lemmas.Bool.{ltb-false}
+use Rattle.std.specs.Prelude.{nat_lt, None}
+use Rattle.std.proofs.lemmas.Bool.{cond_both, ltb-false}
 use Rattle.wire_base.specs.Reading.{whole}
 use Rattle.swima_model.specs.declared.report.Report.{Report}
-use Rattle.swima_reports.specs.InventoryReading.{read_inventory}
+use Rattle.swima_reports.specs.ReportReading.{read_report}
 use Rattle.validator_core.specs.Held.{Held}
 use Rattle.swid_cli.specs.declared.front.Front.{Front}
 use Rattle.swid_cli.specs.declared.front.Front.TheVariants as front
+use Rattle.swid_cli.specs.declared.header.Header.{Header}
+use Rattle.swid_cli.specs.declared.header.HeaderFault.{HeaderFault}
 use Rattle.swid_cli.specs.declared.step.Ending.{Ending}
 use Rattle.swid_cli.specs.declared.step.Ending.TheVariants as ending
 use Rattle.swid_cli.specs.declared.step.Step.TheVariants as step
-use Rattle.swid_cli.specs.Front.{HEADER_OCTETS, cut, front_of, is_bad_length, is_inventory, length_of}
-use Rattle.swid_cli.specs.Stream.{INPUT_OCTETS, Printed, StepOf, Goes, Ends, StreamGoesOn, after_line, and_on, front_step, step_of, stream, stream_by, value_step}
+use Rattle.swid_cli.specs.Front.{cut, front_of, judged_front, sized_front}
+use Rattle.swid_cli.specs.Header.{HEADER_OCTETS, carries_report, header_fault, header_of}
+use Rattle.swid_cli.specs.Text.{skipped_line}
+use Rattle.swid_cli.specs.Stream.{INPUT_OCTETS, Printed, StepOf, Goes, Ends, StreamGoesOn, after_line, and_on, attribute_step, front_step, report_step, step_of, stream, stream_by}
 use Rattle.swid_cli.specs.Steps.{IsStep, TakesStep, left_of}
 use Rattle.swid_cli.proofs.Fronts.{good_length}
 
 -- ---- a step that goes on takes some of the octets
 
 abbrev Takes : Front → List ℕ → Type 0
-Takes (front.Whole attribute) octets = (0 < length attribute) × (length attribute ≤ length octets)
+Takes (front.Whole header attribute) octets = (0 < length attribute) × (length attribute ≤ length octets)
 Takes front.End octets = Unit {0}
 Takes (front.Torn have) octets = Unit {0}
 Takes front.Limit octets = Unit {0}
-Takes front.BadLength octets = Unit {0}
-Takes front.OtherAttribute octets = Unit {0}
+Takes (front.Faulty fault) octets = Unit {0}
 
 takes_by : (test : Bool) (first second : Front) (octets : List ℕ) → (test ≡ true → Takes first octets) → (test ≡ false → Takes second octets) → Takes (cond test first second) octets
 takes_by true first second octets here there = here refl
@@ -35,35 +38,41 @@ cut_takes room count octets =
     takes_by (nat_lt room count) front.Limit (cond (eqb count 0) front.End (front.Torn count)) octets (λ e. tt)
     (λ e. takes_by (eqb count 0) front.End (front.Torn count) octets (λ z. tt) (λ z. tt))
 
+judged_takes : (room : ℕ) (octets : List ℕ) (header : Header) (found : Option HeaderFault) → header_fault header ≡ found → Takes (judged_front found (sized_front room octets header)) octets
+judged_takes room octets header (Some fault) is = tt
+judged_takes room octets header None is =
+    takes_by (nat_lt (min room (length octets)) header.length) (cut room (length octets)) (front.Whole header (take header.length octets)) octets (λ e. cut_takes room (length octets) octets)
+    (λ enough. let within : header.length ≤ min room (length octets) = ltb-false (min room (length octets)) header.length enough in
+    let good = good_length header is in
+    let taken = length-take header.length octets in
+    (omega arith, omega arith))
+
 front_takes : (room : ℕ) (octets : List ℕ) → Takes (front_of room octets) octets
 unfolding front_of
 front_takes room octets =
-    let seen = min room (length octets) in
-    let len = length_of octets in
-    takes_by (nat_lt seen HEADER_OCTETS) (cut room (length octets)) _ octets (λ e. cut_takes room (length octets) octets)
-    (λ long. takes_by (is_bad_length len) front.BadLength _ octets (λ e. tt)
-    (λ good. takes_by (not (is_inventory octets)) front.OtherAttribute _ octets (λ e. tt)
-    (λ inventory. takes_by (nat_lt seen len) (cut room (length octets)) (front.Whole (take len octets)) octets (λ e. cut_takes room (length octets) octets)
-    (λ enough. let within : len ≤ seen = ltb-false seen len enough in
-    let header = good_length len good in
-    let taken = length-take len octets in
-    (omega arith, omega arith)))))
+    takes_by (nat_lt (min room (length octets)) HEADER_OCTETS) (cut room (length octets)) (judged_front (header_fault (header_of octets)) (sized_front room octets (header_of octets))) octets
+    (λ e. cut_takes room (length octets) octets) (λ long. judged_takes room octets (header_of octets) (header_fault (header_of octets)) refl)
 
 abbrev StepTakes : StepOf → List ℕ → Type 0
 StepTakes (Goes line len mirror) octets = (0 < len) × (len ≤ length octets)
 StepTakes (Ends printed) octets = Unit {0}
 
-value_takes : (at : ℕ) (mirror : Held) (octets : List ℕ) (len : ℕ) (read : Result Report ℕ) → (0 < len) × (len ≤ length octets) → StepTakes (value_step at mirror octets len read) octets
-value_takes at mirror octets len (Ok report) takes = takes
-value_takes at mirror octets len (Err place) takes = tt
+report_takes : (mirror : Held) (octets : List ℕ) (len : ℕ) (read : Result Report ℕ) → (0 < len) × (len ≤ length octets) → StepTakes (report_step mirror octets len read) octets
+report_takes mirror octets len (Ok report) takes = takes
+report_takes mirror octets len (Err place) takes = tt
+
+attribute_takes : (at : ℕ) (mirror : Held) (octets : List ℕ) (header : Header) (attribute : List ℕ) → (0 < length attribute) × (length attribute ≤ length octets) → StepTakes (attribute_step at mirror octets header attribute) octets
+attribute_takes at mirror octets header attribute takes =
+    let read = whole (read_report header.attr_type) (at + HEADER_OCTETS) (drop HEADER_OCTETS attribute) in
+    cond_both (carries_report header) (report_step mirror octets (length attribute) read) (Goes (skipped_line header.vendor header.attr_type) (length attribute) mirror)
+    (λ taken. StepTakes taken octets) (λ carries. report_takes mirror octets (length attribute) read takes) (λ skipped. takes)
 
 front_step_takes : (at : ℕ) (mirror : Held) (octets : List ℕ) (first : Front) → Takes first octets → StepTakes (front_step at mirror octets first) octets
-front_step_takes at mirror octets (front.Whole attribute) takes = value_takes at mirror octets (length attribute) (whole read_inventory (at + HEADER_OCTETS) (drop HEADER_OCTETS attribute)) takes
+front_step_takes at mirror octets (front.Whole header attribute) takes = attribute_takes at mirror octets header attribute takes
 front_step_takes at mirror octets front.End takes = tt
 front_step_takes at mirror octets (front.Torn have) takes = tt
 front_step_takes at mirror octets front.Limit takes = tt
-front_step_takes at mirror octets front.BadLength takes = tt
-front_step_takes at mirror octets front.OtherAttribute takes = tt
+front_step_takes at mirror octets (front.Faulty fault) takes = tt
 
 step_takes : (at : ℕ) (mirror : Held) (octets : List ℕ) → StepTakes (step_of at mirror octets) octets
 unfolding step_of
@@ -137,17 +146,22 @@ abbrev StepLeaves : StepOf → Type 0
 StepLeaves (Goes line len mirror) = Unit {0}
 StepLeaves (Ends printed) = NothingLeft printed
 
-value_leaves : (at : ℕ) (mirror : Held) (octets : List ℕ) (len : ℕ) (read : Result Report ℕ) → StepLeaves (value_step at mirror octets len read)
-value_leaves at mirror octets len (Ok report) = tt
-value_leaves at mirror octets len (Err place) = λ whole. absurd (cc)
+report_leaves : (mirror : Held) (octets : List ℕ) (len : ℕ) (read : Result Report ℕ) → StepLeaves (report_step mirror octets len read)
+report_leaves mirror octets len (Ok report) = tt
+report_leaves mirror octets len (Err place) = λ whole. absurd (cc)
+
+attribute_leaves : (at : ℕ) (mirror : Held) (octets : List ℕ) (header : Header) (attribute : List ℕ) → StepLeaves (attribute_step at mirror octets header attribute)
+attribute_leaves at mirror octets header attribute =
+    let read = whole (read_report header.attr_type) (at + HEADER_OCTETS) (drop HEADER_OCTETS attribute) in
+    cond_both (carries_report header) (report_step mirror octets (length attribute) read) (Goes (skipped_line header.vendor header.attr_type) (length attribute) mirror)
+    StepLeaves (λ carries. report_leaves mirror octets (length attribute) read) (λ skipped. tt)
 
 front_leaves : (at : ℕ) (mirror : Held) (octets : List ℕ) (first : Front) → StepLeaves (front_step at mirror octets first)
 front_leaves at mirror octets front.End = λ whole. refl
 front_leaves at mirror octets (front.Torn have) = λ whole. refl
 front_leaves at mirror octets front.Limit = λ whole. absurd (cc)
-front_leaves at mirror octets front.BadLength = λ whole. absurd (cc)
-front_leaves at mirror octets front.OtherAttribute = λ whole. absurd (cc)
-front_leaves at mirror octets (front.Whole attribute) = value_leaves at mirror octets (length attribute) (whole read_inventory (at + HEADER_OCTETS) (drop HEADER_OCTETS attribute))
+front_leaves at mirror octets (front.Faulty fault) = λ whole. absurd (cc)
+front_leaves at mirror octets (front.Whole header attribute) = attribute_leaves at mirror octets header attribute
 
 step_leaves : (at : ℕ) (mirror : Held) (octets : List ℕ) → StepLeaves (step_of at mirror octets)
 unfolding step_of

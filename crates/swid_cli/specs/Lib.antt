@@ -1,8 +1,11 @@
 pub mod Words
+pub mod Commands
 pub mod Text
+pub mod Header
 pub mod Front
 pub mod Attribute
 pub mod Stream
 pub mod Steps
 pub mod Run
 pub mod Causes
+pub mod Answering

@@ -1,20 +1,23 @@
--- What the calls of `mirror ids` do. A clause on octets holds where the input tells what is left of it.
-use Rattle.std.specs.Prelude.{◌≡◌, ◌≤◌, ◌+◌, ℕ, min, List, Option, Some, length, drop}
+-- What the calls of `mirror` do. A clause on octets holds where the input tells what is left of it.
+use Rattle.std.specs.Prelude.{◌≡◌, ◌<◌, ◌≤◌, ◌+◌, ℕ, min, List, Option, Some, length, drop}
 use Rattle.validator_core.specs.Held.{Held}
 use Rattle.swid_cli.specs.declared.front.Front.{Front}
 use Rattle.swid_cli.specs.declared.front.Front.TheVariants as front
 use Rattle.swid_cli.specs.declared.step.Step.{Step}
 use Rattle.swid_cli.specs.declared.step.Step.TheVariants as step
-use Rattle.swid_cli.specs.Front.{ATTRIBUTE_OCTETS, HEADER_OCTETS, front_of, left_behind}
+use Rattle.swid_cli.specs.Front.{front_of, left_behind}
+use Rattle.swid_cli.specs.Header.{ATTRIBUTE_OCTETS, HEADER_OCTETS}
 use Rattle.swid_cli.specs.Stream.{INPUT_OCTETS, StepOf, Goes, Ends, step_of}
 
 -- What stood first in what was left, of which `room` octets may be looked at, and what is left behind it.
 abbrev pub TakesFront : ℕ → Option (List ℕ) → Option (List ℕ) → Front → Type 0
 TakesFront room before after first = (octets : List ℕ) → before ≡ Some octets → (first ≡ front_of room octets) × (after ≡ Some (left_behind room octets first))
 
--- A whole attribute has a header and is within what may be looked at, whether the input tells or not.
+-- A whole attribute has a header and is within what may be looked at, and a fault lies in the header, whether the input
+-- tells or not.
 abbrev pub IsWithin : ℕ → Front → Type 0
-IsWithin room (front.Whole attribute) = (HEADER_OCTETS ≤ length attribute) × (length attribute ≤ min room ATTRIBUTE_OCTETS)
+IsWithin room (front.Whole header attribute) = (HEADER_OCTETS ≤ length attribute) × (length attribute ≤ min room ATTRIBUTE_OCTETS)
+IsWithin room (front.Faulty fault) = fault.place < HEADER_OCTETS
 IsWithin room other = Unit {0}
 
 -- What a value makes is as defined, and so is the mirror after it where it was taken.

@@ -1,17 +1,20 @@
--- What `mirror ids` prints, as a function of all octets of the input.
-use Rattle.std.specs.Prelude.{◌≡◌, ◌+◌, ◌-◌, ℕ, zero, suc, List, [], ◌++◌, Result, Ok, Err, length, drop, codes}
+-- What `mirror` prints, as a function of all octets of the input.
+use Rattle.std.specs.Prelude.{◌≡◌, ◌+◌, ◌-◌, ℕ, zero, suc, List, [], ◌++◌, Result, Ok, Err, length, drop, codes, if◌then◌else◌}
 use Rattle.wire_base.specs.Reading.{whole}
 use Rattle.swima_model.specs.declared.report.Kind.{Kind}
 use Rattle.swima_model.specs.declared.report.Report.{Report}
-use Rattle.swima_reports.specs.InventoryReading.{read_inventory}
+use Rattle.swima_reports.specs.ReportReading.{read_report}
 use Rattle.validator_core.specs.Held.{Held, empty_mirror}
 use Rattle.validator_core.specs.Judge.{judge}
 use Rattle.swid_cli.specs.declared.front.Front.{Front}
 use Rattle.swid_cli.specs.declared.front.Front.TheVariants as front
+use Rattle.swid_cli.specs.declared.header.ErrorCode.TheVariants.{InvalidParameter}
+use Rattle.swid_cli.specs.declared.header.Header.{Header}
 use Rattle.swid_cli.specs.declared.step.Ending.{Ending}
 use Rattle.swid_cli.specs.declared.step.Ending.TheVariants as ending
-use Rattle.swid_cli.specs.Front.{HEADER_OCTETS, front_of, left_behind}
-use Rattle.swid_cli.specs.Text.{mirror_text, refusal, took_line}
+use Rattle.swid_cli.specs.Front.{front_of, left_behind}
+use Rattle.swid_cli.specs.Header.{HEADER_OCTETS, carries_report, error_number}
+use Rattle.swid_cli.specs.Text.{fault_line, mirror_text, refusal, skipped_line, took_line}
 
 -- The most octets of the input.
 abbrev pub INPUT_OCTETS : ℕ
@@ -29,23 +32,28 @@ pub data StepOf : Type 0 where
   Goes : List ℕ → ℕ → Held → StepOf
   Ends : Printed → StepOf
 
--- The last text is a refusal.
-abbrev pub refused : List ℕ → ℕ → List ℕ → StepOf
-refused word number left = Ends (record { text = refusal word number; ending = ending.Refused; left = left })
+-- The last text is this refusal.
+abbrev pub refused : List ℕ → List ℕ → StepOf
+refused text left = Ends (record { text = text; ending = ending.Refused; left = left })
 
--- An attribute of this length that begins at `at`, with what its value is read as.
-abbrev pub value_step : ℕ → Held → List ℕ → ℕ → Result Report ℕ → StepOf
-value_step at mirror octets len (Ok report) = Goes (took_line report (judge mirror report).0) len (judge mirror report).1
-value_step at mirror octets len (Err place) = refused (codes "attribute") at (drop len octets)
+-- A report that was read, of an attribute of this length.
+abbrev pub report_step : Held → List ℕ → ℕ → Result Report ℕ → StepOf
+report_step mirror octets len (Ok report) = Goes (took_line report (judge mirror report).0) len (judge mirror report).1
+report_step mirror octets len (Err place) = refused (fault_line (error_number InvalidParameter) place) (drop len octets)
+
+-- A whole attribute that begins at `at`: the report that it carries is taken, and one that carries none is skipped.
+abbrev pub attribute_step : ℕ → Held → List ℕ → Header → List ℕ → StepOf
+attribute_step at mirror octets header attribute =
+    if carries_report header then report_step mirror octets (length attribute) (whole (read_report header.attr_type) (at + HEADER_OCTETS) (drop HEADER_OCTETS attribute))
+    else Goes (skipped_line header.vendor header.attr_type) (length attribute) mirror
 
 -- What stands first in octets that begin at `at`.
 abbrev pub front_step : ℕ → Held → List ℕ → Front → StepOf
 front_step at mirror octets front.End = Ends (record { text = mirror_text mirror; ending = ending.Whole; left = [] })
-front_step at mirror octets (front.Torn have) = refused (codes "torn") have []
-front_step at mirror octets front.Limit = refused (codes "limit") INPUT_OCTETS (left_behind (INPUT_OCTETS - at) octets front.Limit)
-front_step at mirror octets front.BadLength = refused (codes "attribute") at (left_behind (INPUT_OCTETS - at) octets front.BadLength)
-front_step at mirror octets front.OtherAttribute = refused (codes "later") at (left_behind (INPUT_OCTETS - at) octets front.OtherAttribute)
-front_step at mirror octets (front.Whole attribute) = value_step at mirror octets (length attribute) (whole read_inventory (at + HEADER_OCTETS) (drop HEADER_OCTETS attribute))
+front_step at mirror octets (front.Torn have) = refused (refusal (codes "torn") have) []
+front_step at mirror octets front.Limit = refused (refusal (codes "limit") INPUT_OCTETS) (left_behind (INPUT_OCTETS - at) octets front.Limit)
+front_step at mirror octets (front.Faulty fault) = refused (fault_line (error_number fault.code) (at + fault.place)) (left_behind (INPUT_OCTETS - at) octets (front.Faulty fault))
+front_step at mirror octets (front.Whole header attribute) = attribute_step at mirror octets header attribute
 
 -- The first attribute of octets that begin at `at`.
 unfoldable pub step_of : ℕ → Held → List ℕ → StepOf

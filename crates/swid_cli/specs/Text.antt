@@ -2,11 +2,15 @@
 use Rattle.std.specs.Prelude.{◌+◌, ◌/◌, ◌%◌, ◌==◌, ◌&&◌, ℕ, Bool, not, List, [], ◌∷◌, ◌++◌, Option, Some, None, length, codes, nat_lt, nat_le, if◌then◌else◌}
 use Rattle.std.specs.List.{flat_map}
 use Rattle.std.specs.Fmt.{decimal}
+use Rattle.hex.specs.Hex.{encode_lower}
+use Rattle.sha2.specs.Sha256.{sha256}
 use Rattle.swima_model.specs.DataModel.{DataModel}
 use Rattle.swima_model.specs.declared.record.Record.{Record}
+use Rattle.swima_model.specs.declared.report.Kind.{Kind}
+use Rattle.swima_model.specs.declared.report.Kind.TheVariants.{Ids, Full}
 use Rattle.swima_model.specs.declared.report.Point.{Point}
 use Rattle.swima_model.specs.declared.report.Report.{Report}
-use Rattle.swima_model.specs.declared.report.Report.TheVariants.{Inventory}
+use Rattle.swima_model.specs.declared.report.Report.TheVariants.{Inventory, Events}
 use Rattle.validator_core.specs.declared.mirror.Taken.{Taken}
 use Rattle.validator_core.specs.declared.mirror.Taken.TheVariants as taken
 use Rattle.validator_core.specs.Held.{Held}
@@ -34,36 +38,60 @@ abbrev pub escaped : List ℕ → List ℕ
 escaped [] = codes "\\e"
 escaped (octet ∷ octets) = flat_map escaped_octet (octet ∷ octets)
 
--- What a mirror answered to an inventory of so many records at a point.
-abbrev pub took_inventory : Point → ℕ → Taken → List ℕ
-took_inventory point count taken.WrongKind = line (codes "took" ∷ codes "wrong-kind" ∷ [])
-took_inventory point count taken.Stale = line (codes "took" ∷ codes "stale" ∷ [])
-took_inventory point count (taken.Doubled id) = line (codes "took" ∷ codes "doubled" ∷ decimal id ∷ [])
-took_inventory point count (taken.Large records octets) = line (codes "took" ∷ codes "large" ∷ decimal records ∷ decimal octets ∷ [])
-took_inventory point count taken.Adopted = line (codes "took" ∷ codes "adopted" ∷ decimal point.epoch ∷ decimal point.eid ∷ decimal count ∷ [])
-took_inventory point count taken.Memory = []
+-- The epoch of a mirror, which may have none.
+abbrev pub epoch_text : Option ℕ → List ℕ
+epoch_text None = codes "none"
+epoch_text (Some epoch) = decimal epoch
+
+-- What a mirror answered to a report of so many records at a point, or of so many events.
+abbrev pub took : Point → ℕ → Taken → List ℕ
+took point count taken.WrongKind = line (codes "took" ∷ codes "wrong-kind" ∷ [])
+took point count taken.Stale = line (codes "took" ∷ codes "stale" ∷ [])
+took point count (taken.Doubled id) = line (codes "took" ∷ codes "doubled" ∷ decimal id ∷ [])
+took point count (taken.Large records octets) = line (codes "took" ∷ codes "large" ∷ decimal records ∷ decimal octets ∷ [])
+took point count taken.Adopted = line (codes "took" ∷ codes "adopted" ∷ decimal point.epoch ∷ decimal point.eid ∷ decimal count ∷ [])
+took point count (taken.OtherEpoch have got) = line (codes "took" ∷ codes "other-epoch" ∷ epoch_text have ∷ decimal got ∷ [])
+took point count (taken.Gap have got) = line (codes "took" ∷ codes "gap" ∷ decimal have ∷ decimal got ∷ [])
+took point count (taken.Contradiction eid) = line (codes "took" ∷ codes "contradiction" ∷ decimal eid ∷ [])
+took point count (taken.Advanced from to) = line (codes "took" ∷ codes "advanced" ∷ decimal from ∷ decimal to ∷ [])
+took point count taken.Memory = []
 
 -- What a mirror answered to a report.
 abbrev pub took_line : Report → Taken → List ℕ
-took_line (Inventory kind fulfil id point records) answer = took_inventory point (length records) answer
+took_line (Inventory kind fulfil id point records) answer = took point (length records) answer
+took_line (Events kind fulfil id point consulted events) answer = took point (length events) answer
 
 -- The data model of a record.
 abbrev pub model_text : DataModel → List ℕ
 model_text model = decimal model.pen ++ codes "/" ++ decimal model.kind
 
--- A record of a mirror of identifiers; in place of its body stands a dash.
-unfoldable pub record_line : Record → List ℕ
-record_line r = line (codes "record" ∷ decimal r.id ∷ model_text r.content.model ∷ decimal r.content.source ∷ escaped r.content.ident ∷ escaped r.content.locator ∷ codes "-" ∷ [])
+-- The body of a record: in a mirror of identifiers a dash, else its length and its SHA-256 digest (FIPS 180-4) in
+-- hexadecimal digits.
+abbrev pub body_text : Kind → List ℕ → List ℕ
+body_text Ids body = codes "-"
+body_text Full body = decimal (length body) ++ codes ":" ++ encode_lower (sha256 body)
 
--- A mirror of identifiers, whose records stood at a point, or that has none yet.
-abbrev pub mirror_at : Option Point → List Record → List ℕ
-mirror_at None records = line (codes "mirror" ∷ codes "none" ∷ [])
-mirror_at (Some point) records = line (codes "mirror" ∷ decimal point.epoch ∷ decimal point.eid ∷ decimal (length records) ∷ []) ++ flat_map record_line records
+-- A record of a mirror.
+unfoldable pub record_line : Kind → Record → List ℕ
+record_line kind r = line (codes "record" ∷ decimal r.id ∷ model_text r.content.model ∷ decimal r.content.source ∷ escaped r.content.ident ∷ escaped r.content.locator ∷ body_text kind r.content.body ∷ [])
 
--- A mirror of identifiers.
+-- A mirror whose records stood at a point, or that has none yet.
+abbrev pub mirror_at : Kind → Option Point → List Record → List ℕ
+mirror_at kind None records = line (codes "mirror" ∷ codes "none" ∷ [])
+mirror_at kind (Some point) records = line (codes "mirror" ∷ decimal point.epoch ∷ decimal point.eid ∷ decimal (length records) ∷ []) ++ flat_map (record_line kind) records
+
+-- A mirror.
 abbrev pub mirror_text : Held → List ℕ
-mirror_text mirror = mirror_at mirror.point mirror.records
+mirror_text mirror = mirror_at mirror.kind mirror.point mirror.records
 
--- A refusal: a word, and a number.
+-- An attribute that was skipped.
+abbrev pub skipped_line : ℕ → ℕ → List ℕ
+skipped_line vendor attr_type = line (codes "skipped" ∷ decimal vendor ∷ decimal attr_type ∷ [])
+
+-- A fault: the number of its error code, and its place in the input.
+abbrev pub fault_line : ℕ → ℕ → List ℕ
+fault_line code place = line (codes "fault" ∷ decimal code ∷ decimal place ∷ [])
+
+-- Another refusal: a word, and a number.
 abbrev pub refusal : List ℕ → ℕ → List ℕ
 refusal word number = line (word ∷ decimal number ∷ [])

@@ -1,6 +1,17 @@
 -- The words of the command line.
-use Rattle.std.specs.Prelude.{◌≡◌, ℕ, List, [], ◌∷◌, codes}
+use Rattle.std.specs.Prelude.{◌≡◌, ◌⊎◌, ℕ, List, [], ◌∷◌, codes}
+use Rattle.swima_model.specs.declared.report.Kind.{Kind}
+use Rattle.swima_model.specs.declared.report.Kind.TheVariants.{Ids, Full}
+
+-- The word for a kind of reports.
+abbrev pub kind_word : Kind → List ℕ
+kind_word Ids = codes "ids"
+kind_word Full = codes "full"
+
+-- The words are `mirror` with a kind.
+abbrev pub IsMirror : Kind → List (List ℕ) → Type 0
+IsMirror kind words = words ≡ codes "mirror" ∷ kind_word kind ∷ []
 
 -- The words are a command line.
 abbrev pub IsCommandLine : List (List ℕ) → Type 0
-IsCommandLine words = words ≡ codes "mirror" ∷ codes "ids" ∷ []
+IsCommandLine words = IsMirror Ids words ⊎ IsMirror Full words

@@ -1,6 +1,7 @@
 //! The words of the command line.
 
 ghost use Rattle.std.specs.Prelude.{◌≡◌, ◌↔◌, IsSome, IfSome, map};
+ghost use Rattle.swid_cli.specs.Commands.{Says};
 ghost use Rattle.swid_cli.specs.Words.{IsCommandLine};
 
 use swima_model::Kind;
@@ -8,17 +9,18 @@ use swima_model::Kind;
 /// A command that waits for nobody.
 #[derive(Clone, Copy, Debug, PartialEq, Eq)]
 pub enum Command {
-    /// `mirror ids`: take the inventories that come in, and show what a mirror holds then.
+    /// `mirror ids` or `mirror full`: take the reports of a kind that come in, and show what a mirror holds then.
     Mirror(Kind),
 }
 
 /// The command that the words say; `None` exactly where they are no command line.
 pub fn command_of(words: &[&str]) -> Option<Command>
     ensures known { IsSome result ↔ IsCommandLine (map (λ word. word.now) words.now) }
-    ensures ids { IfSome result (λ command. command ≡ Command.Mirror Kind.Ids) }
+    ensures said { IfSome result (λ command. Says command (map (λ word. word.now) words.now)) }
 {
     match words {
         ["mirror", "ids"] => Some(Command::Mirror(Kind::Ids)),
+        ["mirror", "full"] => Some(Command::Mirror(Kind::Full)),
         _ => None,
     }
 }

@@ -1,21 +1,15 @@
 //! The first attribute of what is left of the input.
 
-ghost use Rattle.std.specs.Prelude.{◌≡◌, ◌<◌, ◌≤◌, ◌^◌, not, IfOk, length};
-ghost use Rattle.swid_cli.specs.Front.{HEADER_OCTETS, cut, is_bad_length, is_inventory};
+ghost use Rattle.std.specs.Prelude.{◌≡◌, ◌<◌, ◌≤◌, ◌^◌, IfOk};
+ghost use Rattle.swid_cli.specs.Front.{cut};
 ghost use Rattle.swid_cli.specs.Steps.{IsWithin, TakesFront};
 ghost use Rattle.swid_cli.specs.Stream.{INPUT_OCTETS};
 ghost use Rattle.wire_base.specs.Outside.{HasCause};
 ghost use Rattle.wire_base.specs.Passing.{is_fault};
 
+use crate::header::{HEADER, Header, HeaderFault};
 use std::alloc::Global;
-use swima_reports::SOFTWARE_IDENTIFIER_INVENTORY;
-use wire_base::{List, Octets, Source, Stopped, fill, u24_at, u32_at};
-
-/// How many octets the header of an attribute has (RFC 5792, section 4.1).
-pub const HEADER: usize = 12;
-
-/// The most octets of an attribute.
-const MOST_ATTRIBUTE_OCTETS: u32 = 16777216;
+use wire_base::{List, Octets, Source, Stopped, fill};
 
 /// What stands first in what is left of the input.
 #[derive(Debug, Drop)]
@@ -26,12 +20,10 @@ pub enum Front {
     Torn(u32),
     /// The input has more octets than it may have.
     Limit,
-    /// The length of an attribute is below that of its header, or above the most octets of an attribute.
-    BadLength,
-    /// An attribute of another vendor or type.
-    OtherAttribute,
-    /// A whole attribute, with its header.
-    Whole(Octets),
+    /// The header of an attribute has a fault.
+    Faulty(HeaderFault),
+    /// A whole attribute: what its header says, and all its octets.
+    Whole(Header, Octets),
 }
 
 /// Takes the first attribute of what is left of the input, of which `room` octets may be looked at. It reads no octet
@@ -48,19 +40,16 @@ pub fn take_front<S: Source>(alloc: Global, input: &mut S, room: usize) -> Resul
     if held.len().min(room) < HEADER {
         return Ok(cut(room, held.len()));
     }
-    let length = u32_at(held.as_slice(), 8);
-    if is_bad_length(length) {
-        return Ok(Front::BadLength);
+    let header = Header::of(held.as_slice());
+    if let Some(fault) = header.fault() {
+        return Ok(Front::Faulty(fault));
     }
-    if !is_inventory(held.as_slice()) {
-        return Ok(Front::OtherAttribute);
-    }
-    let length = length as usize;
+    let length = header.length as usize;
     fill(input, &mut held, length.min(room + 1))?;
     if held.len().min(room) < length {
         return Ok(cut(room, held.len()));
     }
-    Ok(Front::Whole(held))
+    Ok(Front::Whole(header, held))
 }
 
 /// What stands first where the `held` octets that are left are no whole attribute.
@@ -75,21 +64,4 @@ fn cut(room: usize, held: usize) -> Front
     } else {
         Front::Torn(held as u32)
     }
-}
-
-/// Whether no attribute has this length.
-fn is_bad_length(length: u32) -> bool
-    ensures bad { result ≡ is_bad_length length }
-{
-    length < HEADER as u32 || MOST_ATTRIBUTE_OCTETS < length
-}
-
-/// Whether the header is that of a Software Identifier Inventory.
-fn is_inventory(header: &[u8]) -> bool
-    requires { HEADER_OCTETS ≤ length header.now }
-    ensures inventory { result ≡ is_inventory header.now }
-{
-    let vendor = u24_at(header, 1);
-    let kind = u32_at(header, 4);
-    vendor == 0 && kind == SOFTWARE_IDENTIFIER_INVENTORY
 }

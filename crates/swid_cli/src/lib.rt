@@ -7,8 +7,11 @@
 #![tactic(auto)]
 
 mod command;
+#[cfg(test)]
+mod cut_tests;
 mod escape;
 mod front;
+mod header;
 pub mod laws;
 mod mirror;
 mod run;

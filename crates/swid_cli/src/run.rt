@@ -1,10 +1,12 @@
 //! The top call.
 
 ghost use Rattle.std.specs.Prelude.{◌≡◌, ◌≢◌, ◌≤◌, ◌⊎◌, ◌↔◌, List, ℕ, IfSome, map};
+ghost use Rattle.swid_cli.specs.Answering.{AllAnswer, PrintsRight};
 ghost use Rattle.swid_cli.specs.Run.{Prints, status_of, usage};
 ghost use Rattle.swid_cli.specs.Stream.{stream_text};
-ghost use Rattle.swid_cli.specs.Words.{IsCommandLine};
-ghost use Rattle.swima_model.specs.declared.report.Kind.TheVariants.{Ids};
+ghost use Rattle.swid_cli.specs.Words.{IsCommandLine, IsMirror};
+ghost use Rattle.swima_model.specs.History.{History, IsHonest};
+ghost use Rattle.swima_model.specs.declared.report.Kind.{Kind as KindValue};
 ghost use Rattle.wire_base.specs.Outside.{Adds, Rose};
 ghost use Rattle.wire_base.specs.Passing.{AddsFront};
 
@@ -38,14 +40,23 @@ pub fn run_plain<S: Source, K: Sink, F: Files>(
 
     // Words that are one: of an input that tells its octets, the text, the status and what is left of the input are those
     // of these octets; where a call failed or memory was wanting, a front of the text was printed.
-    ensures printed { result ≢ 2 → result ≢ 3 → result ≢ 4
+    ensures printed { result ≢ 3 → result ≢ 4 → (kind : KindValue)
+        → IsMirror kind (map (λ word. word.now) words.now)
         → IfSome (S.left input.old) (λ octets.
-        Prints (stream_text Ids octets) (S.left input.new)
+        Prints (stream_text kind octets) (S.left input.new)
         (K.written output.old) (K.written output.new) result) }
-    ensures front { result ≢ 2
+    ensures front { (kind : KindValue)
+        → IsMirror kind (map (λ word. word.now) words.now)
         → IfSome (S.left input.old) (λ octets.
         AddsFront (K.written output.old) (K.written output.new)
-        (stream_text Ids octets).text) }
+        (stream_text kind octets).text) }
+
+    // At status 0 what was printed ends with a mirror that is right over each honest history from which the reports answer.
+    ensures right { result ≡ 0 → (kind : KindValue)
+        → IsMirror kind (map (λ word. word.now) words.now)
+        → IfSome (S.left input.old) (λ octets. (history : History)
+        → IsHonest history → AllAnswer history kind octets
+        → PrintsRight history (K.written output.old) (K.written output.new)) }
 
     // Status 3 tells a fault, no other status hides one, and no count falls.
     ensures fault { result ≡ 3

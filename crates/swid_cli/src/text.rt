@@ -1,12 +1,13 @@
 //! The lines that commands print.
 
-ghost use Rattle.std.specs.Prelude.{◌≡◌, ◌≢◌, ◌++◌, IfOk, OnOk, string_bytes};
+ghost use Rattle.std.specs.Prelude.{◌≡◌, ◌≢◌, ◌∷◌, ◌++◌, [], IfOk, OnOk, string_bytes};
 ghost use Rattle.std.specs.List.{flat_map};
-ghost use Rattle.swid_cli.specs.Text.{mirror_text, record_line, refusal, took_inventory, took_line};
+ghost use Rattle.swid_cli.specs.Text.{body_text, fault_line, mirror_text, record_line, refusal, skipped_line, took, took_line};
 
 use crate::escape::push_escaped;
+use sha2::{Digest, Sha256};
 use std::alloc::Global;
-use swima_model::{Point, Record, Report};
+use swima_model::{Kind, Point, Record, Report};
 use validator_core::{Mirror, Taken};
 use wire_base::{List, Memory, Octets};
 
@@ -16,14 +17,13 @@ pub fn took_line(alloc: Global, report: &Report, taken: Taken) -> Result<Octets,
     ensures answered { OnOk result (taken ≢ Taken.Memory) }
 {
     match report {
-        Report::Inventory { point, records, .. } => {
-            took_inventory(alloc, *point, records.len(), taken)
-        }
+        Report::Inventory { point, records, .. } => took(alloc, *point, records.len(), taken),
+        Report::Events { point, events, .. } => took(alloc, *point, events.len(), taken),
     }
 }
 
-fn took_inventory(alloc: Global, point: Point, count: usize, taken: Taken) -> Result<Octets, Memory>
-    ensures line { IfOk result (λ made. made ≡ took_inventory point count taken) }
+fn took(alloc: Global, point: Point, count: usize, taken: Taken) -> Result<Octets, Memory>
+    ensures line { IfOk result (λ made. made ≡ took point count taken) }
     ensures answered { OnOk result (taken ≢ Taken.Memory) }
 {
     match taken {
@@ -38,7 +38,25 @@ fn took_inventory(alloc: Global, point: Point, count: usize, taken: Taken) -> Re
             let eid = point.eid;
             Ok(from_string(format!(in alloc; "took adopted {epoch} {eid} {count}\n")?))
         }
+        Taken::OtherEpoch { have, got } => other_epoch(alloc, have, got),
+        Taken::Gap { have, got } => Ok(from_string(format!(in alloc; "took gap {have} {got}\n")?)),
+        Taken::Contradiction { eid } => {
+            Ok(from_string(format!(in alloc; "took contradiction {eid}\n")?))
+        }
+        Taken::Advanced { from, to } => {
+            Ok(from_string(format!(in alloc; "took advanced {from} {to}\n")?))
+        }
         Taken::Memory => Err(Memory),
+    }
+}
+
+fn other_epoch(alloc: Global, have: Option<u32>, got: u32) -> Result<Octets, Memory>
+    ensures line { IfOk result (λ made.
+        made ≡ took (record { epoch = 0; eid = 0 }) 0 (Taken.OtherEpoch have got)) }
+{
+    match have {
+        None => Ok(from_string(format!(in alloc; "took other-epoch none {got}\n")?)),
+        Some(have) => Ok(from_string(format!(in alloc; "took other-epoch {have} {got}\n")?)),
     }
 }
 
@@ -49,7 +67,21 @@ fn from_string(text: String) -> Octets
     List::from_vec(text.into_bytes())
 }
 
-/// The line of a refusal: a word and a number.
+/// The line of an attribute that was skipped.
+pub fn skipped_line(alloc: Global, vendor: u32, attr_type: u32) -> Result<Octets, Memory>
+    ensures line { IfOk result (λ made. made ≡ skipped_line vendor attr_type) }
+{
+    Ok(from_string(format!(in alloc; "skipped {vendor} {attr_type}\n")?))
+}
+
+/// The line of a fault: the number of its error code, and its place in the input.
+pub fn fault_line(alloc: Global, code: u32, place: u32) -> Result<Octets, Memory>
+    ensures line { IfOk result (λ made. made ≡ fault_line code place) }
+{
+    Ok(from_string(format!(in alloc; "fault {code} {place}\n")?))
+}
+
+/// The line of another refusal: a word and a number.
 pub fn refusal(alloc: Global, word: &str, number: u32) -> Result<Octets, Memory>
     ensures line { IfOk result (λ made. made ≡ refusal word.now number) }
 {
@@ -67,31 +99,51 @@ pub fn mirror_text(alloc: Global, mirror: &Mirror) -> Result<Octets, Memory>
     let eid = point.eid;
     let count = mirror.count();
     let mut out = from_string(format!(in alloc; "mirror {epoch} {eid} {count}\n")?);
-    push_records(alloc, &mut out, mirror.records())?;
+    push_records(alloc, &mut out, mirror.kind(), mirror.records())?;
     Ok(out)
 }
 
-fn push_records(alloc: Global, out: &mut Octets, records: &[Record]) -> Result<(), Memory>
-    ensures lines { OnOk result (out.new ≡ out.old ++ flat_map record_line records.now) }
+fn push_records(
+    alloc: Global,
+    out: &mut Octets,
+    kind: Kind,
+    records: &[Record],
+) -> Result<(), Memory>
+    ensures lines { OnOk result (out.new ≡ out.old ++ flat_map (record_line kind) records.now) }
 {
     for record in records {
-        push_record(alloc, out, record)?;
+        push_record(alloc, out, kind, record)?;
     }
     Ok(())
 }
 
 #[tactic(auto, unfolding(crate::specs::Text::record_line))]
-fn push_record(alloc: Global, out: &mut Octets, added: &Record) -> Result<(), Memory>
-    ensures line { OnOk result (out.new ≡ out.old ++ record_line added.now) }
+fn push_record(alloc: Global, out: &mut Octets, kind: Kind, added: &Record) -> Result<(), Memory>
+    ensures line { OnOk result (out.new ≡ out.old ++ record_line kind added.now) }
 {
     let id = added.id;
     let pen = added.content.model.pen;
-    let kind = added.content.model.kind;
+    let model = added.content.model.kind;
     let source = added.content.source;
-    let numbers = format!(in alloc; "record {id} {pen}/{kind} {source} ")?;
+    let numbers = format!(in alloc; "record {id} {pen}/{model} {source} ")?;
     out.extend(numbers.as_bytes())?;
     push_escaped(out, added.content.ident.bytes())?;
     out.push(b' ')?;
     push_escaped(out, added.content.locator.bytes())?;
-    out.extend(b" -\n")
+    push_body(alloc, out, kind, added.content.body.bytes())
+}
+
+/// Puts the last word of a record's line at the end of `out`, with the space before it and the line feed behind it.
+fn push_body(alloc: Global, out: &mut Octets, kind: Kind, body: &[u8]) -> Result<(), Memory>
+    ensures body { OnOk result (out.new ≡ out.old ++ 32 ∷ (body_text kind body.now ++ 10 ∷ [])) }
+{
+    match kind {
+        Kind::Ids => out.extend(b" -\n"),
+        Kind::Full => {
+            let length = body.len();
+            let digest = hex::encode(alloc, Sha256::digest(body))?;
+            let text = format!(in alloc; " {length}:{digest}\n")?;
+            out.extend(text.as_bytes())
+        }
+    }
 }

@@ -1,0 +1,5 @@
+pub mod Repeats
+pub mod Rises
+pub mod Placing
+pub mod Living
+pub mod OfKind

@@ -1,3 +1,10 @@
 pub mod Bounded
 pub mod DataModel
+pub mod Doubled
+pub mod History
+pub mod InOrder
+pub mod Kinds
+pub mod Live
+pub mod Repeated
+pub mod Rising
 pub mod Size

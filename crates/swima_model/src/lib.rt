@@ -6,14 +6,19 @@
 #![tactic(auto)]
 
 mod bounded;
+mod event;
+pub mod laws;
 mod record;
 mod report;
+mod size;
 
 pub use bounded::{
     Body, BodyLimit, Bounded, Ident, IdentLimit, Limit, Locator, LocatorLimit, LongRefused,
 };
+pub use event::{Action, Event, Events};
 pub use record::{Content, Model, Record, Records};
 pub use report::{Kind, Point, Report};
+pub use size::size_of;
 
 #[cfg(test)]
 mod tests;

@@ -1,5 +1,6 @@
 //! Reports of an endpoint's software.
 
+use crate::event::Events;
 use crate::record::Records;
 use wire_base::{Memory, TryCopy};
 
@@ -49,6 +50,21 @@ pub enum Report {
         /// The records.
         records: Records,
     },
+    /// The changes up to a point (RFC 8412, sections 5.8 and 5.10).
+    Events {
+        /// Whether bodies are carried.
+        kind: Kind,
+        /// Whether the report fulfils a subscription.
+        fulfil: bool,
+        /// The identifier of the request that it answers.
+        id: u32,
+        /// The point of the collector when it answered.
+        point: Point,
+        /// The event identifier up to which events were looked at, at most that of the point.
+        consulted: u32,
+        /// The events.
+        events: Events,
+    },
 }
 
 impl TryCopy for Report {
@@ -66,6 +82,21 @@ impl TryCopy for Report {
                 id: *id,
                 point: *point,
                 records: records.copy()?,
+            }),
+            Report::Events {
+                kind,
+                fulfil,
+                id,
+                point,
+                consulted,
+                events,
+            } => Ok(Report::Events {
+                kind: *kind,
+                fulfil: *fulfil,
+                id: *id,
+                point: *point,
+                consulted: *consulted,
+                events: events.copy()?,
             }),
         }
     }

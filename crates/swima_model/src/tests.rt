@@ -1,8 +1,11 @@
 //! Each public call with ample memory, and the limits on both sides.
 
+ghost use Rattle.std.specs.Prelude.{◌<◌, ◌^◌, IfOk};
+ghost use Rattle.swima_model.specs.Size.{report_count};
+
 use crate::{
-    Body, BodyLimit, Bounded, Content, Ident, IdentLimit, Kind, Limit, Locator, LocatorLimit,
-    LongRefused, Model, Point, Record, Report,
+    Action, Body, BodyLimit, Bounded, Content, Event, Ident, IdentLimit, Kind, Limit, Locator,
+    LocatorLimit, LongRefused, Model, Point, Record, Report, size_of,
 };
 use std::alloc::Global;
 use std::process::Abort;
@@ -72,11 +75,16 @@ const MODEL: Model = Model {
 
 const POINT: Point = Point { epoch: 5, eid: 6 };
 
-fn report_of(alloc: Global) -> Result<Report, Fail> {
+fn report_of(alloc: Global) -> Result<Report, Fail>
+    ensures few { IfOk result (λ report. report_count report < 2 ^ 32) }
+{
     let mut records = List::new(alloc);
     for (id, ident) in [(7, "first"), (4_294_967_295, "second")] {
         let content = content_of(alloc, MODEL, ident.as_bytes())?;
         records.push(Record { id, content })?;
+    }
+    if records.len() > 2 {
+        return Err("more than two records".into());
     }
     Ok(Report::Inventory {
         kind: Kind::Full,
@@ -91,14 +99,19 @@ fn report_of(alloc: Global) -> Result<Report, Fail> {
 fn a_copy_of_a_report_equals_it(rt: HostRuntime) -> Result<(), Fail> {
     let report = report_of(rt.alloc())?;
     let copy = report.copy()?;
-    let Report::Inventory { records, .. } = &report;
+    let Report::Inventory { records, .. } = &report else {
+        return Err("no inventory".into());
+    };
     let Report::Inventory {
         kind,
         fulfil,
         id,
         point,
         records: copies,
-    } = &copy;
+    } = &copy
+    else {
+        return Err("no copy of an inventory".into());
+    };
     assert_eq!(rt;
         (*kind, *fulfil, *id, *point),
         (Kind::Full, true, 11, POINT)
@@ -113,6 +126,73 @@ fn a_copy_of_a_report_equals_it(rt: HostRuntime) -> Result<(), Fail> {
     Ok(())
 }
 
+const STAMP: [u8; 20] = *b"2026-02-03T04:05:06Z";
+
+fn events_of(alloc: Global) -> Result<Report, Fail>
+    ensures few { IfOk result (λ report. report_count report < 2 ^ 32) }
+{
+    let mut events = List::new(alloc);
+    for (eid, action) in [
+        (8, Action::Creation),
+        (9, Action::Alteration),
+        (10, Action::Deletion),
+    ] {
+        let content = content_of(alloc, MODEL, b"swid")?;
+        let subject = Record { id: 7, content };
+        events.push(Event {
+            eid,
+            stamp: STAMP,
+            action,
+            subject,
+        })?;
+    }
+    if events.len() > 3 {
+        return Err("more than three events".into());
+    }
+    Ok(Report::Events {
+        kind: Kind::Ids,
+        fulfil: true,
+        id: 12,
+        point: POINT,
+        consulted: 4,
+        events,
+    })
+}
+
+#[test]
+fn a_copy_of_events_equals_them(rt: HostRuntime) -> Result<(), Fail> {
+    let report = events_of(rt.alloc())?;
+    let Report::Events { events, .. } = &report else {
+        return Err("no events".into());
+    };
+    let Report::Events {
+        kind,
+        fulfil,
+        id,
+        point,
+        consulted,
+        events: copies,
+    } = &report.copy()?
+    else {
+        return Err("no copy of events".into());
+    };
+    assert_eq!(rt;
+        (*kind, *fulfil, *id, *point, *consulted),
+        (Kind::Ids, true, 12, POINT, 4)
+    );
+    assert_eq!(rt; copies.len(), 3);
+    for place in 0..3 {
+        let event = events.get(place).ok_or("an event")?;
+        let copied = copies.get(place).ok_or("a copy")?;
+        assert_eq!(rt;
+            (copied.eid, copied.stamp, copied.action, copied.subject.id),
+            (event.eid, event.stamp, event.action, event.subject.id)
+        );
+        expect_same_content(&rt, &copied.subject.content, &event.subject.content);
+    }
+    Ok(())
+}
+
 #[test]
 fn copies_equal_their_originals(rt: HostRuntime) -> Result<(), Fail> {
     let content = content_of(rt.alloc(), MODEL, b"swid")?;
@@ -121,6 +201,7 @@ fn copies_equal_their_originals(rt: HostRuntime) -> Result<(), Fail> {
         (MODEL.copy()?, Kind::Ids.copy()?, POINT.copy()?),
         (MODEL, Kind::Ids, POINT)
     );
+    assert_eq!(rt; Action::Alteration.copy()?, Action::Alteration);
     Ok(())
 }
 
@@ -129,6 +210,16 @@ fn octets_are_those_of_ident_locator_and_body(rt: HostRuntime) -> Result<(), Fai
     let model = Model { pen: 0, kind: 0 };
     let content = content_of(rt.alloc(), model, b"swid")?;
     assert_eq!(rt; content.octets(), 4 + 4 + 19);
+    Ok(())
+}
+
+#[test]
+fn sizes_are_those_of_the_layouts(rt: HostRuntime) -> Result<(), Fail> {
+    let alloc = rt.alloc();
+    let records = 18 + 5 + 4 + 19 + 18 + 6 + 4 + 19;
+    assert_eq!(rt; size_of(&report_of(alloc)?), 16 + records);
+    let events = 3 * (38 + 4 + 4);
+    assert_eq!(rt; size_of(&events_of(alloc)?), 20 + events);
     Ok(())
 }
 

@@ -1,1 +1,1 @@
-pub mod InventoryLaws
+pub mod ReportLaws

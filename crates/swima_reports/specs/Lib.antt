@@ -1,2 +1,4 @@
-pub mod Inventory
-pub mod InventoryReading
+pub mod ActionNumber
+pub mod ReportType
+pub mod ReportForm
+pub mod ReportReading

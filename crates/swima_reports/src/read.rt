@@ -2,21 +2,32 @@
 
 ghost use Rattle.std.specs.Prelude.{◌≡◌, ◌+◌, ◌<◌, ◌≤◌, ◌^◌, Ok, IfOk, length};
 ghost use Rattle.swima_model.specs.declared.report.Report.{Report as ReportValue};
-ghost use Rattle.swima_reports.specs.Inventory.{InventoryForm};
-ghost use Rattle.swima_reports.specs.InventoryReading.{read_record, read_inventory};
-ghost use Rattle.wire_base.specs.Reading.{Gives, counted, several, value_alone, whole};
+ghost use Rattle.swima_reports.specs.ReportForm.{ReportForm};
+ghost use Rattle.swima_reports.specs.ReportReading.{read_events, read_inventory, read_report};
+ghost use Rattle.wire_base.specs.Reading.{Gives, value_alone, whole};
 
+use crate::entry::{FEWEST_EVENT_OCTETS, FEWEST_RECORD_OCTETS, entries};
+use crate::fields::consulted;
 use std::alloc::Global;
-use swima_model::{Bounded, Content, Kind, Limit, Model, Point, Record, Records, Report};
-use wire_base::{Cursor, FieldRefused, List};
+use swima_model::{Kind, Point, Report};
+use wire_base::{Cursor, FieldRefused};
 
 /// The attribute type of a Software Identifier Inventory (RFC 8412, section 5.2).
 pub const SOFTWARE_IDENTIFIER_INVENTORY: u32 = 14;
 
+/// The attribute type of Software Identifier Events (RFC 8412, section 5.2).
+pub const SOFTWARE_IDENTIFIER_EVENTS: u32 = 15;
+
+/// The attribute type of a Software Inventory (RFC 8412, section 5.2).
+pub const SOFTWARE_INVENTORY: u32 = 16;
+
+/// The attribute type of Software Events (RFC 8412, section 5.2).
+pub const SOFTWARE_EVENTS: u32 = 17;
+
 /// The flag of a report that fulfils a subscription.
 const FULFIL: u8 = 0x80;
 
-/// The report that is the value of an attribute of type 14 (RFC 8412, section 5.7).
+/// The report that is the value of an attribute of a type from 14 to 17 (RFC 8412, sections 5.7 to 5.10).
 ///
 /// `Fault` comes exactly where the value has no form; its offset is the place of the first fault, counted from `base`,
 /// the place of the value's first octet.
@@ -26,29 +37,42 @@ pub fn read_report(
     value: &[u8],
     base: u32,
 ) -> Result<Report, FieldRefused>
-    requires kind { attr_type ≡ 14 }
+    requires first { 14 ≤ attr_type }
+    requires last { attr_type ≤ 17 }
     requires places { base + length value.now < 2 ^ 32 }
-    ensures found { IfOk result (λ report. InventoryForm report value.now) }
-    ensures only { (report : ReportValue) → InventoryForm report value.now
+    ensures found { IfOk result (λ report. ReportForm attr_type report value.now) }
+    ensures only { (report : ReportValue) → ReportForm attr_type report value.now
         → Gives (λ read. read) result (Ok report) }
-    ensures exact { Gives (λ read. read) result (whole read_inventory base value.now) }
+    ensures exact { Gives (λ read. read) result (whole (read_report attr_type) base value.now) }
 {
-    inventory(alloc, Cursor::new(base, value))
+    by_type(alloc, attr_type, Cursor::new(base, value))
 }
 
-#[tactic(auto, unfolding(crate::specs::InventoryReading::read_inventory))]
-fn inventory(alloc: Global, mut cursor: Cursor) -> Result<Report, FieldRefused>
-    ensures report { Gives (λ read. read) result (value_alone (read_inventory cursor.entry)) }
+/// The report of an attribute of the type.
+fn by_type(alloc: Global, attr_type: u32, cursor: Cursor) -> Result<Report, FieldRefused>
+    ensures report { Gives (λ read. read) result (value_alone (read_report attr_type cursor.entry)) }
+{
+    match attr_type {
+        SOFTWARE_IDENTIFIER_INVENTORY => inventory(alloc, cursor, Kind::Ids),
+        SOFTWARE_IDENTIFIER_EVENTS => events(alloc, cursor, Kind::Ids),
+        SOFTWARE_INVENTORY => inventory(alloc, cursor, Kind::Full),
+        _ => events(alloc, cursor, Kind::Full),
+    }
+}
+
+#[tactic(auto, unfolding(crate::specs::ReportReading::read_inventory))]
+fn inventory(alloc: Global, mut cursor: Cursor, kind: Kind) -> Result<Report, FieldRefused>
+    ensures report { Gives (λ read. read) result (value_alone (read_inventory kind cursor.entry)) }
 {
     let flags = cursor.u8()?;
     let count = cursor.u24()?;
     let id = cursor.u32()?;
     let epoch = cursor.u32()?;
     let eid = cursor.u32()?;
-    let records = records(alloc, &mut cursor, count)?;
+    let records = entries(alloc, &mut cursor, kind, count, FEWEST_RECORD_OCTETS)?;
     cursor.end()?;
     Ok(Report::Inventory {
-        kind: Kind::Ids,
+        kind,
         fulfil: flags & FULFIL != 0,
         id,
         point: Point { epoch, eid },
@@ -56,45 +80,24 @@ fn inventory(alloc: Global, mut cursor: Cursor) -> Result<Report, FieldRefused>
     })
 }
 
-/// The fewest octets of a record.
-const FEWEST_RECORD_OCTETS: usize = 14;
-
-fn records(alloc: Global, cursor: &mut Cursor, count: u32) -> Result<Records, FieldRefused>
-    ensures records { Gives (λ read. (read, cursor.new)) result (several count read_record cursor.old) }
+#[tactic(auto, unfolding(crate::specs::ReportReading::read_events))]
+fn events(alloc: Global, mut cursor: Cursor, kind: Kind) -> Result<Report, FieldRefused>
+    ensures report { Gives (λ read. read) result (value_alone (read_events kind cursor.entry)) }
 {
-    let fit = cursor.left() / FEWEST_RECORD_OCTETS;
-    let mut records = List::with_capacity(alloc, fit.min(count as usize))?;
-    for _ in 0..count {
-        records.push(record(alloc, cursor)?)?;
-    }
-    Ok(records)
-}
-
-#[tactic(auto, unfolding(crate::specs::InventoryReading::read_record))]
-fn record(alloc: Global, cursor: &mut Cursor) -> Result<Record, FieldRefused>
-    ensures record { Gives (λ read. (read, cursor.new)) result (read_record cursor.old) }
-{
+    let flags = cursor.u8()?;
+    let count = cursor.u24()?;
     let id = cursor.u32()?;
-    let pen = cursor.u24()?;
-    let kind = cursor.u8()?;
-    let source = cursor.u8()?;
-    cursor.octets(1)?;
-    let ident = bounded(alloc, cursor)?;
-    let locator = bounded(alloc, cursor)?;
-    let content = Content {
-        model: Model { pen, kind },
-        source,
-        ident,
-        locator,
-        body: Bounded::empty(alloc),
-    };
-    Ok(Record { id, content })
-}
-
-/// Octets counted by two octets.
-fn bounded<L: Limit>(alloc: Global, cursor: &mut Cursor) -> Result<Bounded<L>, FieldRefused>
-    requires { 65535 ≤ L.OCTETS }
-    ensures counted { Gives (λ read. (read, cursor.new)) result (counted 2 cursor.old) }
-{
-    Ok(Bounded::of(alloc, cursor.counted(2)?)?)
+    let epoch = cursor.u32()?;
+    let eid = cursor.u32()?;
+    let consulted = consulted(&mut cursor, eid)?;
+    let events = entries(alloc, &mut cursor, kind, count, FEWEST_EVENT_OCTETS)?;
+    cursor.end()?;
+    Ok(Report::Events {
+        kind,
+        fulfil: flags & FULFIL != 0,
+        id,
+        point: Point { epoch, eid },
+        consulted,
+        events,
+    })
 }

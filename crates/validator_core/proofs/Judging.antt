@@ -1,22 +1,28 @@
 -- Where a mirror stands after an answer, and what it holds.
-use Rattle.std.proofs.Common.{◌≡◌, ℕ, ◌≤◌, ltb, cond, false, not, List, length, Option, Some, None, refl, ap, subst, ltb-false}
-use Rattle.std.proofs.lemmas.Bool.{cond_both, or_parts}
-use Rattle.swima_model.specs.Size.{records_octets}
+use Rattle.std.proofs.Common.{◌≡◌, ℕ, ◌≤◌, eqb, leb, ltb, cond, false, not, List, [], length, Option, Some, None, refl, sym, ap, subst, eqb-true, ltb-false}
+use Rattle.std.proofs.lemmas.Bool.{cond_both, not-false, or_parts}
+use Rattle.swima_model.specs.Doubled.{doubled}
+use Rattle.swima_model.specs.InOrder.{ids, in_order}
+use Rattle.swima_model.specs.Live.{live}
+use Rattle.swima_model.specs.Size.{is_large, records_octets}
+use Rattle.swima_model.specs.declared.event.Event.{Event}
 use Rattle.swima_model.specs.declared.record.Record.{Record}
 use Rattle.swima_model.specs.declared.report.Kind.{Kind}
 use Rattle.swima_model.specs.declared.report.Point.{Point}
 use Rattle.swima_model.specs.declared.report.Report.{Report}
-use Rattle.swima_model.specs.declared.report.Report.TheVariants.{Inventory}
+use Rattle.swima_model.specs.declared.report.Report.TheVariants.{Inventory, Events}
+use Rattle.swima_model.proofs.Living.{live_rises}
+use Rattle.swima_model.proofs.Placing.{in_order_rising_permutation}
 use Rattle.validator_core.specs.declared.mirror.Taken.{Taken}
 use Rattle.validator_core.specs.declared.mirror.Taken.TheVariants as taken
-use Rattle.validator_core.specs.Doubled.{doubled}
+use Rattle.validator_core.specs.Following.{events_above, first_trouble, gap}
 use Rattle.validator_core.specs.Held.{Held}
-use Rattle.validator_core.specs.InOrder.{ids, in_order}
 use Rattle.validator_core.specs.Kept.{IsRising, JudgeKeepsRising}
-use Rattle.validator_core.proofs.Placing.{in_order_rising_permutation}
-use Rattle.validator_core.specs.Judge.{Judged, StandsAt, is_stale, is_large, judge, judge_inventory, judge_records, marked, same_kind}
+use Rattle.validator_core.specs.Judge.{Judged, StandsAt, is_stale, judge, judge_above, judge_events, judge_events_at, judge_inventory, judge_numbered, judge_records, marked, same_kind}
+use Rattle.validator_core.proofs.Troubles.{IsTrouble, IsTroubleIfAny, trouble_behind}
 
--- What holds of each line of the table holds of what is judged.
+-- ---- what holds of each line of the table holds of what is judged
+
 each_records_line : (P : Taken × Held → Type 0) (mirror : Held) (point : Point) (records : List Record) (found : Option ℕ) → doubled (ids records) ≡ found
     → ((id : ℕ) → P (taken.Doubled id, marked mirror))
     → P (taken.Large (length records) (records_octets records), marked mirror)
@@ -27,7 +33,7 @@ each_records_line P mirror point records None e twice large adopted =
     cond_both (is_large (length records) (records_octets records)) (taken.Large (length records) (records_octets records), marked mirror)
     (taken.Adopted, record mirror { point = Some point; records = in_order records; off = false }) P (λ _. large) (λ _. adopted e)
 
-each_line : (P : Taken × Held → Type 0) (mirror : Held) (kind : Kind) (point : Point) (records : List Record)
+pub each_line : (P : Taken × Held → Type 0) (mirror : Held) (kind : Kind) (point : Point) (records : List Record)
     → P (taken.WrongKind, mirror)
     → P (taken.Stale, mirror)
     → ((id : ℕ) → P (taken.Doubled id, marked mirror))
@@ -41,13 +47,81 @@ each_line P mirror kind point records wrong stale twice large adopted =
     cond_both (not (same_kind kind mirror.kind)) (taken.WrongKind, mirror) (cond behind (taken.Stale, mirror) taken_up) P (λ _. wrong)
     (λ _. cond_both behind (taken.Stale, mirror) taken_up P (λ _. stale) (λ _. each_records_line P mirror point records found refl twice large adopted))
 
--- What is judged stands at the report's point after `Adopted`, and where it stood after every other answer.
+-- What a mirror holds that has followed the events above the one that it held.
+abbrev pub followed : Held → Point → ℕ → List Event → Held
+followed mirror held consulted above = record mirror { point = Some (record held { eid = consulted }); records = live mirror.records above }
+
+each_above_line : (P : Taken × Held → Type 0) (mirror : Held) (held : Point) (consulted : ℕ) (above : List Event) (found : Option Taken) → IsTroubleIfAny found
+    → ((said : Taken) → IsTrouble said → P (said, marked mirror))
+    → P (taken.Advanced held.eid consulted, followed mirror held consulted above)
+    → P (judge_above mirror held consulted above found)
+each_above_line P mirror held consulted above (Some said) h trouble advanced = trouble said h
+each_above_line P mirror held consulted above None h trouble advanced = advanced
+
+each_numbered_line : (P : Taken × Held → Type 0) (mirror : Held) (held : Point) (consulted : ℕ) (events : List Event) (found : Option ℕ)
+    → ((have got : ℕ) → P (taken.Gap have got, marked mirror))
+    → ((said : Taken) → IsTrouble said → P (said, marked mirror))
+    → P (taken.Advanced held.eid consulted, followed mirror held consulted (events_above held.eid events))
+    → P (judge_numbered mirror held consulted events found)
+each_numbered_line P mirror held consulted events (Some got) gaps trouble advanced = gaps held.eid got
+each_numbered_line P mirror held consulted events None gaps trouble advanced =
+    let above = events_above held.eid events in
+    each_above_line P mirror held consulted above (first_trouble mirror.records above) (trouble_behind mirror.records [] above) trouble advanced
+
+each_events_line_at : (P : Taken × Held → Type 0) (mirror : Held) (epoch consulted : ℕ) (events : List Event) (at : Option Point)
+    → ((have : Option ℕ) → P (taken.OtherEpoch have epoch, marked mirror))
+    → P (taken.Stale, mirror)
+    → ((have got : ℕ) → P (taken.Gap have got, marked mirror))
+    → ((said : Taken) → IsTrouble said → P (said, marked mirror))
+    → ((held : Point) → at ≡ Some held → epoch ≡ held.epoch → P (taken.Advanced held.eid consulted, followed mirror held consulted (events_above held.eid events)))
+    → P (judge_events_at mirror epoch consulted events at)
+each_events_line_at P mirror epoch consulted events None other stale gaps trouble advanced = other None
+each_events_line_at P mirror epoch consulted events (Some held) other stale gaps trouble advanced =
+    let numbered = judge_numbered mirror held consulted events (gap held.eid consulted events) in
+    let of_epoch = cond (leb consulted held.eid) (taken.Stale, mirror) numbered in
+    cond_both (not (eqb epoch held.epoch)) (taken.OtherEpoch (Some held.epoch) epoch, marked mirror) of_epoch P (λ _. other (Some held.epoch))
+    (λ same. cond_both (leb consulted held.eid) (taken.Stale, mirror) numbered P (λ _. stale)
+    (λ _. each_numbered_line P mirror held consulted events (gap held.eid consulted events) gaps trouble
+    (advanced held refl (eqb-true epoch held.epoch (not-false (eqb epoch held.epoch) same)))))
+
+pub each_events_line : (P : Taken × Held → Type 0) (mirror : Held) (kind : Kind) (epoch consulted : ℕ) (events : List Event)
+    → P (taken.WrongKind, mirror)
+    → ((have : Option ℕ) → P (taken.OtherEpoch have epoch, marked mirror))
+    → P (taken.Stale, mirror)
+    → ((have got : ℕ) → P (taken.Gap have got, marked mirror))
+    → ((said : Taken) → IsTrouble said → P (said, marked mirror))
+    → ((held : Point) → mirror.point ≡ Some held → epoch ≡ held.epoch → P (taken.Advanced held.eid consulted, followed mirror held consulted (events_above held.eid events)))
+    → P (judge_events mirror kind epoch consulted events)
+each_events_line P mirror kind epoch consulted events wrong other stale gaps trouble advanced =
+    cond_both (not (same_kind kind mirror.kind)) (taken.WrongKind, mirror) (judge_events_at mirror epoch consulted events mirror.point) P (λ _. wrong)
+    (λ _. each_events_line_at P mirror epoch consulted events mirror.point other stale gaps trouble advanced)
+
+-- ---- where a mirror stands
+
 abbrev Stands : Held → Report → Taken × Held → Type 0
 Stands before report judged = StandsAt before report judged.0 judged.1
+
+trouble_stands : (mirror after : Held) (report : Report) (said : Taken) → IsTrouble said → after.point ≡ mirror.point → StandsAt mirror report said after
+trouble_stands mirror after (Inventory kind fulfil id point records) (taken.Contradiction eid) h e = e
+trouble_stands mirror after (Inventory kind fulfil id point records) (taken.Large count octets) h e = e
+trouble_stands mirror after (Events kind fulfil id point consulted events) (taken.Contradiction eid) h e = e
+trouble_stands mirror after (Events kind fulfil id point consulted events) (taken.Large count octets) h e = e
+trouble_stands mirror after report taken.WrongKind h e = absurd h
+trouble_stands mirror after report taken.Stale h e = absurd h
+trouble_stands mirror after report (taken.Doubled twice) h e = absurd h
+trouble_stands mirror after report taken.Adopted h e = absurd h
+trouble_stands mirror after report (taken.OtherEpoch have got) h e = absurd h
+trouble_stands mirror after report (taken.Gap have got) h e = absurd h
+trouble_stands mirror after report (taken.Advanced from to) h e = absurd h
+trouble_stands mirror after report taken.Memory h e = absurd h
 
 judged_stands : (mirror : Held) (report : Report) → Stands mirror report (judge mirror report)
 judged_stands mirror (Inventory kind fulfil id point records) =
     each_line (Stands mirror (Inventory kind fulfil id point records)) mirror kind point records refl refl (λ _. refl) refl (λ _. refl)
+judged_stands mirror (Events kind fulfil id point consulted events) =
+    each_events_line (Stands mirror (Events kind fulfil id point consulted events)) mirror kind point.epoch consulted events refl (λ _. refl) refl (λ _ _. refl)
+    (λ said h. trouble_stands mirror (marked mirror) (Events kind fulfil id point consulted events) said h refl)
+    (λ held _ same. ap (λ (epoch : ℕ). Some (record point { epoch = epoch; eid = consulted })) (sym same))
 
 pub answered_stands : (before : Held) (report : Report) (answer : Taken) (after : Held) → Judged before (judge before report) answer after → StandsAt before report answer after
 answered_stands before report taken.WrongKind after h = subst (Stands before report) h (judged_stands before report)
@@ -55,12 +129,22 @@ answered_stands before report taken.Stale after h = subst (Stands before report)
 answered_stands before report (taken.Doubled id) after h = subst (Stands before report) h (judged_stands before report)
 answered_stands before report (taken.Large count octets) after h = subst (Stands before report) h (judged_stands before report)
 answered_stands before report taken.Adopted after h = subst (Stands before report) h (judged_stands before report)
-answered_stands before report taken.Memory after h = ap (λ (mirror : Held). mirror.point) h.1
+answered_stands before report (taken.OtherEpoch have got) after h = subst (Stands before report) h (judged_stands before report)
+answered_stands before report (taken.Gap have got) after h = subst (Stands before report) h (judged_stands before report)
+answered_stands before report (taken.Contradiction eid) after h = subst (Stands before report) h (judged_stands before report)
+answered_stands before report (taken.Advanced from to) after h = subst (Stands before report) h (judged_stands before report)
+answered_stands before (Inventory kind fulfil id point records) taken.Memory after h = ap (λ (mirror : Held). mirror.point) h.1
+answered_stands before (Events kind fulfil id point consulted events) taken.Memory after h = ap (λ (mirror : Held). mirror.point) h.1
+
+-- ---- what a mirror holds
 
 -- What is judged holds each identifier below the next, where that was so before.
 pub judge_keeps_rising : JudgeKeepsRising
 judge_keeps_rising mirror (Inventory kind fulfil id point records) up =
     each_line (λ (judged : Taken × Held). IsRising judged.1) mirror kind point records up up (λ _. up) up (in_order_rising_permutation records).strict
+judge_keeps_rising mirror (Events kind fulfil id point consulted events) up =
+    each_events_line (λ (judged : Taken × Held). IsRising judged.1) mirror kind point.epoch consulted events up (λ _. up) up (λ _ _. up) (λ _ _. up)
+    (λ held _ _. live_rises mirror.records (events_above held.eid events) up)
 
 -- Records that are not too many fit into a mirror.
 pub count_fits : (count octets : ℕ) → is_large count octets ≡ false → count ≤ 65536

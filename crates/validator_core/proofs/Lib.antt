@@ -1,4 +1,9 @@
-pub mod Repeats
-pub mod Rises
-pub mod Placing
+pub mod Epochs
+pub mod Gaps
+pub mod Growing
 pub mod Judging
+pub mod Mentioning
+pub mod Numbered
+pub mod Righting
+pub mod Tallying
+pub mod Troubles

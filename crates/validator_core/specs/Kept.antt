@@ -2,7 +2,7 @@
 use Rattle.std.specs.List.Sorted.{IsStrictlyIncreasing}
 use Rattle.swima_model.specs.declared.report.Report.{Report}
 use Rattle.validator_core.specs.Held.{Held}
-use Rattle.validator_core.specs.InOrder.{ids}
+use Rattle.swima_model.specs.InOrder.{ids}
 use Rattle.validator_core.specs.Judge.{judge}
 
 -- Each identifier that is held is below the next.

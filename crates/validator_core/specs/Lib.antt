@@ -1,7 +1,9 @@
+pub mod Following
+pub mod Growth
 pub mod Held
-pub mod InOrder
-pub mod Doubled
 pub mod Judge
-pub mod Repeated
-pub mod Rising
 pub mod Kept
+pub mod Mentions
+pub mod Right
+pub mod Want
+pub mod Tally

@@ -2,9 +2,9 @@
 
 ghost use Rattle.std.specs.Prelude.{◌≡◌, IfOk};
 ghost use Rattle.std.specs.List.Sorted.{IsNonDecreasing};
-ghost use Rattle.validator_core.specs.Doubled.{doubled};
-ghost use Rattle.validator_core.specs.InOrder.{ids};
-ghost use Rattle.validator_core.specs.Repeated.{IsLeastRepeated};
+ghost use Rattle.swima_model.specs.Doubled.{doubled};
+ghost use Rattle.swima_model.specs.InOrder.{ids};
+ghost use Rattle.swima_model.specs.Repeated.{IsLeastRepeated};
 
 use swima_model::{Record, Records};
 use wire_base::Memory;

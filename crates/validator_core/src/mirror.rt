@@ -2,16 +2,22 @@
 
 ghost use Rattle.std.specs.Prelude.{◌≡◌, ◌<◌, ◌≤◌, ◌^◌, [], None, Some, false, IfOk, OnErr, length, slice_get};
 ghost use Rattle.std.specs.Option.{option_copied};
-ghost use Rattle.validator_core.specs.Doubled.{doubled as smallest_doubled};
+ghost use Rattle.swima_model.specs.Doubled.{doubled as smallest_doubled};
+ghost use Rattle.validator_core.specs.Following.{events_above, first_trouble, gap};
 ghost use Rattle.validator_core.specs.Held.{Held, empty_mirror};
-ghost use Rattle.validator_core.specs.InOrder.{ids};
-ghost use Rattle.validator_core.specs.Judge.{Judged, StandsAt, is_stale, is_large, judge, judge_inventory, judge_records, record_count};
+ghost use Rattle.swima_model.specs.InOrder.{ids};
+ghost use Rattle.swima_model.specs.Size.{is_large, report_count};
+ghost use Rattle.validator_core.specs.Judge.{Judged, StandsAt, is_stale, judge, judge_above, judge_events, judge_inventory, judge_numbered, judge_records};
+ghost use Rattle.validator_core.specs.Right.{StaysRight};
 
 use crate::doubled::doubled;
+use crate::follow::follow;
+use crate::gap::gap;
 use crate::order::{in_order, records_octets};
+use crate::trouble::first_trouble;
 use std::alloc::Global;
 use std::marker::Model;
-use swima_model::{Kind, Point, Record, Records, Report};
+use swima_model::{Events, Kind, Point, Record, Records, Report};
 use wire_base::{List, Memory};
 
 /// The most records that a mirror holds.
@@ -42,6 +48,32 @@ pub enum Taken {
     },
     /// The inventory stands in place of what the mirror held.
     Adopted,
+    /// The events are of another epoch than the mirror's, or the mirror has none.
+    OtherEpoch {
+        /// The mirror's epoch.
+        have: Option<u32>,
+        /// The epoch of the report.
+        got: u32,
+    },
+    /// The events do not follow on the mirror's, one by one up to the last that was consulted.
+    Gap {
+        /// The mirror's event identifier.
+        have: u32,
+        /// The first event identifier that differs; 0 where the events end too early.
+        got: u32,
+    },
+    /// An event creates a record that is held, or alters or deletes one that is not.
+    Contradiction {
+        /// The event identifier of the first such event.
+        eid: u32,
+    },
+    /// The events were followed.
+    Advanced {
+        /// The event identifier at which the mirror stood.
+        from: u32,
+        /// That at which it stands, the last that was consulted.
+        to: u32,
+    },
     /// Want of memory; the mirror is as it was.
     Memory,
 }
@@ -57,13 +89,15 @@ pub struct Mirror {
 
 impl Model for Mirror {
     ghost use Rattle.std.specs.Prelude.{◌≤◌, length};
+    ghost use Rattle.std.specs.List.Sorted.{IsStrictlyIncreasing};
+    ghost use Rattle.swima_model.specs.InOrder.{ids};
     ghost use Rattle.validator_core.specs.Held.{Held};
 
     ghost Value = { Held };
 
     ghost view = { λ mirror. record { kind = mirror.kind; point = mirror.point; records = mirror.records; off = mirror.off } };
 
-    ghost invariant = { λ mirror. length mirror.records ≤ 65536 };
+    ghost invariant = { λ mirror. (length mirror.records ≤ 65536) × IsStrictlyIncreasing (ids mirror.records) };
 }
 
 impl Mirror {
@@ -123,10 +157,11 @@ impl Mirror {
     }
 
     /// Takes a report: the answer and what the mirror holds then are the first line of the table that fits. Want of
-    /// memory stands for `Doubled`, `Large` or `Adopted` alone and leaves the mirror as it was.
+    /// memory stands for `Doubled`, `Large`, `Adopted`, `Contradiction` or `Advanced` alone and leaves the mirror as it was.
     pub fn take(&mut self, report: &Report) -> Taken
-        requires { record_count report.now < 2 ^ 32 }
+        requires { report_count report.now < 2 ^ 32 }
         ensures judged { Judged self.old (judge self.old report.now) result self.new }
+        ensures right { StaysRight self.old report.now result self.new }
         ensures stands { StandsAt self.old report.now result self.new }
     {
         match report {
@@ -136,6 +171,13 @@ impl Mirror {
                 records,
                 ..
             } => self.take_inventory(*kind, *point, records),
+            Report::Events {
+                kind,
+                point,
+                consulted,
+                events,
+                ..
+            } => self.take_events(*kind, point.epoch, *consulted, events),
         }
     }
 
@@ -193,10 +235,83 @@ impl Mirror {
         self.off = false;
         Ok(Taken::Adopted)
     }
+
+    fn take_events(&mut self, kind: Kind, epoch: u32, consulted: u32, events: &Events) -> Taken
+        ensures judged { Judged self.old (judge_events self.old kind epoch consulted events.now)
+            result self.new }
+    {
+        if kind != self.kind {
+            return Taken::WrongKind;
+        }
+        let Some(held) = self.point else {
+            self.off = true;
+            return Taken::OtherEpoch {
+                have: None,
+                got: epoch,
+            };
+        };
+        if epoch != held.epoch {
+            self.off = true;
+            return Taken::OtherEpoch {
+                have: Some(held.epoch),
+                got: epoch,
+            };
+        }
+        if consulted <= held.eid {
+            return Taken::Stale;
+        }
+        self.take_later(held, consulted, events)
+    }
+
+    /// Takes events of the mirror's epoch that were consulted up to above its event identifier.
+    fn take_later(&mut self, held: Point, consulted: u32, events: &Events) -> Taken
+        requires later { held.eid ≤ consulted }
+        ensures judged { Judged self.old
+            (judge_numbered self.old held consulted events.now (gap held.eid consulted events.now))
+            result self.new }
+    {
+        if let Some(got) = gap(held.eid, consulted, events) {
+            self.off = true;
+            let have = held.eid;
+            return Taken::Gap { have, got };
+        }
+        match self.take_following(held, consulted, events) {
+            Ok(taken) => taken,
+            Err(Memory) => Taken::Memory,
+        }
+    }
+
+    /// Takes events without a gap.
+    fn take_following(
+        &mut self,
+        held: Point,
+        consulted: u32,
+        events: &Events,
+    ) -> Result<Taken, Memory>
+        ensures judged { IfOk result (λ answer.
+            judge_above self.old held consulted (events_above held.eid events.now)
+            (first_trouble self.old.records (events_above held.eid events.now))
+            ≡ (answer, self.new)) }
+        ensures memory { OnErr result (self.new ≡ self.old) }
+    {
+        if let Some(trouble) = first_trouble(&self.records, held.eid, events)? {
+            self.off = true;
+            return Ok(trouble);
+        }
+        follow(&mut self.records, held.eid, events)?;
+        self.point = Some(Point {
+            epoch: held.epoch,
+            eid: consulted,
+        });
+        Ok(Taken::Advanced {
+            from: held.eid,
+            to: consulted,
+        })
+    }
 }
 
 /// Whether so many records with so many octets are more than a mirror holds.
-fn is_large(count: usize, octets: u64) -> bool
+pub fn is_large(count: usize, octets: u64) -> bool
     ensures large { result ≡ is_large count octets }
 {
     count > MOST_RECORDS || octets > MOST_OCTETS

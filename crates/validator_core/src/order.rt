@@ -2,7 +2,7 @@
 
 ghost use Rattle.std.specs.Prelude.{◌≡◌, ◌<◌, ◌^◌, IfOk, length};
 ghost use Rattle.swima_model.specs.Size.{records_octets};
-ghost use Rattle.validator_core.specs.InOrder.{in_order};
+ghost use Rattle.swima_model.specs.InOrder.{in_order};
 
 use swima_model::Records;
 use wire_base::{List, Memory, TryCopy};

@@ -1,62 +1,77 @@
 //! Reports with their answers and the mirror after each, worked out by hand from the table of answers.
 
 ghost use Rattle.std.specs.Prelude.{◌<◌, ◌^◌, IfOk, length};
-ghost use Rattle.validator_core.specs.Judge.{record_count};
+ghost use Rattle.swima_model.specs.Size.{report_count};
 
-use super::{Mirror, Taken};
+use super::{Mirror, Taken, Want};
 use std::alloc::Global;
 use std::process::Abort;
 use std::test::Fail;
-use swima_model::{Body, Content, Ident, Kind, Locator, Model, Point, Record, Records, Report};
+use swima_model::{
+    Action, Body, Content, Event, Ident, Kind, Locator, Model, Point, Record, Records, Report,
+};
 use wire_base::List;
 
-/// A report of records, the answer to it, and where the mirror stands then, with which records and which mark.
+/// What a report tells.
 #[derive(Clone, Copy)]
-struct Row {
-    says: &'static str,
-    kind: Kind,
-    point: Point,
-    ids: &'static [u32],
-    answer: Taken,
-    stands: Point,
-    holds: &'static [u32],
-    off: bool,
+pub enum Told {
+    /// Records of these identifiers.
+    Records(&'static [u32]),
+    /// The last event identifier that was consulted, and events by event identifier, action and identifier of the record.
+    Events(u32, &'static [(u32, Action, u32)]),
+}
+
+/// A report, the answer to it, and where the mirror stands then, with which records and which mark, and what it wants.
+#[derive(Clone, Copy)]
+pub struct Row {
+    pub says: &'static str,
+    pub kind: Kind,
+    pub point: Point,
+    pub told: Told,
+    pub answer: Taken,
+    pub stands: Option<Point>,
+    pub holds: &'static [u32],
+    pub off: bool,
+    pub want: Want,
 }
 
 const FIRST: Row = Row {
     says: "an empty inventory at the start of an epoch is adopted",
     kind: Kind::Full,
     point: Point { epoch: 7, eid: 0 },
-    ids: &[],
+    told: Told::Records(&[]),
     answer: Taken::Adopted,
-    stands: Point { epoch: 7, eid: 0 },
+    stands: Some(Point { epoch: 7, eid: 0 }),
     holds: &[],
     off: false,
+    want: Want::EventsFrom(1),
 };
 
 const THREE: Row = Row {
     says: "a later inventory is adopted, and its records come out in order",
     kind: Kind::Full,
     point: Point { epoch: 7, eid: 5 },
-    ids: &[30, 10, 20],
+    told: Told::Records(&[30, 10, 20]),
     answer: Taken::Adopted,
-    stands: Point { epoch: 7, eid: 5 },
+    stands: Some(Point { epoch: 7, eid: 5 }),
     holds: &[10, 20, 30],
     off: false,
+    want: Want::EventsFrom(6),
 };
 
 const DOUBLED: Row = Row {
     says: "of two doubled identifiers the smaller is told; the records stay and the mark is set",
     point: Point { epoch: 7, eid: 6 },
-    ids: &[9, 4, 7, 9, 4],
+    told: Told::Records(&[9, 4, 7, 9, 4]),
     answer: Taken::Doubled { id: 4 },
     off: true,
+    want: Want::Full,
     ..THREE
 };
 
 const TWO: Row = Row {
     says: "the same event identifier is adopted while the mark is set, and the mark is gone",
-    ids: &[8, 2],
+    told: Told::Records(&[8, 2]),
     holds: &[2, 8],
     ..THREE
 };
@@ -72,7 +87,7 @@ const ROWS: [Row; 14] = [
     THREE,
     Row {
         says: "the same event identifier is stale while the mark is not set, whatever the records",
-        ids: &[1],
+        told: Told::Records(&[1]),
         answer: Taken::Stale,
         ..THREE
     },
@@ -84,7 +99,7 @@ const ROWS: [Row; 14] = [
     },
     Row {
         says: "stale comes before doubled",
-        ids: &[3, 3],
+        told: Told::Records(&[3, 3]),
         answer: Taken::Stale,
         ..THREE
     },
@@ -92,7 +107,7 @@ const ROWS: [Row; 14] = [
     Row {
         says: "a lower event identifier of the epoch is stale while the mark is set too",
         point: Point { epoch: 7, eid: 4 },
-        ids: &[1],
+        told: Told::Records(&[1]),
         answer: Taken::Stale,
         ..DOUBLED
     },
@@ -108,42 +123,46 @@ const ROWS: [Row; 14] = [
         says: "a later report of the other kind changes nothing, and its doubled identifiers are not looked for",
         kind: Kind::Ids,
         point: Point { epoch: 7, eid: 6 },
-        ids: &[3, 3],
+        told: Told::Records(&[3, 3]),
         answer: Taken::WrongKind,
         ..TWO
     },
     Row {
         says: "another epoch is adopted, though it is lower and so is its event identifier",
         point: Point { epoch: 6, eid: 1 },
-        ids: &[5],
-        stands: Point { epoch: 6, eid: 1 },
+        told: Told::Records(&[5]),
+        stands: Some(Point { epoch: 6, eid: 1 }),
         holds: &[5],
+        want: Want::EventsFrom(2),
         ..TWO
     },
     Row {
         says: "a doubled identifier of another epoch leaves the point",
         point: Point { epoch: 8, eid: 3 },
-        ids: &[0, 0],
+        told: Told::Records(&[0, 0]),
         answer: Taken::Doubled { id: 0 },
-        stands: Point { epoch: 6, eid: 1 },
+        stands: Some(Point { epoch: 6, eid: 1 }),
         holds: &[5],
         off: true,
+        want: Want::Full,
         ..TWO
     },
     Row {
         says: "no records take the place of those that were held",
         point: Point { epoch: 6, eid: 2 },
-        stands: Point { epoch: 6, eid: 2 },
+        stands: Some(Point { epoch: 6, eid: 2 }),
+        want: Want::EventsFrom(3),
         ..FIRST
     },
 ];
 
-fn record_of(id: u32, locator: Locator, body: Body, alloc: Global) -> Record {
+/// A record whose source number tells the event identifier `eid` of the event that told it; of an inventory, 0.
+pub fn record_of(alloc: Global, id: u32, eid: u32, locator: Locator, body: Body) -> Record {
     Record {
         id,
         content: Content {
             model: Model { pen: 9, kind: 1 },
-            source: 1,
+            source: (eid % 256) as u8,
             ident: Ident::empty(alloc),
             locator,
             body,
@@ -151,21 +170,25 @@ fn record_of(id: u32, locator: Locator, body: Body, alloc: Global) -> Record {
     }
 }
 
-fn report_of(alloc: Global, kind: Kind, point: Point, ids: &[u32]) -> Result<Report, Fail>
+fn told_record(alloc: Global, id: u32, eid: u32) -> Record {
+    record_of(alloc, id, eid, Locator::empty(alloc), Body::empty(alloc))
+}
+
+/// A report of records of these identifiers.
+pub fn inventory_of(alloc: Global, kind: Kind, point: Point, ids: &[u32]) -> Result<Report, Fail>
     requires few { length ids.now < 2 ^ 32 }
-    ensures few { IfOk result (λ report. record_count report < 2 ^ 32) }
+    ensures few { IfOk result (λ report. report_count report < 2 ^ 32) }
 {
     let mut records = List::with_capacity(alloc, ids.len())?;
     for id in ids {
-        let record = record_of(*id, Locator::empty(alloc), Body::empty(alloc), alloc);
-        records.push(record)?;
+        records.push(told_record(alloc, *id, 0))?;
     }
     Ok(inventory(kind, point, records))
 }
 
-fn inventory(kind: Kind, point: Point, records: Records) -> Report
+pub fn inventory(kind: Kind, point: Point, records: Records) -> Report
     requires few { length records < 2 ^ 32 }
-    ensures few { record_count result < 2 ^ 32 }
+    ensures few { report_count result < 2 ^ 32 }
 {
     Report::Inventory {
         kind,
@@ -176,10 +199,46 @@ fn inventory(kind: Kind, point: Point, records: Records) -> Report
     }
 }
 
+/// A report of events.
+pub fn events_of(
+    alloc: Global,
+    kind: Kind,
+    point: Point,
+    consulted: u32,
+    told: &[(u32, Action, u32)],
+) -> Result<Report, Fail>
+    requires few { length told.now < 2 ^ 32 }
+    ensures few { IfOk result (λ report. report_count report < 2 ^ 32) }
+{
+    let mut events = List::with_capacity(alloc, told.len())?;
+    for (eid, action, id) in told {
+        let subject = told_record(alloc, *id, *eid);
+        events.push(event_of(*eid, *action, subject))?;
+    }
+    Ok(Report::Events {
+        kind,
+        fulfil: false,
+        id: 1,
+        point,
+        consulted,
+        events,
+    })
+}
+
+pub fn event_of(eid: u32, action: Action, subject: Record) -> Event {
+    Event {
+        eid,
+        stamp: *b"2026-02-03T04:05:06Z",
+        action,
+        subject,
+    }
+}
+
 fn agree(rt: &impl Abort, mirror: &Mirror, row: &Row) {
     assert_eq!(rt; mirror.kind(), Kind::Full, "{}", row.says);
-    assert_eq!(rt; mirror.point(), Some(row.stands), "{}", row.says);
+    assert_eq!(rt; mirror.point(), row.stands, "{}", row.says);
     assert_eq!(rt; mirror.off(), row.off, "{}", row.says);
+    assert_eq!(rt; mirror.want(), row.want, "{}", row.says);
     assert_eq!(rt; mirror.count() as usize, row.holds.len(), "{}", row.says);
     assert_eq!(rt; mirror.records().len(), row.holds.len(), "{}", row.says);
     for place in 0..=mirror.count() {
@@ -188,33 +247,59 @@ fn agree(rt: &impl Abort, mirror: &Mirror, row: &Row) {
     }
 }
 
+/// Gives a mirror the report of a row, and compares.
+pub fn take_row(
+    rt: &impl Abort,
+    alloc: Global,
+    mirror: &mut Mirror,
+    row: &Row,
+) -> Result<(), Fail> {
+    let answer = match row.told {
+        Told::Records(ids) => {
+            assert!(rt; ids.len() < 10);
+            mirror.take(&inventory_of(alloc, row.kind, row.point, ids)?)
+        }
+        Told::Events(consulted, told) => {
+            assert!(rt; told.len() < 10);
+            mirror.take(&events_of(alloc, row.kind, row.point, consulted, told)?)
+        }
+    };
+    assert_eq!(rt; answer, row.answer, "{}", row.says);
+    agree(rt, mirror, row);
+    Ok(())
+}
+
 #[test]
-fn answers_by_the_table(rt: HostRuntime) -> Result<(), Fail> {
+fn answers_to_inventories(rt: HostRuntime) -> Result<(), Fail> {
     let mut mirror = Mirror::new(rt.alloc(), Kind::Full);
     assert_eq!(rt; mirror.point(), None);
+    assert_eq!(rt; mirror.want(), Want::Full);
     for row in &ROWS {
-        assert!(rt; row.ids.len() < 10);
-        let report = report_of(rt.alloc(), row.kind, row.point, row.ids)?;
-        assert_eq!(rt; mirror.take(&report), row.answer, "{}", row.says);
-        agree(&rt, &mirror, row);
+        take_row(&rt, rt.alloc(), &mut mirror, row)?;
     }
     Ok(())
 }
 
-/// The answer of a new mirror to records of the identifiers from 0 to below `count`, and of `last`.
-fn answer_to(rt: &impl Abort, alloc: Global, count: u32, last: u32) -> Result<Taken, Fail> {
+/// The identifiers from 0 to below `count`.
+pub fn ids_below(alloc: Global, count: u32) -> Result<Vec<u32>, Fail> {
     let mut ids = Vec::new(alloc);
     for id in 0..count {
         ids.push(id)?;
     }
+    Ok(ids)
+}
+
+/// The answer of a new mirror to records of the identifiers from 0 to below `count`, and of `last`.
+fn answer_to(rt: &impl Abort, alloc: Global, count: u32, last: u32) -> Result<Taken, Fail> {
+    let mut ids = ids_below(alloc, count)?;
     ids.push(last)?;
     assert!(rt; ids.len() < 100000);
-    let report = report_of(alloc, Kind::Ids, Point { epoch: 1, eid: 1 }, &ids)?;
+    let report = inventory_of(alloc, Kind::Ids, Point { epoch: 1, eid: 1 }, &ids)?;
     Ok(Mirror::new(alloc, Kind::Ids).take(&report))
 }
 
 #[test]
-fn holds_65536_records(rt: HostRuntime) -> Result<(), Fail> {
+fn adopts_up_to_65536_records(rt: HostRuntime) -> Result<(), Fail> {
     let large = Taken::Large {
         count: 65537,
         octets: 0,
@@ -225,30 +310,5 @@ fn holds_65536_records(rt: HostRuntime) -> Result<(), Fail> {
         answer_to(&rt, rt.alloc(), 65536, 3)?,
         Taken::Doubled { id: 3 }
     );
-    Ok(())
-}
-
-/// 256 bodies of 1,048,576 octets are 268,435,456, which a mirror holds; the octet of a locator is one more.
-#[test]
-fn holds_268435456_octets(rt: HostRuntime) -> Result<(), Fail> {
-    let alloc = rt.alloc();
-    let bytes = vec![in alloc; 0; 1048576]?;
-    let locator = Locator::new(alloc, b"/")?;
-    let mut records = List::new(alloc);
-    records.push(record_of(256, locator, Body::empty(alloc), alloc))?;
-    for id in 0..256 {
-        let body = Body::new(alloc, &bytes)?;
-        records.push(record_of(id, Locator::empty(alloc), body, alloc))?;
-    }
-    assert!(rt; records.len() == 257);
-    let report = inventory(Kind::Full, Point { epoch: 1, eid: 1 }, records);
-    let mut mirror = Mirror::new(alloc, Kind::Full);
-    let large = Taken::Large {
-        count: 257,
-        octets: 268435457,
-    };
-    assert_eq!(rt; mirror.take(&report), large);
-    assert!(rt; mirror.off());
-    assert_eq!(rt; mirror.point(), None);
     Ok(())
 }

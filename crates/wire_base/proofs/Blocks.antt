@@ -7,7 +7,8 @@
 --
 -- where `item_is item : item ≡ record { id = item.id; text = item.text }` is `refl`. `gives` and `ends` take the parts
 -- that the value is made of, that they make it, what holds of them, and that no others make another value. A part with
--- a layout of its own comes by `then_part`. `then_several` and `last_several` also take that the count that was read
+-- a layout of its own comes by `then_part` or `last_part`, and a field that has to mean something by `then_meaning`, with
+-- what it may mean (`Means` in Meanings.antt). `then_several` and `last_several` also take that the count that was read
 -- before is that of the values, which `λ parts h. assumption h` shows, and of values of which nothing is asked
 -- `λ parts h. assumption (h, all_any parts.values)`.
 use Rattle.std.proofs.Common.{◌≡◌, ℕ, ◌%◌, Bool, true, false, cond, eqb, List, [], ◌∷◌, ◌++◌, length, Result, Ok, Err, refl, sym, ap, subst, ◌∙◌, arith}
@@ -16,7 +17,9 @@ use Rattle.std.proofs.lemmas.Bool.{eqb-true}
 use Rattle.std.proofs.lemmas.List.{append-nil, nil_from_length}
 use Rattle.wire_base.specs.Numbers.{number_of, octets_of}
 use Rattle.wire_base.specs.Layout.{AreOctets, Field, Number, Reserved, Flags, Counted, AreFlags, Form}
-use Rattle.wire_base.specs.Reading.{Reader, Rest, ◌>>=◌, done, octets, number, counted, at_end, several, value_alone, whole, and_then}
+use Rattle.wire_base.specs.Reading.{Reader, Rest, ◌>>=◌, done, octets, number, counted, meaning, at_end, several, value_alone, whole, and_then}
+use Rattle.std.specs.Prelude.{Option}
+use Rattle.wire_base.proofs.Meanings.{Means, meaning_exact}
 use Rattle.wire_base.proofs.Exact.{Exact, LaidOut, Anything, Nothing, behind, then_fields, alone, from_alone, octets_forth, octets_back, number_exact, counted_exact, several_exact}
 
 -- Equal lists of fields are one layout.
@@ -52,6 +55,20 @@ pub then_counted : {B P : Type 0} {size : ℕ} {next : List ℕ → Reader B} {m
     → ((x : List ℕ) → Exact (next x) make fields (λ parts. (value parts ≡ x) × holds parts) follows)
     → Exact (counted size >>= next) make (λ parts. Counted size (value parts) ∷ fields parts) holds follows
 then_counted {size = size} {value = value} next = then_part value (counted_exact size) (λ parts holds. tt) (λ x known. next x)
+
+-- A field that has to mean something, and what comes behind it.
+pub then_meaning : {A B V P : Type 0} {field : Reader A} {means : A → Option V} {next : V → Reader B} {make : P → B} {firsts : A → List Field} {spelling : V → A} {holds_value : V → Type 0} {fields : P → List Field} {holds : P → Type 0} {follows : List ℕ → Type 0}
+    (value : P → V) → Exact field (λ x. x) firsts (λ x. Unit {0}) Anything → Means means spelling holds_value → ((parts : P) → holds parts → holds_value (value parts))
+    → ((x : V) → holds_value x → Exact (next x) make fields (λ parts. (value parts ≡ x) × holds parts) follows)
+    → Exact (meaning means field >>= next) make (λ parts. firsts (spelling (value parts)) ++ fields parts) holds follows
+then_meaning value exact means implies next = then_part value (meaning_exact exact means) implies next
+
+-- A part with a layout of its own at the end of a layout.
+pub last_part : {A B P : Type 0} {reader : Reader A} {next : A → Reader B} {make : P → B} {firsts : A → List Field} {holds_first : A → Type 0} {holds : P → Type 0} {follows : List ℕ → Type 0}
+    (part : P → A) → Exact reader (λ x. x) firsts holds_first Anything → ((parts : P) → holds parts → holds_first (part parts))
+    → ((x : A) → holds_first x → Exact (next x) make (λ parts. []) (λ parts. (part parts ≡ x) × holds parts) follows)
+    → Exact (reader >>= next) make (λ parts. firsts (part parts)) holds follows
+last_part {firsts = firsts} part exact implies next = same_fields (λ parts. append-nil (firsts (part parts))) (then_part part exact implies next)
 
 -- Of values of which nothing is asked, it holds of all.
 pub all_any : {A : Type 0} (values : List A) → AllByRecursion (λ (x : A). Unit {0}) values

@@ -45,7 +45,7 @@ Nothing rest = rest ≡ []
 -- ---- one reader after another
 
 -- The steps of a block that gave a value.
-bind_ok : {A B : Type 0} (read : Result (A × Rest) ℕ) (next : A → Reader B) (y : B × Rest) → and_then read next ≡ Ok y → (x : A × Rest) × (read ≡ Ok x) × (next x.0 x.1 ≡ Ok y)
+pub bind_ok : {A B : Type 0} (read : Result (A × Rest) ℕ) (next : A → Reader B) (y : B × Rest) → and_then read next ≡ Ok y → (x : A × Rest) × (read ≡ Ok x) × (next x.0 x.1 ≡ Ok y)
 bind_ok (Ok x) next y e = (x, refl, e)
 bind_ok (Err place) next y e = absurd cc
 

@@ -3,5 +3,8 @@ pub mod NumberFacts
 pub mod Streams
 pub mod Spelled
 pub mod Exact
+pub mod Meanings
 pub mod Blocks
 pub mod Several
+pub mod StampLaws
+pub mod WrittenLaws

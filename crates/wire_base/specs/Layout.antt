@@ -10,11 +10,13 @@ AreOctets octets = (i : ℕ) → slice_index octets i < 256
 --   Number size value     a number of so many octets, the most significant first
 --   Reserved size         so many octets that may be any
 --   Flags flags           an octet of flags: of each, the bit that it is, and whether it is set; other bits may be any
+--   Fixed size octets     these octets, of which there are so many
 --   Counted size octets   a length of so many octets, and then the octets that it counts
 pub data Field : Type 0 where
   Number : ℕ → ℕ → Field
   Reserved : ℕ → Field
   Flags : List (ℕ × Bool) → Field
+  Fixed : ℕ → List ℕ → Field
   Counted : ℕ → List ℕ → Field
 
 -- The bit is set in the octet.
@@ -31,6 +33,7 @@ abbrev pub FieldForm : Field → List ℕ → Type 0
 FieldForm (Number size value) octets = (value < 256 ^ size) × (octets ≡ octets_of size value)
 FieldForm (Reserved size) octets = length octets ≡ size
 FieldForm (Flags flags) octets = (octet : ℕ) × (octets ≡ octet ∷ []) × AreFlags octet flags
+FieldForm (Fixed size fixed) octets = (length fixed ≡ size) × (octets ≡ fixed)
 FieldForm (Counted size counted) octets = (length counted < 256 ^ size) × (octets ≡ octets_of size (length counted) ++ counted)
 
 -- The octets are the fields, one after another.

@@ -8,3 +8,5 @@ pub mod Adapter
 pub mod NamedFile
 pub mod Passing
 pub mod Layout
+pub mod Stamp
+pub mod Written

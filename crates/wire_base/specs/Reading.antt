@@ -1,6 +1,6 @@
 -- Reading a value field by field. A reader takes the octets of its field from the front of what is left, or stops at
 -- the place of the first fault; a block of readers names the fields of a layout in the order of its figure.
-use Rattle.std.specs.Prelude.{◌≡◌, ◌==◌, ◌+◌, ℕ, zero, suc, List, [], ◌∷◌, Result, Ok, Err, length, take, drop, nat_lt, if◌then◌else◌}
+use Rattle.std.specs.Prelude.{◌≡◌, ◌==◌, ◌+◌, ℕ, zero, suc, List, [], ◌∷◌, Bool, Option, Some, None, Result, Ok, Err, length, take, drop, nat_lt, if◌then◌else◌}
 use Rattle.wire_base.specs.declared.refused.FieldRefused.{FieldRefused}
 use Rattle.wire_base.specs.declared.refused.FieldRefused.TheVariants as refused
 use Rattle.wire_base.specs.Numbers.{number_of}
@@ -45,6 +45,19 @@ faults_at place (Err fault) = Err place
 -- A length of so many octets, and the octets that it counts. Where they do not fit, the fault is at the length.
 unfoldable pub counted : ℕ → Reader (List ℕ)
 counted size rest = faults_at rest.at ((number size >>= octets) rest)
+
+-- What a field means, or, where it means nothing, a fault at its first octet.
+abbrev pub meant_at : {B : Type 0} → ℕ → Option B → Reader B
+meant_at place (Some meaning) rest = Ok (meaning, rest)
+meant_at place None rest = Err place
+
+-- A field that has to mean something. Where it means nothing, the fault is at its first octet.
+abbrev pub meaning : {A B : Type 0} → (A → Option B) → Reader A → Reader B
+meaning means field rest = and_then (field rest) (λ value. meant_at rest.at (means value))
+
+-- A value that passes a test means itself, and another one nothing.
+abbrev pub if_so : {A : Type 0} → (A → Bool) → A → Option A
+if_so test value = if test value then Some value else None
 
 -- A value behind which nothing is left. Octets left over are a fault at the first of them.
 abbrev pub at_end : {A : Type 0} → A → Reader A

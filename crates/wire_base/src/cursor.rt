@@ -37,6 +37,13 @@ impl<'a> Cursor<'a> {
         Cursor { at, octets }
     }
 
+    /// The place of the first octet that is left, or behind the last.
+    pub fn place(&self) -> u32
+        ensures place { result ≡ self.now.at }
+    {
+        self.at
+    }
+
     /// How many octets are left.
     pub fn left(&self) -> usize
         ensures left { result ≡ length self.now.octets }

@@ -1,15 +1,18 @@
-//! What every crate stands on: the outside as traits with memory forms and adapters, the one list type, numbers, the
-//! layout of messages, and the cursor that reads them.
+//! What every crate stands on: the outside as traits with memory forms and adapters, the one list type, texts, stamps,
+//! numbers, the layout of messages, and the cursor that reads them.
 //!
-//! It stands on std, and on `thiserror` for the texts of errors. The crates above rest on `reads`, `writes` and `cause` of
-//! `Source` and `Sink` (what was left or written, and faults that are counted), on `field` of each method of `Cursor` (what
-//! a reader gives, or the place of the first fault), and on `equal` of `TryCopy::copy`. The words of these clauses are in
-//! `specs/`: `Outside`, `Passing`, `Numbers`, `Layout`, `Reading`.
+//! It stands on std, on `jiff` for the calendar, and on `thiserror` for the texts of errors. The crates above rest on
+//! `reads`, `writes` and `cause` of `Source` and `Sink` (what was left or written, and faults that are counted), on `field`
+//! of each method of `Cursor` (what a reader gives, or the place of the first fault), on `appended` of `put_u8` and its kin,
+//! on `text` of `stamp_text` and `stamp` of `is_stamp`, and on `equal` of `TryCopy::copy`. The words of these clauses are in
+//! `specs/`: `Outside`, `Passing`, `Numbers`, `Layout`, `Reading`, `Stamp`.
 #![tactic(auto)]
 
+mod boxed;
 mod cursor;
 mod failing;
 mod files;
+pub mod laws;
 mod list;
 mod mem_sink;
 mod mem_source;
@@ -20,8 +23,11 @@ mod passing;
 mod refused;
 mod sink;
 mod source;
+mod stamp;
 mod standard;
+mod text;
 
+pub use boxed::Boxed;
 pub use cursor::Cursor;
 pub use files::{FileAnswer, Files, MemFiles};
 pub use list::{List, Octets, TryCopy};
@@ -29,12 +35,16 @@ pub use mem_sink::MemSink;
 pub use mem_source::MemSource;
 pub use memory::Memory;
 pub use no_fault::{NoFaultSink, NoFaultSource};
-pub use numbers::{number_of, u24_at, u32_at};
+pub use numbers::{number_of, put_u8, put_u16, put_u24, put_u32, u24_at, u32_at};
 pub use passing::{Stopped, fill, write_all};
 pub use refused::FieldRefused;
 pub use sink::Sink;
 pub use source::{Failed, Source};
+pub use stamp::{ClockRange, is_stamp, stamp_text};
 pub use standard::{StdinSource, StdoutSink};
+pub use text::Text;
 
+#[cfg(test)]
+mod stamp_tests;
 #[cfg(test)]
 mod tests;

@@ -3,9 +3,9 @@
 ghost use Rattle.std.specs.Prelude.{◌≡◌, IfOk};
 
 use crate::{
-    Cursor, Failed, FieldRefused, FileAnswer, Files, List, MemFiles, MemSink, MemSource, Memory,
-    NoFaultSink, NoFaultSource, Octets, Sink, Source, StdinSource, StdoutSink, Stopped, TryCopy,
-    fill, number_of, u24_at, u32_at, write_all,
+    Boxed, Cursor, Failed, FieldRefused, FileAnswer, Files, List, MemFiles, MemSink, MemSource,
+    Memory, NoFaultSink, NoFaultSource, Octets, Sink, Source, StdinSource, StdoutSink, Stopped,
+    Text, TryCopy, fill, number_of, put_u8, put_u16, put_u24, put_u32, u24_at, u32_at, write_all,
 };
 use std::alloc::Global;
 use std::io;
@@ -203,6 +203,18 @@ fn numbers_begin_with_the_most_significant_octet(rt: HostRuntime) {
 }
 
 #[test]
+fn numbers_are_put_at_the_end(rt: HostRuntime) -> Result<(), Fail> {
+    let mut octets = List::new(rt.alloc());
+    put_u8(&mut octets, 7)?;
+    put_u16(&mut octets, 258)?;
+    put_u24(&mut octets, 66_051)?;
+    put_u32(&mut octets, 16_909_060)?;
+    let wanted = [7, 1, 2, 1, 2, 3, 1, 2, 3, 4];
+    assert_eq!(rt; octets.as_slice(), wanted.as_slice());
+    Ok(())
+}
+
+#[test]
 fn a_cursor_takes_fields_in_turn(rt: HostRuntime) -> Result<(), Fail> {
     let octets = [7, 1, 2, 1, 2, 3, 1, 2, 3, 4, 8, 9, 0, 2, 10, 11, 12];
     let mut cursor = Cursor::new(100, &octets);
@@ -213,6 +225,7 @@ fn a_cursor_takes_fields_in_turn(rt: HostRuntime) -> Result<(), Fail> {
     assert_eq!(rt; cursor.octets(2)?, [8, 9].as_slice());
     assert_eq!(rt; cursor.counted(2)?, [10, 11].as_slice());
     assert_eq!(rt; cursor.left(), 1);
+    assert_eq!(rt; cursor.place(), 116);
     assert_eq!(rt; cursor.end(), Err(FieldRefused::Fault { offset: 116 }));
     assert_eq!(rt; cursor.number(1), Ok(12));
     assert_eq!(rt; cursor.end(), Ok(()));
@@ -373,5 +386,23 @@ fn refusals_say_what_happened(rt: HostRuntime) -> Result<(), Fail> {
         format!(in alloc; "{}", Stopped::Fault)?.as_str(),
         "a call of the outside failed"
     );
+    Ok(())
+}
+
+#[test]
+fn a_box_holds_its_value(rt: HostRuntime) -> Result<(), Fail> {
+    let boxed = Boxed::new(rt.alloc(), Text::new(rt.alloc(), "held")?)?;
+    let copy = boxed.copy()?;
+    assert_eq!(rt; copy.get().as_str(), "held");
+    assert_eq!(rt; boxed.into_inner().as_str(), "held");
+    Ok(())
+}
+
+#[test]
+fn a_text_is_its_octets(rt: HostRuntime) -> Result<(), Fail> {
+    let text = Text::new(rt.alloc(), "caf\u{e9}")?;
+    assert_eq!(rt; text.copy()?.as_str(), "caf\u{e9}");
+    let name = String::from_str(rt.alloc(), "name")?;
+    assert_eq!(rt; Text::from_string(name).as_str(), "name");
     Ok(())
 }

@@ -1,10 +1,18 @@
-use Rattle.swima_model.specs.declared.report.Kind.TheVariants.{Ids}
-use Rattle.swid_cli.proofs.Running.{written_or, prints}
+use Rattle.std.proofs.Common.{arith}
+use Rattle.swid_cli.proofs.Answered.{prints_right}
+use Rattle.swid_cli.proofs.Running.{one_command, written_or, prints}
 use Rattle.swid_cli.proofs.run.run_plain.Goals as goal
 
 pub returns-in-None-clause-usage_text : goal.returns-in-None-clause-usage_text
 returns-in-None-clause-usage_text g c = λ _. written_or _ _ _ c.write_all.result c.write_all.ensures.whole c.write_all.ensures.cause.cause
 
 pub returns-in-Some-Mirror-clause-printed : goal.returns-in-Some-Mirror-clause-printed
-returns-in-Some-Mirror-clause-printed g c = λ usage fault memory.
-    prints Ids _ _ _ _ c.mirror.result c.status.result c.status.ensures.status fault memory (rw c.in-Some-Mirror.ensures.ids at c.mirror.ensures.printed)
+returns-in-Some-Mirror-clause-printed g c = λ fault memory kind words.
+    prints kind _ _ _ _ c.mirror.result c.status.result c.status.ensures.status fault memory
+    (rw (one_command c.in-Some-Mirror.field-0 kind _ c.in-Some-Mirror.ensures.said words) at c.mirror.ensures.printed)
+
+pub returns-in-Some-Mirror-clause-right : goal.returns-in-Some-Mirror-clause-right
+returns-in-Some-Mirror-clause-right g c = λ good kind words.
+    prints_right kind _ _ _ _ c.status.result good
+    (prints kind _ _ _ _ c.mirror.result c.status.result c.status.ensures.status (λ fault. absurd (omega (arith, good, fault))) (λ memory. absurd (omega (arith, good, memory)))
+    (rw (one_command c.in-Some-Mirror.field-0 kind _ c.in-Some-Mirror.ensures.said words) at c.mirror.ensures.printed))

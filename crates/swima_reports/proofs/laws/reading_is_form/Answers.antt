@@ -1,4 +1,4 @@
-use Rattle.swima_reports.proofs.InventoryLaws.{reading_is_form}
+use Rattle.swima_reports.proofs.ReportLaws.{reading_is_form}
 use Rattle.swima_reports.proofs.laws.reading_is_form.Goals as goal
 
 pub returns : goal.returns

@@ -4,9 +4,9 @@ use Rattle.std.specs.List.Sorted.{IsPermutation, IsNonDecreasing}
 use Rattle.std.proofs.lemmas.List.{take_all}
 use Rattle.std.proofs.lemmas.List.Sorted.{IsNonDecreasingBy-from_sort}
 use Rattle.swima_model.specs.declared.record.Record.{Record}
-use Rattle.validator_core.specs.InOrder.{ids}
-use Rattle.validator_core.specs.Repeated.{IsLeastRepeated}
-use Rattle.validator_core.proofs.Repeats.{found_doubled}
+use Rattle.swima_model.specs.InOrder.{ids}
+use Rattle.swima_model.specs.Repeated.{IsLeastRepeated}
+use Rattle.swima_model.proofs.Repeats.{found_doubled}
 use Rattle.validator_core.proofs.doubled.doubled.Goals as goal
 
 pub repeated-requires : goal.repeated-requires

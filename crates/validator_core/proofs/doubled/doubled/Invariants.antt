@@ -1,5 +1,5 @@
 use Rattle.std.proofs.Common.{◌≡◌, take}
-use Rattle.validator_core.specs.InOrder.{ids}
+use Rattle.swima_model.specs.InOrder.{ids}
 use Rattle.validator_core.proofs.doubled.doubled.Given as goal
 
 abbrev pub invariant-loop-record : goal.invariant-loop-record

@@ -1,8 +1,8 @@
 -- The first number that equals the one before it is the least that stands twice.
 use Rattle.std.proofs.Common.{◌∙◌, sym, subst}
 use Rattle.std.proofs.lemmas.List.{at_drop_all}
-use Rattle.validator_core.specs.Repeated.{IsLeastRepeated}
-use Rattle.validator_core.proofs.Rises.{rises, repeat_after, least_of_rising, found_here}
+use Rattle.swima_model.specs.Repeated.{IsLeastRepeated}
+use Rattle.swima_model.proofs.Rises.{rises, repeat_after, least_of_rising, found_here}
 use Rattle.validator_core.proofs.doubled.repeated.Goals as goal
 
 pub returns-then-eq : goal.returns-then-eq

@@ -1,5 +1,5 @@
 use Rattle.std.proofs.Common.{◌≡◌, None, drop}
-use Rattle.validator_core.proofs.Rises.{repeat_after}
+use Rattle.swima_model.proofs.Rises.{repeat_after}
 use Rattle.validator_core.proofs.doubled.repeated.Given as goal
 
 abbrev pub invariant-loop-number : goal.invariant-loop-number

@@ -2,8 +2,8 @@
 use Rattle.std.proofs.Common.{◌∙◌, ap, rules}
 use Rattle.std.proofs.lemmas.List.Sorted.{IsNonDecreasingBy-from_sort_by_key, answers_always}
 use Rattle.swima_model.specs.declared.record.Record.{Record}
-use Rattle.validator_core.specs.InOrder.{in_order}
-use Rattle.validator_core.proofs.Placing.{sorted_is_in_order}
+use Rattle.swima_model.specs.InOrder.{in_order}
+use Rattle.swima_model.proofs.Placing.{sorted_is_in_order}
 use Rattle.validator_core.proofs.order.in_order.Goals as goal
 
 pub returns : goal.returns

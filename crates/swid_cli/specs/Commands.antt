@@ -1,0 +1,8 @@
+-- Which command the words say.
+use Rattle.std.specs.Prelude.{ℕ, List}
+use Rattle.swid_cli.specs.declared.command.Command.{Command}
+use Rattle.swid_cli.specs.declared.command.Command.TheVariants.{Mirror}
+use Rattle.swid_cli.specs.Words.{IsMirror}
+
+abbrev pub Says : Command → List (List ℕ) → Type 0
+Says (Mirror kind) words = IsMirror kind words

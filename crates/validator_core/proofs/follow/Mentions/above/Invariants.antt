@@ -1,0 +1,12 @@
+-- The mentions are of the events gone over, which are those behind what is left.
+use Rattle.std.proofs.Common.{◌≡◌, ◌++◌, List, length}
+use Rattle.swima_model.specs.declared.event.Event.{Event}
+use Rattle.validator_core.specs.Following.{events_above}
+use Rattle.validator_core.specs.Mentions.{AreOf}
+use Rattle.validator_core.proofs.follow.Mentions.above.Given as goal
+
+abbrev pub invariant-loop-event : goal.invariant-loop-event
+invariant-loop-event l = (later : List Event) × (l.events ≡ l.left ++ later) × AreOf (events_above l.eid later) l.mentions
+
+abbrev pub decreases-loop-event : goal.decreases-loop-event
+decreases-loop-event l = length l.left

@@ -1,0 +1,31 @@
+-- Without a gap, what is judged is what is judged of the events above the one that is held.
+use Rattle.std.proofs.Common.{◌∙◌, [], ℕ, Option, sym, subst}
+use Rattle.validator_core.specs.Following.{events_above, first_trouble}
+use Rattle.validator_core.specs.Judge.{Judged, NeedsMemory, judge_numbered}
+use Rattle.validator_core.proofs.Troubles.{above_needs_memory, judged_above, trouble_behind}
+use Rattle.validator_core.proofs.mirror.Mirror.take_later.Goals as goal
+
+pub returns-in-Ok : goal.returns-in-Ok
+returns-in-Ok c =
+    let mirror = c.args.self.now in
+    let above = events_above c.args.held.eid c.args.events.now in
+    let none = sym c.in_default.is ∙ c.gap.ensures.gap in
+    record {
+      judged =
+          subst (λ (found : Option ℕ). Judged mirror (judge_numbered mirror c.args.held c.args.consulted c.args.events.now found) c.in-Ok.taken c.take_following.new.self) none
+          (judged_above mirror c.take_following.new.self c.args.held c.args.consulted above (first_trouble mirror.records above) c.in-Ok.taken
+          (trouble_behind mirror.records [] above) c.in-Ok.ensures.judged);
+    }
+
+pub returns-in-Err : goal.returns-in-Err
+returns-in-Err c =
+    let mirror = c.args.self.now in
+    let above = events_above c.args.held.eid c.args.events.now in
+    let none = sym c.in_default.is ∙ c.gap.ensures.gap in
+    record {
+      judged = (
+        subst (λ (found : Option ℕ). NeedsMemory (judge_numbered mirror c.args.held c.args.consulted c.args.events.now found).0) none
+            (above_needs_memory mirror c.args.held c.args.consulted above (first_trouble mirror.records above) (trouble_behind mirror.records [] above)),
+        c.in-Err.ensures.memory,
+      );
+    }

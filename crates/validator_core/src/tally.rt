@@ -1,0 +1,137 @@
+//! A tally of records: what it takes to judge events over them, without the records themselves.
+
+ghost use Rattle.std.specs.Prelude.{◌≡◌, ◌<◌, ◌≤◌, ◌+◌, ◌^◌, List, None, Some, IfOk, OnOk, length};
+ghost use Rattle.std.specs.List.Sorted.{IsStrictlyIncreasing};
+ghost use Rattle.swima_model.specs.declared.event.Event.{Event};
+ghost use Rattle.swima_model.specs.declared.record.Record.{Record};
+ghost use Rattle.swima_model.specs.History.{does_not_fit};
+ghost use Rattle.swima_model.specs.InOrder.{ids};
+ghost use Rattle.swima_model.specs.Live.{live};
+ghost use Rattle.swima_model.specs.Size.{MOST_OCTETS, content_octets};
+ghost use Rattle.validator_core.specs.Tally.{AreFew, AreRising, AreSetAt, Follows, size_said, sizes_of, sizes_too_large, total};
+
+use crate::mirror::{Taken, is_large};
+use std::collections::BTreeMap;
+use std::marker::Model;
+use swima_model::{Action, Event, Record, Records};
+use wire_base::Memory;
+
+/// The identifiers of records, each with the octets of its content, and the octets of all together.
+#[derive(Debug, Drop)]
+pub struct Tally {
+    sizes: BTreeMap<u32, u64>,
+    octets: u64,
+}
+
+impl Model for Tally {
+    ghost use Rattle.std.specs.Prelude.{◌≡◌};
+    ghost use Rattle.validator_core.specs.Tally.{AreRising, Sizes, total};
+
+    ghost Value = { Sizes };
+
+    ghost view = { λ tally. tally.sizes.entries };
+
+    ghost invariant = { λ tally. (tally.octets ≡ total tally.sizes.entries) × AreRising tally.sizes.entries };
+}
+
+impl Tally {
+    /// The tally of `records`.
+    pub fn of(records: &Records) -> Result<Self, Memory>
+        requires rising { IsStrictlyIncreasing (ids records.now) }
+        requires few { length records.now ≤ 65536 }
+        ensures sizes { IfOk result (λ made. made ≡ sizes_of records.now) }
+        ensures few { IfOk result (λ made. AreFew made) }
+    {
+        let mut tally = Tally {
+            sizes: BTreeMap::new(records.allocator()),
+            octets: 0,
+        };
+        for record in records.as_slice() {
+            tally.put(record)?;
+        }
+        Ok(tally)
+    }
+
+    /// Follows an event, unless something is to be said of it.
+    pub fn follow(&mut self, event: &Event) -> Result<Option<Taken>, Memory>
+        requires few { AreFew self.old }
+        ensures follows { (base : List Record) (before : List Event) → IsStrictlyIncreasing (ids base)
+            → self.old ≡ sizes_of (live base before)
+            → IfOk result (λ said. Follows base before event.now said self.new) }
+        ensures few { IfOk result (λ said. said ≡ None → AreFew self.new) }
+    {
+        let is_live = self.sizes.contains_key(&event.subject.id);
+        if does_not_fit(event.action, is_live) {
+            return Ok(Some(Taken::Contradiction { eid: event.eid }));
+        }
+        self.apply(event)?;
+        Ok(self.too_large())
+    }
+
+    /// Sets the size of the event's record, or takes it out, as the event says.
+    fn apply(&mut self, event: &Event) -> Result<(), Memory>
+        requires room { total self.old + MOST_OCTETS < 2 ^ 64 }
+        ensures set { OnOk result (AreSetAt event.now.subject.id (size_said event.now) self.old self.new) }
+        ensures rising { AreRising self.new }
+        ensures count { OnOk result (length self.new ≤ length self.old + 1) }
+        ensures total { OnOk result (total self.new ≤ total self.old + MOST_OCTETS) }
+    {
+        match event.action {
+            Action::Deletion => {
+                self.remove(event.subject.id);
+                Ok(())
+            }
+            Action::Creation | Action::Alteration => self.put(&event.subject),
+        }
+    }
+
+    /// Sets the size of a record.
+    fn put(&mut self, subject: &Record) -> Result<(), Memory>
+        requires room { total self.old + MOST_OCTETS < 2 ^ 64 }
+        ensures set { OnOk result (AreSetAt subject.now.id (Some (content_octets subject.now.content)) self.old self.new) }
+        ensures rising { AreRising self.new }
+        ensures count { OnOk result (length self.new ≤ length self.old + 1) }
+        ensures total { OnOk result (total self.new ≤ total self.old + MOST_OCTETS) }
+    {
+        let octets = subject.content.octets();
+        let before = self.sizes.insert(subject.id, octets)?;
+        self.octets = self.octets + octets - before.unwrap_or(0);
+        Ok(())
+    }
+
+    /// Takes out the size of the record of this identifier.
+    fn remove(&mut self, id: u32)
+        ensures set { AreSetAt id None self.old self.new }
+        ensures rising { AreRising self.new }
+        ensures count { length self.new ≤ length self.old }
+        ensures total { total self.new ≤ total self.old }
+    {
+        let octets = self.sizes.remove(&id);
+        self.octets -= octets.unwrap_or(0);
+    }
+
+    /// What is said of the sizes where they are too many.
+    fn too_large(&self) -> Option<Taken>
+        requires few { length self.now < 2 ^ 32 }
+        ensures large { result ≡ sizes_too_large self.now }
+    {
+        let count = self.sizes.len();
+        if is_large(count, self.octets) {
+            return Some(Taken::Large {
+                count: count as u32,
+                octets: self.octets,
+            });
+        }
+        None
+    }
+}
+
+/// Whether the action fits no record that is live, or one that is not.
+fn does_not_fit(action: Action, is_live: bool) -> bool
+    ensures unfit { result ≡ does_not_fit action is_live }
+{
+    match action {
+        Action::Creation => is_live,
+        Action::Deletion | Action::Alteration => !is_live,
+    }
+}
