@@ -1,0 +1,190 @@
+-- What the tables of faults and the layout mean for octets that are handed to a feed.
+use Rattle.std.proofs.Common.{◌≡◌, ℕ, zero, suc, ◌+◌, ◌≤◌, ◌<◌, Bool, true, false, cond, IsTrue, List, [], ◌∷◌, ◌++◌, length, slice_range, take, drop, get_or, Option, Some, None, Result, Ok, Err, ◌⊎◌, inl, inr, refl, sym, ap, subst, ◌∙◌, arith, length-append}
+use Rattle.std.specs.Prelude.{All}
+use Rattle.std.specs.List.{AllByRecursion}
+use Rattle.std.proofs.lemmas.List.{append-nil, nil_from_length}
+use Rattle.std.proofs.lemmas.List.Elements.{All-from_recursion}
+use Rattle.wire_base.specs.Layout.{AreOctets, is_set}
+use Rattle.pb_batch.specs.declared.batch.Batch.{Batch}
+use Rattle.pb_batch.specs.declared.batch.Message.{Message}
+use Rattle.pb_batch.specs.declared.fault.PbFault.{PbFault}
+use Rattle.pb_batch.specs.declared.header.Header.{Header}
+use Rattle.pb_batch.specs.declared.kind.MessageType.{MessageType}
+use Rattle.pb_batch.specs.declared.kind.MessageType.TheVariants as type
+use Rattle.pb_batch.specs.Form.{FLAG, IsMessage, MessagesForm, BatchForm, batch_octets}
+use Rattle.pb_batch.specs.Faults.{Row, first_fault, header_rows, message_rows, head_rows, value_rows, type_in, batch_length}
+use Rattle.pb_batch.specs.Front.{Front, More, Bad, Whole, front_of, whole_front, header_in, header_of, messages_of, unless}
+use Rattle.pb_batch.specs.Shown.{Begins, MessageFault, HeaderFault, BodyFault, ShowsFault, WholeIsForm, BadIsFault, OneOfThree, AreOneOfThree, NoneBeginsAnother, IsLowest, LowestCounts, WrittenIsRead}
+use Rattle.pb_batch.specs.Written.{IsBatch, written}
+use Rattle.pb_batch.proofs.Rows.{unless_ok, unless_err}
+use Rattle.pb_batch.proofs.Fronts.{Seen, Short, Refused, Waits, Full, seen, whole_more, front_refused, front_full, whole_within}
+use Rattle.pb_batch.proofs.Fields.{AreOctets-between}
+use Rattle.pb_batch.proofs.MessageLists.{faults_forth, faults_back}
+use Rattle.pb_batch.proofs.BatchForms.{whole_forth, whole_back, begins_back, form_octets, form_direction}
+use Rattle.pb_batch.proofs.WrittenForms.{written_form}
+
+-- ---- batches
+
+pub whole_is_form : WholeIsForm
+whole_is_form s octets b n are = (λ found. whole_forth s octets b n are found, λ begins. begins_back s octets b n begins)
+
+-- ---- faults
+
+-- All octets of the batch are there, and a fault was found in its messages.
+full_bad : (s : Bool) (h : Header) (read : Result (List Message) PbFault) (f : PbFault) → whole_front s h read ≡ Bad f → read ≡ Err f
+full_bad s h (Ok ms) f e = absurd cc
+full_bad s h (Err g) f e = let same : g ≡ f = cc in ap (λ (x : PbFault). Err x) same
+
+bad_forth_by : (s : Bool) (octets : List ℕ) (f : PbFault) → AreOctets octets → Seen s octets (front_of s octets) → front_of s octets ≡ Bad f → ShowsFault s octets f
+bad_forth_by s octets f are (Short short is) e = absurd cc
+bad_forth_by s octets f are (Waits h long ok short is) e = absurd cc
+bad_forth_by s octets f are (Refused g long err is) e =
+    let same : Bad g ≡ Bad f = sym is ∙ e in
+    let one : g ≡ f = cc in
+    inl (record { long = long; row = unless_err (first_fault (header_rows s octets)) (header_in octets) g err ∙ ap (λ (x : PbFault). Some x) one })
+bad_forth_by s octets f are (Full h long ok all is) e =
+    let o = unless_ok (first_fault (header_rows s octets)) (header_in octets) h ok in
+    let count : batch_length octets ≡ h.octets = ap (λ (x : Header). x.octets) o.1 in
+    let read : messages_of 64 8 (slice_range octets 8 h.octets) ≡ Err f = full_bad s h (messages_of 64 8 (slice_range octets 8 h.octets)) f (sym is ∙ e) in
+    let fault = faults_forth 64 8 (slice_range octets 8 h.octets) f (AreOctets-between octets 8 h.octets are) read in
+    inr (record {
+      long = long;
+      good = o.0;
+      there = omega (arith, count, all);
+      fault = subst (λ (n : ℕ). MessageFault 64 8 (slice_range octets 8 n) f) (sym count) fault;
+    })
+
+bad_back_by : (s : Bool) (octets : List ℕ) (f : PbFault) → ShowsFault s octets f → front_of s octets ≡ Bad f
+bad_back_by s octets f shows =
+    elim shows [
+      | inl head ↦ front_refused s octets f head.long (ap (λ (o : Option PbFault). unless o (header_in octets)) head.row)
+      | inr body ↦
+          let h : Header = header_in octets in
+          let ok : header_of s octets ≡ Ok h = ap (λ (o : Option PbFault). unless o h) body.good in
+          front_full s octets h body.long ok body.there ∙ ap (λ (r : Result (List Message) PbFault). whole_front s h r) (faults_back 64 8 (slice_range octets 8 (batch_length octets)) f body.fault)
+    ]
+
+pub bad_is_fault : BadIsFault
+bad_is_fault s octets f are = (λ found. bad_forth_by s octets f are (seen s octets) found, λ shows. bad_back_by s octets f shows)
+
+-- ---- exactly one of three
+
+one_batch : (s : Bool) (octets : List ℕ) (b c : Batch) (m n : ℕ) → Begins s octets b m → Begins s octets c n → (b ≡ c) × (m ≡ n)
+one_batch s octets b c m n first second =
+    let same : Whole b m ≡ Whole c n = sym (begins_back s octets b m first) ∙ begins_back s octets c n second in
+    (cc, cc)
+
+one_fault : (s : Bool) (octets : List ℕ) (f g : PbFault) → ShowsFault s octets f → ShowsFault s octets g → f ≡ g
+one_fault s octets f g first second =
+    let same : Bad f ≡ Bad g = sym (bad_back_by s octets f first) ∙ bad_back_by s octets g second in
+    cc
+
+not_both : (s : Bool) (octets : List ℕ) (b : Batch) (n : ℕ) (f : PbFault) → Begins s octets b n → ShowsFault s octets f → ⊥
+not_both s octets b n f begins shows =
+    let same : Whole b n ≡ Bad f = sym (begins_back s octets b n begins) ∙ bad_back_by s octets f shows in
+    absurd cc
+
+-- Where neither is found, there is no batch yet.
+more_by : (s : Bool) (octets : List ℕ) (front : Front) → AreOctets octets → front_of s octets ≡ front → ((b : Batch) (n : ℕ) → Begins s octets b n → ⊥) → ((f : PbFault) → ShowsFault s octets f → ⊥) → front_of s octets ≡ More
+more_by s octets More are is no_batch no_fault = is
+more_by s octets (Bad f) are is no_batch no_fault = absurd (no_fault f ((bad_is_fault s octets f are).0 is))
+more_by s octets (Whole b n) are is no_batch no_fault = absurd (no_batch b n (whole_forth s octets b n are is))
+
+more_no_batch : (s : Bool) (octets : List ℕ) (b : Batch) (n : ℕ) → front_of s octets ≡ More → Begins s octets b n → ⊥
+more_no_batch s octets b n more begins =
+    let same : Whole b n ≡ More = sym (begins_back s octets b n begins) ∙ more in
+    absurd cc
+
+more_no_fault : (s : Bool) (octets : List ℕ) (f : PbFault) → front_of s octets ≡ More → ShowsFault s octets f → ⊥
+more_no_fault s octets f more shows =
+    let same : Bad f ≡ More = sym (bad_back_by s octets f shows) ∙ more in
+    absurd cc
+
+pub are_one_of_three : AreOneOfThree
+are_one_of_three s octets are = record {
+  one_batch = one_batch s octets;
+  one_fault = one_fault s octets;
+  not_both = not_both s octets;
+  neither = (λ more. (λ b n begins. more_no_batch s octets b n more begins, λ f shows. more_no_fault s octets f more shows), λ no. more_by s octets (front_of s octets) are refl no.0 no.1);
+}
+
+-- ---- no batch begins another
+
+pub none_begins_another : NoneBeginsAnother
+none_begins_another b c octets more first second =
+    let all : List ℕ = octets ++ more in
+    let direction : b.from_server ≡ c.from_server =
+    sym (form_direction b octets more first) ∙ ap (λ (o : List ℕ). is_set (get_or o 1 0) FLAG) (sym (append-nil all)) ∙ form_direction c all [] second in
+    let same : Whole b (length octets) ≡ Whole c (length all) =
+    sym (whole_back b octets more first) ∙ ap (λ (s : Bool). front_of s all) direction ∙ ap (λ (o : List ℕ). front_of c.from_server o) (sym (append-nil all)) ∙ whole_back c all [] second in
+    let len : length octets ≡ length all = cc in
+    (cc, nil_from_length more (omega (arith, len, length-append octets more)))
+
+-- ---- the lowest place counts
+
+-- The rows of a table stand in the order of their places.
+abbrev Rising : ℕ → List Row → Type 0
+Rising low [] = Unit {0}
+Rising low (r ∷ rs) = (low ≤ r.fault.offset) × Rising r.fault.offset rs
+
+lower : (low place : ℕ) (rows : List Row) → low ≤ place → Rising place rows → Rising low rows
+lower low place [] le rising = tt
+lower low place (r ∷ rs) le rising = (omega (arith, le, rising.0), rising.1)
+
+-- What is below the first place is below all.
+all_above : (low : ℕ) (rows : List Row) → Rising low rows → AllByRecursion (λ (r : Row). IsTrue r.shows → low ≤ r.fault.offset) rows
+all_above low [] rising = tt
+all_above low (r ∷ rs) rising = (λ shows. rising.0, all_above low rs (lower low r.fault.offset rs rising.0 rising.1))
+
+-- The first row that shows, or one behind it.
+first_or_later : (shows : Bool) (g f : PbFault) (rest : Option PbFault) → cond shows (Some g) rest ≡ Some f → (g ≡ f) ⊎ ((shows ≡ false) × (rest ≡ Some f))
+first_or_later true g f rest e = inl cc
+first_or_later false g f rest e = inr (refl, e)
+
+not_shown : {A : Type 0} (shows : Bool) → shows ≡ false → IsTrue shows → A
+not_shown true hidden shown = absurd cc
+not_shown false hidden shown = absurd cc
+
+lowest : (low : ℕ) (rows : List Row) (f : PbFault) → Rising low rows → first_fault rows ≡ Some f → AllByRecursion (λ (r : Row). IsTrue r.shows → f.offset ≤ r.fault.offset) rows
+lowest low [] f rising e = tt
+lowest low (r ∷ rs) f rising e =
+    elim (first_or_later r.shows r.fault f (first_fault rs) e) [
+      | inl is ↦ subst (λ (g : PbFault). AllByRecursion (λ (r : Row). IsTrue r.shows → g.offset ≤ r.fault.offset) (r ∷ rs)) is (λ shows. omega arith, all_above r.fault.offset rs rising.1)
+      | inr later ↦ (λ shows. not_shown r.shows later.0 shows, lowest r.fault.offset rs f rising.1 later.1)
+    ]
+
+message_rising : (t : MessageType) (left place : ℕ) (rest : List ℕ) → Rising place (head_rows left place rest ++ value_rows t place rest)
+message_rising type.Pa left place rest = (omega arith, (omega arith, (omega arith, (omega arith, (omega arith, (omega arith, (omega arith, (omega arith, tt))))))))
+message_rising type.Assessment left place rest = (omega arith, (omega arith, (omega arith, (omega arith, (omega arith, (omega arith, (omega arith, tt)))))))
+message_rising type.Recommendation left place rest = (omega arith, (omega arith, (omega arith, (omega arith, (omega arith, (omega arith, (omega arith, tt)))))))
+message_rising type.Error left place rest = (omega arith, (omega arith, (omega arith, (omega arith, (omega arith, (omega arith, tt))))))
+message_rising type.Other left place rest = (omega arith, (omega arith, (omega arith, (omega arith, (omega arith, (omega arith, tt))))))
+
+pub lowest_counts : LowestCounts
+lowest_counts = record {
+  header = λ s octets f first. All-from_recursion (λ (r : Row). IsTrue r.shows → f.offset ≤ r.fault.offset) (header_rows s octets)
+      (lowest 0 (header_rows s octets) f (omega arith, (omega arith, (omega arith, (omega arith, tt)))) first);
+  message = λ left place rest f first. All-from_recursion (λ (r : Row). IsTrue r.shows → f.offset ≤ r.fault.offset) (message_rows left place rest)
+      (lowest place (message_rows left place rest) f (message_rising (type_in rest) left place rest) first);
+}
+
+-- ---- what is written
+
+pub written_is_read : WrittenIsRead
+written_is_read b more is =
+    let form = written_form b is in
+    (form, form_octets b (written b) form, whole_back b (written b) more form)
+
+-- What is written is read as the batch, whatever follows.
+pub written_front : (b : Batch) (more : List ℕ) → IsBatch b → front_of b.from_server (written b ++ more) ≡ Whole b (length (written b))
+written_front b more is = (written_is_read b more is).2
+
+-- What is read can be written.
+forms_valid : (ms : List Message) (octets : List ℕ) → MessagesForm ms octets → AllByRecursion IsMessage ms
+forms_valid [] octets form = tt
+forms_valid (m ∷ ms) octets form = (form.3.valid, forms_valid ms form.1 form.4)
+
+pub read_is_batch : (s : Bool) (octets : List ℕ) (b : Batch) (n : ℕ) → AreOctets octets → front_of s octets ≡ Whole b n → IsBatch b
+read_is_batch s octets b n are found =
+    let form = (whole_forth s octets b n are found).form in
+    record { valid = All-from_recursion IsMessage b.messages (forms_valid b.messages form.rest form.messages); few = form.few; short = form.short }

@@ -1,0 +1,13 @@
+pub mod Rows
+pub mod Reading
+pub mod Fronts
+pub mod Growing
+pub mod Fields
+pub mod FaultBatch
+pub mod Heads
+pub mod MessageForms
+pub mod MessageBack
+pub mod MessageLists
+pub mod BatchForms
+pub mod WrittenForms
+pub mod FrontLaws

@@ -1,0 +1,33 @@
+//! What the tables of faults and the layout mean, proved of all octets and batches: the calls do nothing.
+
+ghost use Rattle.pb_batch.specs.Shown.{AreOneOfThree, BadIsFault, LowestCounts, NoneBeginsAnother, WholeIsForm, WrittenIsRead};
+
+/// Octets are found to begin with a batch exactly where octets in the form of that batch stand in front.
+pub fn whole_is_form()
+    ensures law { WholeIsForm }
+{}
+
+/// A fault is found exactly where it shows: in the header, or behind messages in their form in the next one.
+pub fn bad_is_fault()
+    ensures law { BadIsFault }
+{}
+
+/// Of a batch in front, a fault that shows, and neither of them, there is exactly one, and of the first two one alone.
+pub fn one_of_three()
+    ensures law { AreOneOfThree }
+{}
+
+/// No batch begins another.
+pub fn no_batch_begins_another()
+    ensures law { NoneBeginsAnother }
+{}
+
+/// The fault that counts has the lowest place of all that show.
+pub fn lowest_place_counts()
+    ensures law { LowestCounts }
+{}
+
+/// What is written of a batch has its form, and is read as that batch, whatever follows.
+pub fn written_is_read()
+    ensures law { WrittenIsRead }
+{}

@@ -1,0 +1,57 @@
+-- The state machines of a PB-TNC session (RFC 5793, section 3.2). The RFC leaves open what becomes of two retries that
+-- cross; here a client that awaits the server's batch ignores a retry of the server, and a server takes a retry of the
+-- client also while it or the client works.
+use Rattle.std.specs.Prelude.{Bool, Option, Some, None, is_some, unwrap_or}
+use Rattle.pb_batch.specs.declared.kind.BatchKind.{BatchKind}
+use Rattle.pb_batch.specs.declared.kind.BatchKind.TheVariants as batch
+use Rattle.pb_machine.specs.declared.machine.Role.{Role}
+use Rattle.pb_machine.specs.declared.machine.Role.TheVariants.{Client, Server}
+use Rattle.pb_machine.specs.declared.machine.State.{State}
+use Rattle.pb_machine.specs.declared.machine.State.TheVariants.{Init, ServerWorking, ClientWorking, Decided, End}
+use Rattle.pb_machine.specs.declared.machine.Heard.{Heard}
+use Rattle.pb_machine.specs.declared.machine.Heard.TheVariants.{Go, Ignored, Unexpected}
+
+-- The batches that an end may send in a state, and the state in which it is then.
+abbrev pub sending : Role → State → BatchKind → Option State
+sending role End kind = None
+sending role state batch.Close = Some End
+sending Client Init batch.Cdata = Some ServerWorking
+sending Client ClientWorking batch.Cdata = Some ServerWorking
+sending Client Decided batch.Cretry = Some ServerWorking
+sending Server ServerWorking batch.Sdata = Some ClientWorking
+sending Server ServerWorking batch.Outcome = Some Decided
+sending Server Decided batch.Sretry = Some ClientWorking
+sending role state kind = None
+
+-- What an end does with a batch that it hears in a state, and the state in which it is then.
+abbrev pub receiving : Role → State → BatchKind → Heard × State
+receiving role End kind = (Ignored, End)
+receiving role state batch.Close = (Go, End)
+receiving Client Init batch.Sdata = (Go, ClientWorking)
+receiving Client ServerWorking batch.Sdata = (Go, ClientWorking)
+receiving Client ServerWorking batch.Outcome = (Go, Decided)
+receiving Client ServerWorking batch.Sretry = (Ignored, ServerWorking)
+receiving Client Decided batch.Sretry = (Go, ClientWorking)
+receiving Server Init batch.Cdata = (Go, ServerWorking)
+receiving Server ClientWorking batch.Cdata = (Go, ServerWorking)
+receiving Server ClientWorking batch.Cretry = (Go, ServerWorking)
+receiving Server Decided batch.Cretry = (Go, ServerWorking)
+receiving Server ServerWorking batch.Cretry = (Go, ServerWorking)
+receiving role state kind = (Unexpected, state)
+
+-- A machine, as contracts see it: which end it is of, and its state.
+pub record Position : Type 0 where
+  pub role : Role
+  pub state : State
+
+-- A batch of the kind may be sent.
+abbrev pub may_send : Position → BatchKind → Bool
+may_send machine kind = is_some (sending machine.role machine.state kind)
+
+-- The machine once it has sent a batch of the kind, which it may send.
+abbrev pub sent : Position → BatchKind → Position
+sent machine kind = record machine { state = unwrap_or (sending machine.role machine.state kind) machine.state }
+
+-- What is done with a batch of the kind, and the machine once it has heard it.
+abbrev pub received : Position → BatchKind → Heard × Position
+received machine kind = ((receiving machine.role machine.state kind).0, record machine { state = (receiving machine.role machine.state kind).1 })

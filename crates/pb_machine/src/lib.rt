@@ -1,0 +1,15 @@
+//! The state machines of both ends of a PB-TNC session (RFC 5793, section 3.2): which batch may be sent in which state, and
+//! what a batch does that is heard.
+//!
+//! It stands on `pb_batch`, for the kinds of batches. The crates above rest on `sent` of `Machine::send` and `heard` of
+//! `Machine::receive`: both are the tables of `specs/Table.antt`. The law of `laws` says of the same tables that two ends
+//! which keep to them never hear what they do not expect, and agree where nothing is on its way.
+#![tactic(auto)]
+
+pub mod laws;
+mod machine;
+
+pub use machine::{Heard, Machine, Role, State};
+
+#[cfg(test)]
+mod tests;
