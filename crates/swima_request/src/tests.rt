@@ -1,9 +1,82 @@
-//! A copy with ample memory.
+//! Values of attributes, and the requests that they are read as. The places of the faults are worked out by hand from the
+//! figure of RFC 8412, section 5.6.
 
-use crate::Request;
+use crate::{Request, read_request, write_request};
 use std::test::Fail;
 use swima_model::{Ident, Kind};
-use wire_base::{List, TryCopy};
+use wire_base::{FieldRefused, List, TryCopy};
+
+/// A request of identifiers for one target, with all flags.
+const VALUE: [u8; 15] = [
+    0xe0, 0, 0, 1, // flags, count
+    0, 0, 0, 5, // identifier
+    0, 0, 0, 3, // earliest event
+    0, 1, b'a', // target
+];
+
+/// Values with a fault, each with its place where the value begins at 20.
+const FAULTS: [(&[u8], u32); 7] = [
+    (&[], 20),
+    (&[0xe0, 0, 0], 21),
+    (&[0xe0, 0, 0, 0, 0, 0, 0], 24),
+    (&[0xe0, 0, 0, 0, 0, 0, 0, 5, 0, 0, 0], 28),
+    (&[0xe0, 0, 0, 1, 0, 0, 0, 5, 0, 0, 0, 3, 0, 1], 32),
+    (&[0xe0, 0, 0, 2, 0, 0, 0, 5, 0, 0, 0, 3, 0, 1, b'a'], 35),
+    (&[0xe0, 0, 0, 0, 0, 0, 0, 5, 0, 0, 0, 3, 0, 1, b'a'], 32),
+];
+
+#[test]
+fn a_request_is_read_and_written(rt: HostRuntime) -> Result<(), Fail> {
+    let alloc = rt.alloc();
+    let request = read_request(alloc, &VALUE, 20)?;
+    assert_eq!(rt;
+        (request.clear, request.subscribe, request.kind),
+        (true, true, Kind::Ids)
+    );
+    assert_eq!(rt;
+        (request.id, request.earliest, request.targets.len()),
+        (5, 3, 1)
+    );
+    let target = request.targets.get(0).ok_or("a target")?;
+    assert_eq!(rt; target.bytes(), b"a".as_slice());
+    let empty = [0x5f, 0, 0, 0, 1, 2, 3, 4, 0xff, 0xff, 0xff, 0xff];
+    let other = read_request(alloc, &empty, 0)?;
+    assert_eq!(rt;
+        (other.clear, other.subscribe, other.kind),
+        (false, true, Kind::Full)
+    );
+    assert_eq!(rt;
+        (other.id, other.earliest, other.targets.len()),
+        (16_909_060, 4_294_967_295, 0)
+    );
+    Ok(())
+}
+
+#[test]
+fn a_request_is_written(rt: HostRuntime) -> Result<(), Fail> {
+    let alloc = rt.alloc();
+    let mut targets = List::new(alloc);
+    targets.push(Ident::new(alloc, b"a")?)?;
+    let request = Request {
+        clear: true,
+        subscribe: true,
+        kind: Kind::Ids,
+        id: 5,
+        earliest: 3,
+        targets,
+    };
+    let written = write_request(alloc, &request)?;
+    assert_eq!(rt; written.as_slice(), VALUE.as_slice());
+    Ok(())
+}
+
+#[test]
+fn a_value_without_a_form_has_a_fault(rt: HostRuntime) {
+    for (value, offset) in FAULTS.iter() {
+        let refused = read_request(rt.alloc(), value, 20).err();
+        assert_eq!(rt; refused, Some(FieldRefused::Fault { offset: *offset }));
+    }
+}
 
 #[test]
 fn a_copy_of_a_request_equals_it(rt: HostRuntime) -> Result<(), Fail> {

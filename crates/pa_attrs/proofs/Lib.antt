@@ -1,0 +1,11 @@
+pub mod Headers
+pub mod Fronts
+pub mod Feeding
+pub mod Walking
+pub mod Writing
+pub mod HeaderForm
+pub mod AttrLaws
+pub mod MessageLaws
+pub mod Remaining
+pub mod ErrorLaws
+pub mod FaultLaws

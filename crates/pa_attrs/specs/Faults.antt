@@ -1,0 +1,64 @@
+-- What is wrong with an attribute, as a table. Of the rows that show, the one with the lowest place counts, and of two at
+-- one place the earlier; the rows stand in this order, so it is the first that shows.
+use Rattle.std.specs.Prelude.{◌==◌, ◌&&◌, ◌||◌, ℕ, Bool, not, List, [], ◌∷◌, Option, Some, None, Result, Ok, Err, length, nat_lt, if◌then◌else◌}
+use Rattle.std.specs.List.{list_any}
+use Rattle.pa_attrs.specs.declared.fault.AttrFault.{AttrFault}
+use Rattle.pa_attrs.specs.declared.header.Header.{Header}
+use Rattle.pa_attrs.specs.Numbers.{HEADER, NO_VENDOR, NO_TYPE, INVALID_PARAMETER, UNSUPPORTED_ATTRIBUTE, MOST_OCTETS}
+use Rattle.pa_attrs.specs.Header.{header_of}
+
+-- A fault: its code, and its place from the attribute's first octet.
+abbrev pub fault : ℕ → ℕ → AttrFault
+fault code at = record { code = code; at = at }
+
+-- A row of the table: whether it shows, and the fault that it is.
+pub record Row : Type 0 where
+  pub shows : Bool
+  pub fault : AttrFault
+
+abbrev pub row : Bool → ℕ → ℕ → Row
+row shows code at = record { shows = shows; fault = fault code at }
+
+-- The first row that shows.
+abbrev pub first_shown : List Row → Option AttrFault
+first_shown [] = None
+first_shown (first ∷ rows) = if first.shows then Some first.fault else first_shown rows
+
+-- The rows on a header, where there are so many octets for the attribute.
+abbrev pub header_rows : ℕ → Header → List Row
+header_rows most h =
+    row (h.vendor == NO_VENDOR) INVALID_PARAMETER 1
+    ∷ row (h.kind == NO_TYPE) INVALID_PARAMETER 4
+    ∷ row (nat_lt h.octets HEADER || nat_lt most h.octets) INVALID_PARAMETER 8
+    ∷ []
+
+-- Attributes of the type are supported, by a list of types of vendor 0.
+abbrev pub is_supported : List ℕ → ℕ → ℕ → Bool
+is_supported supported vendor kind = (vendor == 0) && list_any (λ known. known == kind) supported
+
+-- The attribute may not be passed over, and is not supported.
+abbrev pub is_refused : List ℕ → Header → Bool
+is_refused supported h = h.noskip && not (is_supported supported h.vendor h.kind)
+
+-- The rows on an attribute that begins with these octets, all that are left of a message, where so many attributes more
+-- have room in it.
+abbrev pub message_rows : List ℕ → ℕ → List ℕ → Header → List Row
+message_rows supported room octets h =
+    row (room == 0) INVALID_PARAMETER 0
+    ∷ row (nat_lt (length octets) HEADER) INVALID_PARAMETER 0
+    ∷ row (is_refused supported h) UNSUPPORTED_ATTRIBUTE 0
+    ∷ header_rows (length octets) h
+
+-- A header, unless there is a fault.
+abbrev pub unless : Option AttrFault → Header → Result Header AttrFault
+unless (Some fault) h = Err fault
+unless None h = Ok h
+
+-- The header of an attribute of a message, or its first fault.
+unfoldable pub message_header : List ℕ → ℕ → List ℕ → Result Header AttrFault
+message_header supported room octets = unless (first_shown (message_rows supported room octets (header_of octets))) (header_of octets)
+
+-- The header of an attribute of a stream that begins with these octets, or its first fault. It shows once 12 octets are
+-- there.
+unfoldable pub stream_header : List ℕ → Result Header AttrFault
+stream_header octets = unless (first_shown (header_rows MOST_OCTETS (header_of octets))) (header_of octets)

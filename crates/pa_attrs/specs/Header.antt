@@ -1,0 +1,21 @@
+-- The header of an attribute (RFC 5792, section 4.1) in the octets that it begins: flags (1), vendor (3), type (4), and the
+-- length of the whole attribute (4). Fewer than 12 octets have no header, and it is nothing that is said of them.
+use Rattle.std.specs.Prelude.{◌-◌, ℕ, List, take, drop, slice_index, slice_range}
+use Rattle.wire_base.specs.Numbers.{number_of}
+use Rattle.wire_base.specs.Layout.{is_set}
+use Rattle.pa_attrs.specs.declared.attr.Attr.{Attr}
+use Rattle.pa_attrs.specs.declared.header.Header.{Header}
+use Rattle.pa_attrs.specs.Numbers.{NOSKIP, HEADER}
+
+-- The header.
+abbrev pub header_of : List ℕ → Header
+header_of octets = record {
+  noskip = is_set (slice_index octets 0) NOSKIP;
+  vendor = number_of (slice_range octets 1 4);
+  kind = number_of (slice_range octets 4 8);
+  octets = number_of (slice_range octets 8 12);
+}
+
+-- The attribute with the header that stands first in the octets.
+abbrev pub attr_of : Header → List ℕ → Attr
+attr_of h octets = record { noskip = h.noskip; vendor = h.vendor; kind = h.kind; value = take (h.octets - HEADER) (drop HEADER octets) }

@@ -1,0 +1,103 @@
+-- What the definitions mean. All lists of octets here have numbers below 256.
+use Rattle.std.specs.Prelude.{◌≡◌, ◌≤◌, ◌<◌, ◌+◌, ◌^◌, ◌↔◌, ℕ, true, false, List, [], ◌∷◌, ◌++◌, Some, Ok, length, filter}
+use Rattle.std.specs.List.{AllByRecursion}
+use Rattle.wire_base.specs.Layout.{AreOctets}
+use Rattle.wire_base.specs.Reading.{whole}
+use Rattle.wire_base.specs.Written.{written}
+use Rattle.pa_attrs.specs.declared.attr.Attr.{Attr}
+use Rattle.pa_attrs.specs.declared.attr.PaMessage.{PaMessage}
+use Rattle.pa_attrs.specs.declared.attr.PlacedAttr.{PlacedAttr}
+use Rattle.pa_attrs.specs.declared.error.PaError.{PaError}
+use Rattle.pa_attrs.specs.declared.fault.AttrFault.{AttrFault}
+use Rattle.pa_attrs.specs.declared.header.Header.{Header}
+use Rattle.pa_attrs.specs.Numbers.{HEADER, MESSAGE_HEADER, MOST_OCTETS}
+use Rattle.pa_attrs.specs.AttrForm.{AttrForm, IsNamed, attr_fields, header_for}
+use Rattle.pa_attrs.specs.ErrorForm.{ErrorForm, read_error, written_error}
+use Rattle.pa_attrs.specs.Faults.{Row, first_shown, header_rows, is_refused, is_supported, message_rows}
+use Rattle.pa_attrs.specs.MessageForm.{CanBeWritten, MessageForm, message_octets, written_message}
+use Rattle.pa_attrs.specs.MessageReading.{message_of, supports}
+use Rattle.pa_attrs.specs.Stream.{Front, Bad, Whole, front_of}
+
+-- ---- streams
+
+-- The attribute stands first in the octets, and has so many of them.
+abbrev pub IsFirst : Attr → ℕ → List ℕ → Type 0
+IsFirst attr len octets = (attribute : List ℕ) × (rest : List ℕ) × (octets ≡ attribute ++ rest) × (length attribute ≡ len) × AttrForm attr attribute
+
+-- Octets begin with a whole attribute exactly where an attribute stands first.
+abbrev pub WholeIsAttribute : Type 0
+WholeIsAttribute = (octets : List ℕ) (attr : Attr) (len : ℕ) → AreOctets octets → (front_of octets ≡ Whole attr len) ↔ IsFirst attr len octets
+
+-- What octets begin with they begin with whatever follows: an attribute that is whole and a fault that shows stay.
+abbrev pub FrontStays : Type 0
+FrontStays = (octets rest : List ℕ)
+    → ((attr : Attr) (len : ℕ) → front_of octets ≡ Whole attr len → front_of (octets ++ rest) ≡ Whole attr len)
+    × ((fault : AttrFault) → front_of octets ≡ Bad fault → front_of (octets ++ rest) ≡ Bad fault)
+
+-- No attribute is a front of another one.
+abbrev pub NoneIsFront : Type 0
+NoneIsFront = (attr other : Attr) (octets rest : List ℕ) → AttrForm attr octets → AttrForm other (octets ++ rest) → rest ≡ []
+
+-- What is written of an attribute is read back, whatever follows.
+abbrev pub WrittenIsFirst : Type 0
+WrittenIsFirst = (attr : Attr) (rest : List ℕ) → IsNamed attr → HEADER + length attr.value ≤ MOST_OCTETS
+    → front_of (written (attr_fields attr) ++ rest) ≡ Whole attr (HEADER + length attr.value)
+
+-- ---- messages
+
+-- The attributes of octets that begin at `at`, each with the place of its value.
+abbrev pub places : ℕ → List Attr → List PlacedAttr
+places at [] = []
+places at (attr ∷ attrs) = record { at = at + HEADER; attr = attr } ∷ places (at + (HEADER + length attr.value)) attrs
+
+-- The attribute is supported, or may be passed over.
+abbrev pub IsPassed : List ℕ → Attr → Type 0
+IsPassed supported attr = is_refused supported (header_for attr) ≡ false
+
+-- The octets are a message with this identifier, and with these attributes that are supported, at these places.
+pub record IsRead (supported octets : List ℕ) (id : ℕ) (attrs : List PlacedAttr) : Type 0 where
+  pub message : PaMessage
+  pub form : MessageForm message octets
+  pub passed : AllByRecursion (IsPassed supported) message.attrs
+  pub id-is : id ≡ message.id
+  pub attrs-are : attrs ≡ filter (supports supported) (places MESSAGE_HEADER message.attrs)
+
+-- A message is read of octets exactly where they are one. So octets have exactly one of a message and a fault.
+abbrev pub ReadingIsForm : Type 0
+ReadingIsForm = (supported octets : List ℕ) (id : ℕ) (attrs : List PlacedAttr) → AreOctets octets → length octets ≤ MOST_OCTETS
+    → (message_of supported octets ≡ Ok (id, attrs)) ↔ IsRead supported octets id attrs
+
+-- The attribute is of a type that is supported.
+abbrev pub IsSupported : List ℕ → Attr → Type 0
+IsSupported supported attr = is_supported supported attr.vendor attr.kind ≡ true
+
+-- What is written of a message whose attributes are supported is read back, with the places added.
+abbrev pub WrittenIsRead : Type 0
+WrittenIsRead = (supported : List ℕ) (message : PaMessage) → message.id < 2 ^ 32 → CanBeWritten message → AllByRecursion (IsSupported supported) message.attrs
+    → message_of supported (written_message message) ≡ Ok (message.id, places MESSAGE_HEADER message.attrs)
+
+-- It has so many octets as are counted.
+abbrev pub WrittenIsCounted : Type 0
+WrittenIsCounted = (message : PaMessage) → length (written_message message) ≡ message_octets message
+
+-- ---- faults
+
+-- Of the rows that show none has a lower place than this fault.
+abbrev pub IsLowest : AttrFault → List Row → Type 0
+IsLowest fault rows = AllByRecursion (λ (row : Row). row.shows ≡ true → fault.at ≤ row.fault.at) rows
+
+-- The fault of an attribute, of a message and of a stream, is that of a row with the lowest place.
+abbrev pub FaultIsLowest : Type 0
+FaultIsLowest = (supported octets : List ℕ) (room most : ℕ) (h : Header) (fault : AttrFault)
+    → (first_shown (message_rows supported room octets h) ≡ Some fault → IsLowest fault (message_rows supported room octets h))
+    × (first_shown (header_rows most h) ≡ Some fault → IsLowest fault (header_rows most h))
+
+-- ---- Errors
+
+-- An Error is read of octets exactly where they are one.
+abbrev pub ErrorIsForm : Type 0
+ErrorIsForm = (base : ℕ) (octets : List ℕ) (error : PaError) → AreOctets octets → (whole read_error base octets ≡ Ok error) ↔ ErrorForm error octets
+
+-- What is written of an Error is read back.
+abbrev pub WrittenErrorIsRead : Type 0
+WrittenErrorIsRead = (base : ℕ) (error : PaError) → error.vendor < 2 ^ 24 → error.code < 2 ^ 32 → whole read_error base (written_error error) ≡ Ok error

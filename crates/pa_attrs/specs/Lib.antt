@@ -1,0 +1,11 @@
+pub mod Numbers
+pub mod AttrForm
+pub mod Header
+pub mod Faults
+pub mod Stream
+pub mod Held
+pub mod MessageForm
+pub mod MessageReading
+pub mod Remaining
+pub mod ErrorForm
+pub mod Laws

@@ -1,0 +1,135 @@
+//! PA-TNC Errors.
+
+ghost use Rattle.std.specs.Prelude.{◌≡◌, ◌+◌, ◌<◌, ◌^◌, ◌++◌, length, IfOk, OnOk};
+ghost use Rattle.pa_attrs.specs.ErrorForm.{invalid_error, read_error, swima_error, unsupported_error, version_error, written_error};
+ghost use Rattle.wire_base.specs.Reading.{Gives, value_alone, whole};
+
+use crate::numbers::{INVALID_PARAMETER, UNSUPPORTED_ATTRIBUTE, VERSION, VERSION_NOT_SUPPORTED};
+use std::alloc::Global;
+use wire_base::{Cursor, FieldRefused, List, Memory, Octets, put_u8, put_u16, put_u24, put_u32};
+
+/// A PA-TNC Error, the value of an attribute of vendor 0 and type 8 (RFC 5792, section 4.2.8).
+#[derive(Debug, Drop)]
+pub struct PaError {
+    /// The vendor that defines the code; 0 is the IETF.
+    pub vendor: u32,
+    /// The code, by its vendor's numbers.
+    pub code: u32,
+    /// The information that goes with the code.
+    pub info: Octets,
+}
+
+impl PaError {
+    /// A value of a message is invalid: the header of the message, and the place of the value in it (RFC 5792, section
+    /// 4.2.8.1).
+    #[tactic(auto, unfolding(wire_base::specs::Written::written))]
+    pub fn invalid(alloc: Global, header: [u8; 8], offset: u32) -> Result<Self, Memory>
+        ensures error { IfOk result (λ error. error ≡ invalid_error header offset) }
+    {
+        let mut info = List::new(alloc);
+        info.extend(&header)?;
+        put_u32(&mut info, offset)?;
+        Ok(PaError {
+            vendor: 0,
+            code: INVALID_PARAMETER,
+            info,
+        })
+    }
+
+    /// The version of a message is not supported: the header of the message (RFC 5792, section 4.2.8.2).
+    #[tactic(auto, unfolding(wire_base::specs::Written::written, wire_base::specs::Numbers::octets_of))]
+    pub fn version(alloc: Global, header: [u8; 8]) -> Result<Self, Memory>
+        ensures error { IfOk result (λ error. error ≡ version_error header) }
+    {
+        let mut info = List::new(alloc);
+        info.extend(&header)?;
+        info.extend(&[VERSION, VERSION, 0, 0])?;
+        Ok(PaError {
+            vendor: 0,
+            code: VERSION_NOT_SUPPORTED,
+            info,
+        })
+    }
+
+    /// An attribute that may not be passed over is not supported: the header of the message, and the first octets of the
+    /// attribute (RFC 5792, section 4.2.8.3).
+    #[tactic(auto, unfolding(wire_base::specs::Written::written))]
+    pub fn unsupported(alloc: Global, header: [u8; 8], first: [u8; 8]) -> Result<Self, Memory>
+        ensures error { IfOk result (λ error. error ≡ unsupported_error header first) }
+    {
+        let mut info = List::new(alloc);
+        info.extend(&header)?;
+        info.extend(&first)?;
+        Ok(PaError {
+            vendor: 0,
+            code: UNSUPPORTED_ATTRIBUTE,
+            info,
+        })
+    }
+
+    /// An error about the request with an ID; `max` is the most octets of an answer, where the code tells them (RFC 8412,
+    /// section 5.15).
+    #[tactic(auto, unfolding(wire_base::specs::Written::written))]
+    pub fn swima(alloc: Global, code: u32, id: u32, max: Option<u32>) -> Result<Self, Memory>
+        ensures error { IfOk result (λ error. error ≡ swima_error code id max) }
+    {
+        let mut info = List::new(alloc);
+        put_u32(&mut info, id)?;
+        if let Some(most) = max {
+            put_u32(&mut info, most)?;
+        }
+        Ok(PaError {
+            vendor: 0,
+            code,
+            info,
+        })
+    }
+}
+
+/// The octets of an Error: the value of its attribute.
+#[tactic(auto, unfolding(wire_base::specs::Written::written, wire_base::specs::Numbers::octets_of))]
+pub fn write_error(alloc: Global, error: &PaError) -> Result<Octets, Memory>
+    requires vendor { error.now.vendor < 2 ^ 24 }
+    ensures octets { IfOk result (λ made. made ≡ written_error error.now) }
+{
+    let mut out = List::new(alloc);
+    put_u8(&mut out, 0)?;
+    put_u24(&mut out, error.vendor)?;
+    put_u32(&mut out, error.code)?;
+    out.extend(error.info.as_slice())?;
+    Ok(out)
+}
+
+/// The Error that is the value of an attribute of vendor 0 and type 8 (RFC 5792, section 4.2.8).
+///
+/// `Fault` comes exactly where the value has fewer than 8 octets; its offset is the place of the first field that does not
+/// fit, counted from `base`, the place of the value's first octet.
+pub fn read_error(alloc: Global, value: &[u8], base: u32) -> Result<PaError, FieldRefused>
+    requires places { base + length value.now < 2 ^ 32 }
+    ensures value { Gives (λ read. read) result (whole read_error base value.now) }
+{
+    error(alloc, Cursor::new(base, value))
+}
+
+#[tactic(auto, unfolding(crate::specs::ErrorForm::read_error))]
+fn error(alloc: Global, mut cursor: Cursor) -> Result<PaError, FieldRefused>
+    ensures error { Gives (λ read. read) result (value_alone (read_error cursor.entry)) }
+{
+    cursor.octets(1)?;
+    let vendor = cursor.u24()?;
+    let code = cursor.u32()?;
+    let octets = cursor.octets(cursor.left())?;
+    cursor.end()?;
+    Ok(PaError {
+        vendor,
+        code,
+        info: copy_of(alloc, octets)?,
+    })
+}
+
+/// A list of the octets.
+fn copy_of(alloc: Global, octets: &[u8]) -> Result<Octets, Memory>
+    ensures equal { IfOk result (λ made. made ≡ octets.now) }
+{
+    Ok(List::from_vec(Vec::from_slice(alloc, octets)?))
+}

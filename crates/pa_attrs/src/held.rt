@@ -1,0 +1,148 @@
+//! The octets of an attribute that is not whole yet.
+
+ghost use Rattle.std.specs.Prelude.{◌≡◌, ◌<◌, ◌≤◌, ◌+◌, ◌-◌, ◌++◌, [], length, take, min, IfOk, OnErr, Ok, Err};
+ghost use Rattle.pa_attrs.specs.Held.{Holds, IsInOrder, octets_of_held};
+ghost use Rattle.pa_attrs.specs.Header.{header_of};
+ghost use Rattle.pa_attrs.specs.Stream.{More, front_of, header_held};
+
+use crate::attr::Attr;
+use crate::fault::stream_header;
+use crate::feed::Stop;
+use crate::header::Header;
+use crate::numbers::HEADER;
+use std::alloc::Global;
+use std::mem;
+use wire_base::{List, Memory};
+
+/// The octets of an attribute: of those of its header so many as are there, and then those of its value.
+#[derive(Debug, Drop)]
+pub(crate) struct Held {
+    header: [u8; 12],
+    begun: usize,
+    value: Vec<u8>,
+}
+
+impl Held {
+    /// Nothing. It takes no memory.
+    pub(crate) fn new(alloc: Global) -> Self
+        ensures order { IsInOrder result }
+        ensures nothing { octets_of_held result ≡ [] }
+    {
+        Held {
+            header: [0; 12],
+            begun: 0,
+            value: Vec::new(alloc),
+        }
+    }
+
+    /// How many octets there are.
+    pub(crate) fn len(&self) -> usize
+        requires order { IsInOrder self.now }
+        requires within { length (octets_of_held self.now) ≤ 16777216 }
+        ensures len { result ≡ length (octets_of_held self.now) }
+    {
+        self.begun + self.value.len()
+    }
+
+    /// The header; `None` where not all of it is there.
+    pub(crate) fn header(&self) -> Option<[u8; 12]>
+        requires order { IsInOrder self.now }
+        ensures header { result ≡ header_held (octets_of_held self.now) }
+    {
+        if self.begun < HEADER {
+            return None;
+        }
+        Some(self.header)
+    }
+
+    /// Takes a piece behind the octets, up to the end of the attribute where that is in it.
+    pub(crate) fn take(&mut self, piece: &[u8]) -> Result<Option<(Attr, usize)>, Stop>
+        requires order { IsInOrder self.old }
+        requires torn { front_of (octets_of_held self.old) ≡ More }
+        ensures within { length (octets_of_held self.new) ≤ 16777216 }
+        ensures order { IsInOrder self.new }
+        ensures holds { Holds (octets_of_held self.old) piece.now result (octets_of_held self.new) }
+    {
+        let mut header = self.header;
+        let first = begin_header(&mut header, self.begun, piece);
+        let begun = self.begun + first;
+        if begun < HEADER {
+            self.header = header;
+            self.begun = begun;
+            return Ok(None);
+        }
+        let (_, rest) = piece.split_at(first);
+        match stream_header(&header) {
+            Ok(said) => {
+                let more = take_value(&mut self.value, rest, said.octets as usize - HEADER)?;
+                self.header = header;
+                self.begun = HEADER;
+                if HEADER + self.value.len() < said.octets as usize {
+                    return Ok(None);
+                }
+                Ok(Some((self.give(said), first + more)))
+            }
+            Err(fault) => {
+                self.header = header;
+                self.begun = HEADER;
+                Err(Stop::Fault(fault))
+            }
+        }
+    }
+
+    /// The attribute with the header and the value that is there. Nothing is left.
+    fn give(&mut self, said: Header) -> Attr
+        ensures attr { result ≡ record { noskip = said.noskip; vendor = said.vendor; kind = said.kind; value = self.old.value.items } }
+        ensures order { IsInOrder self.new }
+        ensures nothing { octets_of_held self.new ≡ [] }
+    {
+        let alloc = *self.value.allocator();
+        let value = mem::replace(&mut self.value, Vec::new(alloc));
+        self.begun = 0;
+        Attr {
+            noskip: said.noskip,
+            vendor: said.vendor,
+            kind: said.kind,
+            value: List::from_vec(value),
+        }
+    }
+}
+
+/// Puts octets of the piece behind those of the header that are there, and says how many.
+fn begin_header(header: &mut [u8; 12], begun: usize, piece: &[u8]) -> usize
+    requires { begun ≤ 12 }
+    ensures used { result ≡ min (12 - begun) (length piece.now) }
+    ensures octets { take (begun + result) header.new ≡ take begun header.old ++ take result piece.now }
+{
+    let used = (HEADER - begun).min(piece.len());
+    header[begun..begun + used].copy_from_slice(&piece[..used]);
+    used
+}
+
+/// Puts octets of the piece behind those of the value that are there, up to `len` in all, and says how many. At `Memory`
+/// the value is as it was.
+fn take_value(value: &mut Vec<u8>, piece: &[u8], len: usize) -> Result<usize, Memory>
+    requires len { length value.old.items ≤ len }
+    requires most { len ≤ 16777216 }
+    ensures used { IfOk result (λ used. used ≡ min (len - length value.old.items) (length piece.now)) }
+    ensures octets { IfOk result (λ used. value.new.items ≡ value.old.items ++ take used piece.now) }
+    ensures memory { OnErr result (value.new.items ≡ value.old.items) }
+{
+    let used = (len - value.len()).min(piece.len());
+    make_room(value, used, len)?;
+    value.extend_from_slice(&piece[..used])?;
+    Ok(used)
+}
+
+/// Makes room for so many octets more; where it was wanting, for as many as there are, but for `most` in all.
+fn make_room(value: &mut Vec<u8>, more: usize, most: usize) -> Result<(), Memory>
+    requires within { length value.old.items + more ≤ most }
+    requires most { most ≤ 16777216 }
+    ensures items { value.new.items ≡ value.old.items }
+{
+    let len = value.len();
+    if value.capacity() < len + more {
+        value.reserve_exact(more.max(len).min(most - len))?;
+    }
+    Ok(())
+}

@@ -1,0 +1,31 @@
+//! PA-TNC messages and attributes (RFC 5792): whole messages, errors, and attributes from a stream of octets.
+//!
+//! It stands on `wire_base`. The crates above rest on `read` of `read_message` (the attributes with the places of their
+//! values, or the first fault of the message), on `octets` of `write_message` and `write_error`, on `value` of
+//! `read_error`, and on `fed` of `AttrFeed::feed` (what a feed answers, by the octets that it was handed, joined). The
+//! layouts are in `specs/AttrForm.antt`, `MessageForm.antt` and `ErrorForm.antt`, the table of faults in `Faults.antt`; the
+//! functions of `laws` say what the definitions mean.
+#![tactic(auto)]
+
+mod attr;
+mod error;
+mod fault;
+mod feed;
+mod header;
+mod held;
+pub mod laws;
+mod numbers;
+mod read;
+mod write;
+
+pub use attr::{Attr, Attrs, PaMessage, PlacedAttr, PlacedAttrs};
+pub use error::{PaError, read_error, write_error};
+pub use fault::{AttrFault, PaFault};
+pub use feed::{AttrFed, AttrFeed};
+pub use header::{Header, read_header};
+pub use numbers::{ERROR, INVALID_PARAMETER, UNSUPPORTED_ATTRIBUTE, VERSION_NOT_SUPPORTED};
+pub use read::{PaRead, read_message};
+pub use write::write_message;
+
+#[cfg(test)]
+mod tests;

@@ -1,0 +1,187 @@
+//! Reading messages.
+
+ghost use Rattle.std.specs.Prelude.{◌≡◌, ◌==◌, ◌&&◌, not, ◌≤◌, ◌+◌, ◌∷◌, ◌++◌, ◌<◌, ◌^◌, [], drop, length, filter, OnOk, OnErr, IfOk};
+ghost use Rattle.pa_attrs.specs.declared.read.MessageRefused.TheVariants as refused;
+ghost use Rattle.pa_attrs.specs.Header.{attr_of, header_of};
+ghost use Rattle.pa_attrs.specs.MessageReading.{Answers, Reads, attributes, attrs_of, fault_of, first_octets, first_told, is_error, message_of, placed, supports};
+ghost use Rattle.pa_attrs.specs.Numbers.{ERROR as ERROR_TYPE};
+
+use crate::attr::{Attr, PlacedAttr, PlacedAttrs};
+use crate::fault::{AttrFault, PaFault, is_supported, message_header};
+use crate::header::Header;
+use crate::numbers::{
+    ERROR, HEADER, INVALID_PARAMETER, MESSAGE_HEADER, MOST_ATTRIBUTES, UNSUPPORTED_ATTRIBUTE,
+    VERSION, VERSION_NOT_SUPPORTED,
+};
+use std::alloc::Global;
+use wire_base::{List, Memory, u32_at};
+
+/// What the octets of a message are read as.
+#[derive(Debug, Drop)]
+pub enum PaRead {
+    /// A message.
+    Ok {
+        /// The message identifier.
+        id: u32,
+        /// The attributes that are supported, each with the place of its value.
+        attrs: PlacedAttrs,
+    },
+    /// A message with a fault, of which nothing is handed out.
+    Refused(PaFault),
+    /// Want of memory.
+    Memory,
+}
+
+/// Why octets are not read as a message.
+#[derive(Clone, Copy, Debug, PartialEq, Eq)]
+pub(crate) enum MessageRefused {
+    /// They have a fault.
+    Fault(PaFault),
+    /// Want of memory.
+    Memory,
+}
+
+impl From<Memory> for MessageRefused {
+    ghost from_gives = { λ _ e. e ≡ refused.Memory };
+
+    fn from(_memory: Memory) -> Self {
+        MessageRefused::Memory
+    }
+}
+
+/// The message whose octets these are, all of them (RFC 5792, section 3.6).
+///
+/// `supported` lists the types of vendor 0 that are supported. Other attributes are left out, but where one may not be
+/// passed over the message is refused. `Refused` comes exactly where the octets have no form of a message, or such an
+/// attribute; it has the first fault.
+pub fn read_message(alloc: Global, bytes: &[u8], supported: &[u32]) -> PaRead
+    requires { length bytes.now ≤ 16777216 }
+    ensures read { Reads result (message_of supported.now bytes.now) }
+{
+    match message(alloc, bytes, supported) {
+        Ok((id, attrs)) => PaRead::Ok { id, attrs },
+        Err(MessageRefused::Fault(fault)) => PaRead::Refused(fault),
+        Err(MessageRefused::Memory) => PaRead::Memory,
+    }
+}
+
+#[tactic(auto, unfolding(crate::specs::MessageReading::message_of))]
+fn message(
+    alloc: Global,
+    bytes: &[u8],
+    supported: &[u32],
+) -> Result<(u32, PlacedAttrs), MessageRefused>
+    requires { length bytes.now ≤ 16777216 }
+    ensures message { Answers result (message_of supported.now bytes.now) }
+{
+    if bytes.len() < MESSAGE_HEADER {
+        let fault = AttrFault::new(INVALID_PARAMETER, 0);
+        return Err(MessageRefused::Fault(fault_of(bytes, true, 0, bytes, fault)));
+    }
+    if bytes[0] != VERSION {
+        let fault = AttrFault::new(VERSION_NOT_SUPPORTED, 0);
+        return Err(MessageRefused::Fault(fault_of(bytes, true, 0, bytes, fault)));
+    }
+    let attrs = attributes(alloc, bytes, supported)?;
+    Ok((u32_at(bytes, 4), attrs))
+}
+
+fn attributes(alloc: Global, bytes: &[u8], supported: &[u32]) -> Result<PlacedAttrs, MessageRefused>
+    requires least { 8 ≤ length bytes.now }
+    requires most { length bytes.now ≤ 16777216 }
+    ensures attrs { Answers result (attrs_of supported.now bytes.now) }
+{
+    let mut attrs = List::new(alloc);
+    let mut answer = true;
+    let mut room = MOST_ATTRIBUTES;
+    let mut at = MESSAGE_HEADER as u32;
+    let (_, mut rest) = bytes.split_at(MESSAGE_HEADER);
+    while !rest.is_empty() {
+        let said = message_header(supported, room, rest);
+        let header = match said {
+            Ok(header) => header,
+            Err(fault) => {
+                return Err(MessageRefused::Fault(fault_of(bytes, answer, at, rest, fault)));
+            }
+        };
+        keep(alloc, supported, header, rest, at, &mut attrs)?;
+        answer = is_still_answered(answer, header);
+        let (_, behind) = rest.split_at(header.octets as usize);
+        rest = behind;
+        at += header.octets;
+        room -= 1;
+    }
+    Ok(attrs)
+}
+
+/// Puts the attribute with the header that stands first in the octets, which begin at `at`, behind the others, if it is
+/// supported.
+fn keep(
+    alloc: Global,
+    supported: &[u32],
+    header: Header,
+    octets: &[u8],
+    at: u32,
+    attrs: &mut PlacedAttrs,
+) -> Result<(), Memory>
+    requires least { 12 ≤ header.octets }
+    requires within { header.octets ≤ length octets.now }
+    requires places { at + 12 < 2 ^ 32 }
+    ensures kept { OnOk result (attrs.new ≡ attrs.old ++ filter (supports supported.now) (placed at header octets.now ∷ [])) }
+{
+    if !is_supported(supported, header.vendor, header.kind) {
+        return Ok(());
+    }
+    let value = Vec::from_slice(alloc, &octets[HEADER..header.octets as usize])?;
+    let attr = Attr {
+        noskip: header.noskip,
+        vendor: header.vendor,
+        kind: header.kind,
+        value: List::from_vec(value),
+    };
+    attrs.push(PlacedAttr {
+        at: at + HEADER as u32,
+        attr,
+    })
+}
+
+/// Whether a fault behind the attribute is told to the sender, where one before it was to be.
+fn is_still_answered(answer: bool, header: Header) -> bool
+    ensures answer { result ≡ answer && not ((header.vendor == 0) && (header.kind == ERROR_TYPE)) }
+{
+    answer && !(header.vendor == 0 && header.kind == ERROR)
+}
+
+/// The fault of a message, of an attribute that begins with `rest` at `at`.
+fn fault_of(bytes: &[u8], answer: bool, at: u32, rest: &[u8], fault: AttrFault) -> PaFault
+    requires { at + fault.at < 2 ^ 32 }
+    ensures fault { result ≡ fault_of bytes.now answer (record { at = at; octets = rest.now; fault = fault }) }
+{
+    PaFault {
+        code: fault.code,
+        offset: at + fault.at as u32,
+        header: first_octets(bytes),
+        first: first_told(fault.code, rest),
+        answer,
+    }
+}
+
+/// The first octets of an attribute that is not supported, else 0.
+fn first_told(code: u32, octets: &[u8]) -> [u8; 8]
+    ensures first { result ≡ first_told code octets.now }
+{
+    if code == UNSUPPORTED_ATTRIBUTE {
+        return first_octets(octets);
+    }
+    [0; 8]
+}
+
+/// The first 8 of the octets, with 0 in place of those that are not there.
+fn first_octets(octets: &[u8]) -> [u8; 8]
+    ensures first { result ≡ first_octets octets.now }
+{
+    let mut first = [0; 8];
+    let count = octets.len().min(8);
+    first[..count].copy_from_slice(&octets[..count]);
+    first
+}

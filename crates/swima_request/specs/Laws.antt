@@ -1,0 +1,30 @@
+-- What the definitions mean.
+use Rattle.std.specs.Prelude.{◌≡◌, ◌↔◌, ◌<◌, ◌^◌, ◌++◌, ℕ, List, [], Ok, length}
+use Rattle.std.specs.List.{AllByRecursion}
+use Rattle.wire_base.specs.Layout.{AreOctets}
+use Rattle.wire_base.specs.Reading.{whole}
+use Rattle.swima_request.specs.declared.request.Request.{Request}
+use Rattle.swima_request.specs.RequestForm.{RequestForm, read_request, request_octets, written_request}
+
+-- A request is read of octets exactly where they have its form.
+abbrev pub ReadingIsForm : Type 0
+ReadingIsForm = (base : ℕ) (octets : List ℕ) (request : Request) → AreOctets octets → (whole read_request base octets ≡ Ok request) ↔ RequestForm request octets
+
+-- The numbers of a request, and the lengths and the count of its targets, have room in their fields.
+pub record HasRoom (request : Request) : Type 0 where
+  pub count : length request.targets < 2 ^ 24
+  pub id : request.id < 2 ^ 32
+  pub earliest : request.earliest < 2 ^ 32
+  pub targets : AllByRecursion (λ (target : List ℕ). length target < 2 ^ 16) request.targets
+
+-- What is written of a request is read back.
+abbrev pub WrittenIsRead : Type 0
+WrittenIsRead = (base : ℕ) (request : Request) → HasRoom request → whole read_request base (written_request request) ≡ Ok request
+
+-- It has so many octets as are counted.
+abbrev pub WrittenIsCounted : Type 0
+WrittenIsCounted = (request : Request) → length (written_request request) ≡ request_octets request
+
+-- No request is a front of another one.
+abbrev pub NoneIsFront : Type 0
+NoneIsFront = (request other : Request) (octets rest : List ℕ) → AreOctets (octets ++ rest) → RequestForm request octets → RequestForm other (octets ++ rest) → rest ≡ []

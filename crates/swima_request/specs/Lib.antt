@@ -1,0 +1,2 @@
+pub mod RequestForm
+pub mod Laws

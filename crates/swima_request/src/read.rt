@@ -1,0 +1,69 @@
+//! Reading requests.
+
+ghost use Rattle.std.specs.Prelude.{◌≡◌, ◌+◌, ◌-◌, ◌<◌, ◌≤◌, ◌^◌, length};
+ghost use Rattle.swima_request.specs.RequestForm.{kind_of, read_request};
+ghost use Rattle.wire_base.specs.Reading.{Gives, counted, several, value_alone, whole};
+
+use crate::numbers::{CLEAR, IDENTIFIERS_ONLY, SUBSCRIBE};
+use crate::request::{Idents, Request};
+use std::alloc::Global;
+use swima_model::{Ident, Kind};
+use wire_base::{Cursor, FieldRefused, List};
+
+/// The request that is the value of an attribute of type 13 (RFC 8412, section 5.6).
+///
+/// `Fault` comes exactly where the value has no form; its offset is the place of the first fault, counted from `base`, the
+/// place of the value's first octet.
+pub fn read_request(alloc: Global, value: &[u8], base: u32) -> Result<Request, FieldRefused>
+    requires places { base + length value.now < 2 ^ 32 }
+    ensures value { Gives (λ read. read) result (whole read_request base value.now) }
+{
+    request(alloc, Cursor::new(base, value))
+}
+
+#[tactic(auto, unfolding(crate::specs::RequestForm::read_request))]
+fn request(alloc: Global, mut cursor: Cursor) -> Result<Request, FieldRefused>
+    ensures request { Gives (λ read. read) result (value_alone (read_request cursor.entry)) }
+{
+    let flags = cursor.u8()?;
+    let count = cursor.u24()?;
+    let id = cursor.u32()?;
+    let earliest = cursor.u32()?;
+    let targets = targets(alloc, &mut cursor, count)?;
+    cursor.end()?;
+    Ok(Request {
+        clear: flags & CLEAR != 0,
+        subscribe: flags & SUBSCRIBE != 0,
+        kind: kind_of(flags & IDENTIFIERS_ONLY != 0),
+        id,
+        earliest,
+        targets,
+    })
+}
+
+/// The kind of the reports that are asked for, by the flag.
+fn kind_of(ids_only: bool) -> Kind
+    ensures kind { result ≡ kind_of ids_only }
+{
+    if ids_only { Kind::Ids } else { Kind::Full }
+}
+
+/// The fewest octets of a target.
+const FEWEST_TARGET_OCTETS: usize = 2;
+
+fn targets(alloc: Global, cursor: &mut Cursor, count: u32) -> Result<Idents, FieldRefused>
+    ensures targets { Gives (λ read. (read, cursor.new)) result (several count (counted 2) cursor.old) }
+{
+    let fit = cursor.left() / FEWEST_TARGET_OCTETS;
+    let mut targets = List::with_capacity(alloc, fit.min(count as usize))?;
+    for _ in 0..count {
+        targets.push(target(alloc, cursor)?)?;
+    }
+    Ok(targets)
+}
+
+fn target(alloc: Global, cursor: &mut Cursor) -> Result<Ident, FieldRefused>
+    ensures target { Gives (λ read. (read, cursor.new)) result (counted 2 cursor.old) }
+{
+    Ok(Ident::of(alloc, cursor.counted(2)?)?)
+}
