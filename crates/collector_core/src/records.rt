@@ -1,0 +1,63 @@
+//! Records in order of their identifiers.
+
+ghost use Rattle.std.specs.Prelude.{◌≡◌, ◌<◌, ◌≤◌, ◌+◌, ◌^◌, ℕ, All, IfOk, length};
+ghost use Rattle.std.specs.List.{sum_by};
+ghost use Rattle.std.specs.List.Sorted.{IsStrictlyIncreasing};
+ghost use Rattle.swima_model.specs.InOrder.{ids};
+ghost use Rattle.swima_model.specs.Size.{MOST_OCTETS, content_octets};
+ghost use Rattle.collector_core.specs.Book.{IsPlaceOf};
+ghost use Rattle.collector_core.specs.Chronicle.{identified_from};
+ghost use Rattle.collector_core.specs.Legal.{IsContent};
+
+use std::alloc::Global;
+use swima_model::{Content, Record};
+use wire_base::{Memory, TryCopy};
+
+/// Where the record of an identifier stands, among records of rising identifiers.
+pub fn place_of(records: &[Record], id: u32) -> Option<usize>
+    requires rising { IsStrictlyIncreasing (ids records.now) }
+    ensures place { IsPlaceOf records.now id result }
+{
+    records.binary_search_by_key(&id, |record| record.id).ok()
+}
+
+/// How many octets the contents have together.
+pub fn octets_of(contents: &[Content]) -> u64
+    requires few { length contents.now ≤ 65536 }
+    ensures octets { result ≡ sum_by content_octets contents.now }
+    ensures contents { All IsContent contents.now }
+{
+    let mut octets = 0;
+    for content in contents {
+        within_limits(content);
+        octets += content.octets();
+    }
+    octets
+}
+
+/// Records of these contents, with the identifiers 1, 2 and so on.
+pub fn identified(alloc: Global, contents: &[Content]) -> Result<Vec<Record>, Memory>
+    requires few { length contents.now ≤ 65536 }
+    ensures records { IfOk result (λ made. made.items ≡ identified_from 1 contents.now) }
+{
+    let mut records = Vec::with_capacity(alloc, contents.len())?;
+    let mut id = 0;
+    for content in contents {
+        id += 1;
+        let content = content.copy()?;
+        records.push(Record { id, content })?;
+    }
+    Ok(records)
+}
+
+/// Says that the parts of a content are within their limits. It does nothing.
+pub fn within_limits(content: &Content)
+    ensures content { IsContent content.now }
+{
+    let _pen = content.model.pen;
+    let _kind = content.model.kind;
+    let _source = content.source;
+    let _ident = content.ident.bytes();
+    let _locator = content.locator.bytes();
+    let _body = content.body.bytes();
+}
