@@ -1,10 +1,10 @@
 -- An attribute's layout, and what the octets of a stream begin with, say the same.
-use Rattle.std.proofs.Common.{◌≡◌, ℕ, ◌+◌, ◌-◌, ◌<◌, ◌≤◌, ◌^◌, Bool, true, false, cond, not, List, [], ◌∷◌, ◌++◌, length, take, drop, eqb, Result, Ok, Err, refl, sym, ap, subst, ◌∙◌, append_assoc, arith, length-append, length-take, length-drop}
+use Rattle.std.proofs.Common.{◌≡◌, ℕ, ◌+◌, ◌-◌, ◌<◌, ◌≤◌, Bool, true, false, List, [], ◌∷◌, ◌++◌, length, take, drop, eqb, Ok, refl, sym, ap, subst, ◌∙◌, append_assoc, arith, length-append, length-take, length-drop}
 use Rattle.std.specs.Prelude.{nat_lt, ◌==◌, ◌||◌}
-use Rattle.std.proofs.lemmas.Bool.{le-ltb, ltb-false, eqb-true, eqb-false}
-use Rattle.std.proofs.lemmas.List.{append-nil, nil_from_length, take-append-drop, take_at, drop_at, take_all}
+use Rattle.std.proofs.lemmas.Bool.{le-ltb, eqb-true, eqb-false}
+use Rattle.std.proofs.lemmas.List.{append-nil, nil_from_length, take-append-drop, take_at, drop_at}
 use Rattle.std.proofs.Math.Seq.{take-append-add}
-use Rattle.wire_base.specs.Layout.{AreOctets, Field, Number, Flags, Fixed, Form}
+use Rattle.wire_base.specs.Layout.{AreOctets, Flags, Fixed, Form}
 use Rattle.wire_base.specs.Written.{Fit, written}
 use Rattle.wire_base.proofs.Exact.{Form-append, Form-split, alone, from_alone}
 use Rattle.wire_base.proofs.WrittenLaws.{written_form}
@@ -13,9 +13,9 @@ use Rattle.pa_attrs.specs.declared.header.Header.{Header}
 use Rattle.pa_attrs.specs.Numbers.{HEADER, NO_VENDOR, NO_TYPE, MOST_OCTETS}
 use Rattle.pa_attrs.specs.AttrForm.{AttrForm, IsNamed, attr_fields, header_fields, header_for}
 use Rattle.pa_attrs.specs.Header.{attr_of, header_of}
-use Rattle.pa_attrs.specs.Faults.{Row, row, first_shown, header_rows, unless, stream_header}
+use Rattle.pa_attrs.specs.Faults.{row, first_shown, header_rows, unless, stream_header}
 use Rattle.pa_attrs.specs.Laws.{IsFirst, WholeIsAttribute, FrontStays, NoneIsFront, WrittenIsFirst}
-use Rattle.pa_attrs.specs.Stream.{Bad, Whole, front_of}
+use Rattle.pa_attrs.specs.Stream.{Whole, front_of}
 use Rattle.pa_attrs.proofs.Fronts.{front_whole, whole_is, whole_more, bad_more}
 use Rattle.pa_attrs.proofs.HeaderForm.{header_form, header_length, header_says}
 use Rattle.pa_attrs.proofs.Headers.{IsGood, stream_good}

@@ -1,5 +1,5 @@
 -- The first row that shows has the lowest place.
-use Rattle.std.proofs.Common.{◌≡◌, ◌≤◌, ℕ, Bool, true, false, cond, List, [], ◌∷◌, Option, Some, None, refl, ap, ◌∙◌, sym, arith}
+use Rattle.std.proofs.Common.{◌≡◌, ◌≤◌, ℕ, Bool, true, false, cond, List, [], ◌∷◌, Some, refl, ap, ◌∙◌, sym, arith}
 use Rattle.std.specs.List.{AllByRecursion}
 use Rattle.pa_attrs.specs.declared.fault.AttrFault.{AttrFault}
 use Rattle.pa_attrs.specs.Faults.{Row, first_shown, header_rows, message_rows}

@@ -1,5 +1,5 @@
 -- A piece behind octets that are held.
-use Rattle.std.proofs.Common.{◌≡◌, ℕ, ◌+◌, ◌-◌, ◌<◌, ◌≤◌, min, Bool, false, cond, Option, Some, None, List, [], ◌++◌, length, take, drop, Result, Ok, Err, refl, sym, ap, subst, ◌∙◌, ◌⊎◌, inl, inr, arith, append_assoc, length-append, length-take}
+use Rattle.std.proofs.Common.{◌≡◌, ℕ, ◌+◌, ◌-◌, ◌<◌, ◌≤◌, min, Bool, false, cond, Some, None, List, [], ◌++◌, length, take, drop, Ok, Err, sym, ap, ◌∙◌, inl, inr, arith, append_assoc, length-append, length-take}
 use Rattle.std.specs.Prelude.{nat_lt}
 use Rattle.std.proofs.lemmas.Bool.{cases_lt, le-ltb}
 use Rattle.std.proofs.lemmas.List.{take_all, take_at, drop_at, take-append-drop, append-nil, length-drop}
@@ -8,7 +8,6 @@ use Rattle.pa_attrs.specs.declared.attr.Attr.{Attr}
 use Rattle.pa_attrs.specs.declared.fault.AttrFault.{AttrFault}
 use Rattle.pa_attrs.specs.declared.header.Header.{Header}
 use Rattle.pa_attrs.specs.Numbers.{HEADER, MOST_OCTETS}
-use Rattle.pa_attrs.specs.Header.{attr_of}
 use Rattle.pa_attrs.specs.Faults.{stream_header}
 use Rattle.pa_attrs.specs.Stream.{More, Bad, Whole, front_of, header_held}
 use Rattle.pa_attrs.proofs.Headers.{stream_front, stream_good}

@@ -1,7 +1,7 @@
 -- What the octets of a stream begin with, and that it stays so when others come behind them.
-use Rattle.std.proofs.Common.{◌≡◌, ℕ, ◌+◌, ◌-◌, ◌<◌, ◌≤◌, Bool, true, false, cond, List, [], ◌++◌, length, take, drop, Result, Ok, Err, refl, sym, ap, ◌∙◌, ◌⊎◌, inl, inr, arith, length-append}
+use Rattle.std.proofs.Common.{◌≡◌, ℕ, ◌-◌, ◌<◌, ◌≤◌, Bool, true, false, cond, List, [], ◌++◌, length, take, drop, Result, Ok, Err, refl, sym, ap, ◌∙◌, ◌⊎◌, inl, inr, arith, length-append}
 use Rattle.std.specs.Prelude.{nat_lt}
-use Rattle.std.proofs.lemmas.Bool.{cases_lt, lt-ltb, le-ltb, ltb-true, ltb-false}
+use Rattle.std.proofs.lemmas.Bool.{lt-ltb, le-ltb, ltb-true, ltb-false}
 use Rattle.std.proofs.lemmas.List.{drop-append-le, take-append-le, length-drop}
 use Rattle.pa_attrs.specs.declared.attr.Attr.{Attr}
 use Rattle.pa_attrs.specs.declared.fault.AttrFault.{AttrFault}
@@ -9,8 +9,8 @@ use Rattle.pa_attrs.specs.declared.header.Header.{Header}
 use Rattle.pa_attrs.specs.Numbers.{HEADER, MOST_OCTETS}
 use Rattle.pa_attrs.specs.Header.{attr_of}
 use Rattle.pa_attrs.specs.Faults.{stream_header}
-use Rattle.pa_attrs.specs.Stream.{Front, More, Bad, Whole, headed, front_of}
-use Rattle.pa_attrs.proofs.Headers.{IsGood, stream_front, stream_good}
+use Rattle.pa_attrs.specs.Stream.{More, Bad, Whole, headed, front_of}
+use Rattle.pa_attrs.proofs.Headers.{stream_front, stream_good}
 
 -- Fewer octets than a header has may become anything.
 pub front_short : (octets : List ℕ) → length octets < HEADER → front_of octets ≡ More

@@ -1,12 +1,12 @@
 -- The header in octets, and its layout, say the same.
-use Rattle.std.proofs.Common.{◌≡◌, ℕ, ◌+◌, ◌*◌, ◌<◌, ◌≤◌, Bool, false, cond, List, [], ◌∷◌, ◌++◌, length, take, drop, get_or, Result, Ok, Err, refl, sym, ap, subst, ◌∙◌, arith, length-append, length-drop}
-use Rattle.std.specs.Prelude.{nat_lt, slice_index, slice_range}
+use Rattle.std.proofs.Common.{◌≡◌, ℕ, ◌+◌, ◌≤◌, Bool, cond, List, [], ◌∷◌, ◌++◌, length, take, drop, Result, Ok, Err, refl, sym, ap, subst, ◌∙◌, arith, length-append, length-drop}
+use Rattle.std.specs.Prelude.{slice_index, slice_range}
 use Rattle.std.proofs.lemmas.Bool.{le-ltb}
 use Rattle.std.proofs.lemmas.List.{drop-drop}
 use Rattle.wire_base.specs.Numbers.{number_of}
 use Rattle.wire_base.specs.Layout.{AreOctets, Field, Number, Reserved, Form, is_set}
 use Rattle.wire_base.specs.Reading.{Reader, Rest, ◌>>=◌, and_then, done, octets, number}
-use Rattle.wire_base.proofs.Exact.{Exact, Anything, behind}
+use Rattle.wire_base.proofs.Exact.{Exact, Anything}
 use Rattle.wire_base.proofs.Blocks.{then_number, then_flags, then_reserved, gives}
 use Rattle.wire_base.proofs.Spelled.{length-octets_of}
 use Rattle.pa_attrs.specs.declared.header.Header.{Header}
@@ -28,7 +28,7 @@ same_read : {A : Type 0} (x y : A) (r s : Rest) → read_as x r ≡ read_as y s 
 same_read x y r s e = ap (λ (read : Result (_ × Rest) ℕ). value_of x read) e
 
 -- Octets that are there are read.
-octets_there : (size at : ℕ) (all : List ℕ) → size ≤ length all → octets size (record { at = at; octets = all }) ≡ Ok (take size all, record { at = at + size; octets = drop size all })
+pub octets_there : (size at : ℕ) (all : List ℕ) → size ≤ length all → octets size (record { at = at; octets = all }) ≡ Ok (take size all, record { at = at + size; octets = drop size all })
 octets_there size at all long = ap (λ (b : Bool). cond b (Err at) (Ok (take size all, record { at = at + size; octets = drop size all }))) (le-ltb (length all) size long)
 
 number_there : (size at : ℕ) (all : List ℕ) → size ≤ length all → number size (record { at = at; octets = all }) ≡ Ok (number_of (take size all), record { at = at + size; octets = drop size all })
@@ -40,7 +40,7 @@ first_is [] long = absurd (omega arith)
 first_is (octet ∷ all) long = omega arith
 
 -- A field is read, and what comes behind it, where the octets behind it begin at a place of all.
-next_there : {B : Type 0} (next : ℕ → Reader B) (size from at : ℕ) (all : List ℕ) → from + size ≤ length all
+pub next_there : {B : Type 0} (next : ℕ → Reader B) (size from at : ℕ) (all : List ℕ) → from + size ≤ length all
     → (number size >>= next) (record { at = at; octets = drop from all }) ≡ next (number_of (take size (drop from all))) (record { at = at + size; octets = drop (from + size) all })
 next_there next size from at all long =
     ap (λ (r : Result (ℕ × Rest) ℕ). and_then r next) (number_there size at (drop from all) (omega (arith, length-drop from all)))

@@ -1,16 +1,13 @@
 -- The header of an attribute is said by its 12 octets, whatever follows them.
-use Rattle.std.proofs.Common.{◌≡◌, ℕ, ◌+◌, ◌<◌, ◌≤◌, Bool, true, false, cond, List, [], ◌∷◌, ◌++◌, length, take, drop, get_or, eqb, Result, Ok, Err, refl, sym, ap, subst, ◌∙◌, arith}
+use Rattle.std.proofs.Common.{◌≡◌, ℕ, ◌+◌, ◌≤◌, Bool, true, false, List, [], ◌∷◌, ◌++◌, length, take, drop, get_or, eqb, Ok, refl, ap, subst, ◌∙◌, arith}
 use Rattle.std.specs.Prelude.{nat_lt, ◌==◌, ◌||◌}
 use Rattle.std.proofs.lemmas.Bool.{ltb-false}
 use Rattle.std.proofs.lemmas.List.{drop-append-le, take-append-le, get_or_append_left}
 use Rattle.std.proofs.lemmas.List.{length-drop}
-use Rattle.wire_base.specs.Layout.{is_set}
-use Rattle.wire_base.specs.Numbers.{number_of}
-use Rattle.pa_attrs.specs.declared.fault.AttrFault.{AttrFault}
 use Rattle.pa_attrs.specs.declared.header.Header.{Header}
 use Rattle.pa_attrs.specs.Numbers.{HEADER, NO_VENDOR, NO_TYPE, MOST_OCTETS}
 use Rattle.pa_attrs.specs.Header.{header_of}
-use Rattle.pa_attrs.specs.Faults.{fault, row, first_shown, header_rows, unless, stream_header}
+use Rattle.pa_attrs.specs.Faults.{row, first_shown, header_rows, unless, stream_header}
 
 -- Some octets of a front are there also with others behind it.
 slice_front : (from size : ℕ) (front rest : List ℕ) → from + size ≤ length front → take size (drop from (front ++ rest)) ≡ take size (drop from front)

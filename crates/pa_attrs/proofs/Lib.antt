@@ -6,6 +6,6 @@ pub mod Writing
 pub mod HeaderForm
 pub mod AttrLaws
 pub mod MessageLaws
-pub mod Remaining
 pub mod ErrorLaws
 pub mod FaultLaws
+pub mod FirstFaults

@@ -1,12 +1,12 @@
 -- A message's layout, and what its octets are read as, say the same.
-use Rattle.std.proofs.Common.{◌≡◌, ℕ, zero, suc, ◌+◌, ◌-◌, ◌<◌, ◌≤◌, ◌^◌, Bool, true, false, cond, not, List, [], ◌∷◌, ◌++◌, length, take, drop, eqb, Option, Some, None, Result, Ok, Err, refl, sym, ap, subst, ◌∙◌, arith, length-append, length-drop}
+use Rattle.std.proofs.Common.{◌≡◌, ℕ, zero, suc, ◌+◌, ◌-◌, ◌<◌, ◌≤◌, ◌^◌, Bool, true, false, cond, not, List, [], ◌∷◌, ◌++◌, length, take, drop, eqb, Option, Some, None, Result, Ok, Err, refl, sym, ap, subst, ◌∙◌, arith, length-append}
 use Rattle.std.specs.Prelude.{nat_lt, ◌==◌, ◌&&◌, filter, slice_index, slice_range}
 use Rattle.std.specs.List.{flat_map, AllByRecursion}
 use Rattle.std.proofs.lemmas.Bool.{le-ltb, ltb-false, eqb-true}
 use Rattle.std.proofs.lemmas.List.{nil_from_length, take-append-drop, drop_at}
 use Rattle.wire_base.specs.Numbers.{number_of}
-use Rattle.wire_base.specs.Layout.{AreOctets, Field, Form}
-use Rattle.wire_base.specs.Written.{Fit, written}
+use Rattle.wire_base.specs.Layout.{AreOctets, Form}
+use Rattle.wire_base.specs.Written.{Fit}
 use Rattle.wire_base.proofs.Exact.{Form-append, Form-split}
 use Rattle.wire_base.proofs.Spelled.{AreOctets-rest}
 use Rattle.wire_base.proofs.WrittenLaws.{written_form, Fit-append}
@@ -16,16 +16,16 @@ use Rattle.pa_attrs.specs.declared.attr.PlacedAttr.{PlacedAttr}
 use Rattle.pa_attrs.specs.declared.fault.AttrFault.{AttrFault}
 use Rattle.pa_attrs.specs.declared.fault.PaFault.{PaFault}
 use Rattle.pa_attrs.specs.declared.header.Header.{Header}
-use Rattle.pa_attrs.specs.Numbers.{HEADER, VERSION, MESSAGE_HEADER, MOST_OCTETS, MOST_ATTRIBUTES}
+use Rattle.pa_attrs.specs.Numbers.{HEADER, MOST_OCTETS}
 use Rattle.pa_attrs.specs.AttrForm.{IsNamed, attr_fields, header_for}
 use Rattle.pa_attrs.specs.Header.{attr_of, header_of}
-use Rattle.pa_attrs.specs.Faults.{Row, row, first_shown, header_rows, is_refused, is_supported, message_header, unless}
+use Rattle.pa_attrs.specs.Faults.{Row, row, first_shown, header_rows, is_refused, message_header, unless}
 use Rattle.pa_attrs.specs.Laws.{IsPassed, IsRead, IsSupported, ReadingIsForm, WrittenIsRead, places}
 use Rattle.pa_attrs.specs.MessageForm.{IsMessage, MessageForm, message_fields, written_message}
 use Rattle.pa_attrs.specs.MessageReading.{Broken, Walked, attributes, attrs_of, in_front, kept, message_of, placed, supports, unless_start, with_id}
-use Rattle.pa_attrs.proofs.AttrLaws.{IsAttr, Makes, attr_fit, attr_joined, attr_length, attr_parts, attr_says, attr_there, differ, good_makes, no_fault}
+use Rattle.pa_attrs.proofs.AttrLaws.{IsAttr, attr_fit, attr_joined, attr_length, attr_parts, attr_says, attr_there, differ, good_makes, no_fault}
 use Rattle.pa_attrs.proofs.HeaderForm.{start_fields, start_form, start_length, start_says}
-use Rattle.pa_attrs.proofs.Walking.{MayStand, message_good, walk_more, walk_none, walk_stops}
+use Rattle.pa_attrs.proofs.Walking.{message_good, walk_more, walk_none, walk_stops}
 use Rattle.pa_attrs.proofs.Writing.{head, length-written_attr, message_written, written_attr, written_may_be}
 
 -- ---- one attribute
@@ -243,7 +243,7 @@ attrs_fit (attr ∷ attrs) named within =
     Fit-append (attr_fields attr) (flat_map attr_fields attrs) (attr_fit attr named.0 (omega arith)) (attrs_fit attrs named.1 (omega arith))
 
 -- What is written of a message is in its layout.
-pub written_is_message : (message : PaMessage) → message.id < 2 ^ 32 → IsMessage message (written_message message) → MessageForm message (written_message message)
+pub written_is_message : (message : PaMessage) → message.id < 2 ^ 32 → IsMessage message (length (written_message message)) → MessageForm message (written_message message)
 written_is_message message fits is =
     let all = ap (λ (o : List ℕ). length o) (message_written message) ∙ length-append (head message.id) (flat_map written_attr message.attrs) in
     let attrs : length (flat_map written_attr message.attrs) ≤ MOST_OCTETS = omega (arith, is.within, all) in

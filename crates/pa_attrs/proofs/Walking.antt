@@ -1,5 +1,5 @@
 -- The attributes of a message, one after another.
-use Rattle.std.proofs.Common.{◌≡◌, ℕ, zero, suc, ◌+◌, ◌-◌, ◌<◌, ◌≤◌, Bool, true, false, cond, not, List, [], ◌∷◌, ◌++◌, length, drop, eqb, Option, Some, None, Result, Ok, Err, refl, sym, ap, subst, ◌∙◌, append_assoc, arith, length-drop}
+use Rattle.std.proofs.Common.{◌≡◌, ℕ, zero, suc, ◌+◌, ◌-◌, ◌<◌, ◌≤◌, Bool, true, false, cond, not, List, [], ◌∷◌, ◌++◌, length, drop, eqb, Some, None, Result, Ok, Err, refl, sym, ap, subst, ◌∙◌, append_assoc, arith}
 use Rattle.std.specs.Prelude.{nat_lt, ◌==◌, ◌&&◌, ◌||◌, filter}
 use Rattle.std.specs.List.{list_any}
 use Rattle.std.proofs.lemmas.Bool.{ltb-false, eqb-true, eqb-false}
@@ -8,12 +8,11 @@ use Rattle.std.proofs.lemmas.List.Elements.{filter-append}
 use Rattle.std.proofs.lemmas.List.Folds.{list_any-append}
 use Rattle.pa_attrs.specs.declared.attr.PlacedAttr.{PlacedAttr}
 use Rattle.pa_attrs.specs.declared.fault.AttrFault.{AttrFault}
-use Rattle.pa_attrs.specs.declared.fault.PaFault.{PaFault}
 use Rattle.pa_attrs.specs.declared.header.Header.{Header}
 use Rattle.pa_attrs.specs.Numbers.{HEADER, NO_VENDOR, NO_TYPE}
-use Rattle.pa_attrs.specs.Header.{header_of, attr_of}
-use Rattle.pa_attrs.specs.Faults.{Row, row, fault, first_shown, header_rows, is_refused, unless, message_header}
-use Rattle.pa_attrs.specs.MessageReading.{Walked, in_front, placed, and_others, one_more, attributes, is_error, is_answered, fault_of, supports, kept}
+use Rattle.pa_attrs.specs.Header.{header_of}
+use Rattle.pa_attrs.specs.Faults.{Row, row, first_shown, header_rows, is_refused, unless, message_header}
+use Rattle.pa_attrs.specs.MessageReading.{Walked, in_front, placed, and_others, attributes, is_error, is_answered, fault_of, supports, kept}
 use Rattle.pa_attrs.proofs.Headers.{IsGood, unless_good}
 
 -- ---- the header of an attribute of a message
@@ -67,7 +66,7 @@ walk_none supported zero at = refl
 walk_none supported (suc room) at = refl
 
 -- Where there are octets, they are not none.
-some_octets : (octets : List ℕ) → 0 < length octets → eqb (length octets) 0 ≡ false
+pub some_octets : (octets : List ℕ) → 0 < length octets → eqb (length octets) 0 ≡ false
 some_octets octets some = not_none (eqb (length octets) 0) refl
   where
     not_none : (b : Bool) → eqb (length octets) 0 ≡ b → b ≡ false

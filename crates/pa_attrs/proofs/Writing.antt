@@ -1,13 +1,11 @@
 -- What is written of a message, attribute by attribute.
-use Rattle.std.proofs.Common.{◌≡◌, ℕ, zero, suc, ◌+◌, ◌<◌, ◌≤◌, ◌^◌, List, [], ◌∷◌, ◌++◌, length, take, get_or, refl, sym, ap, ◌∙◌, append_assoc, arith, length-append}
+use Rattle.std.proofs.Common.{◌≡◌, ℕ, ◌+◌, ◌<◌, ◌≤◌, ◌^◌, List, [], ◌∷◌, ◌++◌, length, get_or, refl, sym, ap, ◌∙◌, arith, length-append}
 use Rattle.std.specs.List.{flat_map, sum_by}
-use Rattle.std.proofs.lemmas.List.{append-nil}
 use Rattle.std.proofs.lemmas.List.Sums.{get_or-le-sum_by, sum_by-cons}
 use Rattle.wire_base.specs.Numbers.{octets_of}
-use Rattle.wire_base.specs.Layout.{Field, Number, Reserved}
-use Rattle.wire_base.specs.Written.{written, flags_octet}
+use Rattle.wire_base.specs.Written.{written}
 use Rattle.wire_base.proofs.Spelled.{length-octets_of}
-use Rattle.wire_base.proofs.WrittenLaws.{written-append, written-flat_map}
+use Rattle.wire_base.proofs.WrittenLaws.{written-flat_map}
 use Rattle.pa_attrs.specs.declared.attr.Attr.{Attr}
 use Rattle.pa_attrs.specs.declared.attr.PaMessage.{PaMessage}
 use Rattle.pa_attrs.specs.Numbers.{HEADER, MOST_OCTETS}
@@ -74,7 +72,7 @@ written_is_counted message =
     )
 
 -- A message that can be written is one.
-pub written_may_be : (message : PaMessage) → CanBeWritten message → IsMessage message (written_message message)
+pub written_may_be : (message : PaMessage) → CanBeWritten message → IsMessage message (length (written_message message))
 written_may_be message can = record { named = can.named; count = can.count; within = omega (arith, can.within, written_is_counted message) }
 
 -- Each attribute of a message has a length that fits its field.

@@ -1,10 +1,9 @@
 -- A PA-TNC Error (RFC 5792, section 4.2.8), the value of an attribute of vendor 0 and type 8: a code by the numbers of a
 -- vendor, and information by that code.
-use Rattle.std.specs.Prelude.{ℕ, List, [], ◌∷◌, ◌++◌, Option, Some, None, length}
+use Rattle.std.specs.Prelude.{ℕ, List, [], ◌∷◌, Option, Some, None, length}
 use Rattle.wire_base.specs.Layout.{Field, Number, Reserved, Fixed, Form}
 use Rattle.wire_base.specs.Written.{written}
-use Rattle.wire_base.specs.Reading.{Reader, ◌>>=◌, done, octets, number, at_end}
-use Rattle.pa_attrs.specs.Remaining.{remaining}
+use Rattle.wire_base.specs.Reading.{Reader, ◌>>=◌, octets, number, at_end, remaining}
 use Rattle.pa_attrs.specs.declared.error.PaError.{PaError}
 use Rattle.pa_attrs.specs.Numbers.{VERSION, INVALID_PARAMETER, VERSION_NOT_SUPPORTED, UNSUPPORTED_ATTRIBUTE}
 

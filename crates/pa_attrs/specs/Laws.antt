@@ -1,5 +1,5 @@
 -- What the definitions mean. All lists of octets here have numbers below 256.
-use Rattle.std.specs.Prelude.{◌≡◌, ◌≤◌, ◌<◌, ◌+◌, ◌^◌, ◌↔◌, ℕ, true, false, List, [], ◌∷◌, ◌++◌, Some, Ok, length, filter}
+use Rattle.std.specs.Prelude.{◌≡◌, ◌≤◌, ◌<◌, ◌+◌, ◌^◌, ◌↔◌, ◌⊎◌, ℕ, true, false, List, [], ◌∷◌, ◌++◌, Some, Ok, Err, length, filter}
 use Rattle.std.specs.List.{AllByRecursion}
 use Rattle.wire_base.specs.Layout.{AreOctets}
 use Rattle.wire_base.specs.Reading.{whole}
@@ -9,14 +9,17 @@ use Rattle.pa_attrs.specs.declared.attr.PaMessage.{PaMessage}
 use Rattle.pa_attrs.specs.declared.attr.PlacedAttr.{PlacedAttr}
 use Rattle.pa_attrs.specs.declared.error.PaError.{PaError}
 use Rattle.pa_attrs.specs.declared.fault.AttrFault.{AttrFault}
+use Rattle.pa_attrs.specs.declared.fault.PaFault.{PaFault}
 use Rattle.pa_attrs.specs.declared.header.Header.{Header}
 use Rattle.pa_attrs.specs.Numbers.{HEADER, MESSAGE_HEADER, MOST_OCTETS}
 use Rattle.pa_attrs.specs.AttrForm.{AttrForm, IsNamed, attr_fields, header_for}
 use Rattle.pa_attrs.specs.ErrorForm.{ErrorForm, read_error, written_error}
 use Rattle.pa_attrs.specs.Faults.{Row, first_shown, header_rows, is_refused, is_supported, message_rows}
+use Rattle.pa_attrs.specs.FirstFault.{IsFault}
+use Rattle.pa_attrs.specs.Header.{header_of}
 use Rattle.pa_attrs.specs.MessageForm.{CanBeWritten, MessageForm, message_octets, written_message}
 use Rattle.pa_attrs.specs.MessageReading.{message_of, supports}
-use Rattle.pa_attrs.specs.Stream.{Front, Bad, Whole, front_of}
+use Rattle.pa_attrs.specs.Stream.{Bad, Whole, front_of}
 
 -- ---- streams
 
@@ -92,11 +95,33 @@ FaultIsLowest = (supported octets : List ℕ) (room most : ℕ) (h : Header) (fa
     → (first_shown (message_rows supported room octets h) ≡ Some fault → IsLowest fault (message_rows supported room octets h))
     × (first_shown (header_rows most h) ≡ Some fault → IsLowest fault (header_rows most h))
 
+-- A message is refused with a fault exactly where that is the first: of all rows that show, on whichever attribute, the one
+-- with the lowest place.
+abbrev pub FaultIsFirst : Type 0
+FaultIsFirst = (supported octets : List ℕ) (fault : PaFault) → (message_of supported octets ≡ Err fault) ↔ IsFault supported octets fault
+
+-- A fault shows in a stream exactly where the 12 octets of a header are there and it is the first row that shows on them.
+abbrev pub BadIsFault : Type 0
+BadIsFault = (octets : List ℕ) (fault : AttrFault)
+    → (front_of octets ≡ Bad fault) ↔ ((HEADER ≤ length octets) × (first_shown (header_rows MOST_OCTETS (header_of octets)) ≡ Some fault))
+
 -- ---- Errors
 
 -- An Error is read of octets exactly where they are one.
 abbrev pub ErrorIsForm : Type 0
 ErrorIsForm = (base : ℕ) (octets : List ℕ) (error : PaError) → AreOctets octets → (whole read_error base octets ≡ Ok error) ↔ ErrorForm error octets
+
+-- A value of so many octets is no Error, and its fault is at a place: that of the reserved octet, of the vendor or of the code,
+-- the first of them that does not fit.
+abbrev pub IsTorn : ℕ → ℕ → ℕ → Type 0
+IsTorn base count place =
+    ((count < 1) × (place ≡ base))
+    ⊎ (((1 ≤ count) × (count < 4) × (place ≡ base + 1))
+    ⊎ ((4 ≤ count) × (count < 8) × (place ≡ base + 4)))
+
+-- A value has a fault exactly where it has fewer than 8 octets, at the first field that does not fit.
+abbrev pub ErrorIsTorn : Type 0
+ErrorIsTorn = (base : ℕ) (octets : List ℕ) (place : ℕ) → (whole read_error base octets ≡ Err place) ↔ IsTorn base (length octets) place
 
 -- What is written of an Error is read back.
 abbrev pub WrittenErrorIsRead : Type 0

@@ -6,6 +6,6 @@ pub mod Stream
 pub mod Held
 pub mod MessageForm
 pub mod MessageReading
-pub mod Remaining
+pub mod FirstFault
 pub mod ErrorForm
 pub mod Laws

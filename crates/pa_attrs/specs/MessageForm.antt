@@ -16,16 +16,16 @@ message_fields message =
     ∷ Number 4 message.id  -- Message Identifier
     ∷ flat_map attr_fields message.attrs
 
--- A message may be so: its attributes are named and not too many, and its octets not either.
-pub record IsMessage (message : PaMessage) (octets : List ℕ) : Type 0 where
+-- A message may have so many octets: its attributes are named and not too many, and the octets not either.
+pub record IsMessage (message : PaMessage) (octets : ℕ) : Type 0 where
   pub named : AllByRecursion IsNamed message.attrs
   pub count : length message.attrs ≤ MOST_ATTRIBUTES
-  pub within : length octets ≤ MOST_OCTETS
+  pub within : octets ≤ MOST_OCTETS
 
 -- The octets are the message.
 pub record MessageForm (message : PaMessage) (octets : List ℕ) : Type 0 where
   pub form : Form (message_fields message) octets
-  pub may_be : IsMessage message octets
+  pub may_be : IsMessage message (length octets)
 
 -- What is written of a message.
 abbrev pub written_message : PaMessage → List ℕ
@@ -35,8 +35,6 @@ written_message message = written (message_fields message)
 abbrev pub message_octets : PaMessage → ℕ
 message_octets message = MESSAGE_HEADER + sum_by (λ (attr : Attr). HEADER + length attr.value) message.attrs
 
--- A message that can be written: its attributes are named and not too many, and its octets not either.
-pub record CanBeWritten (message : PaMessage) : Type 0 where
-  pub named : AllByRecursion IsNamed message.attrs
-  pub count : length message.attrs ≤ MOST_ATTRIBUTES
-  pub within : message_octets message ≤ MOST_OCTETS
+-- A message that can be written.
+abbrev pub CanBeWritten : PaMessage → Type 0
+CanBeWritten message = IsMessage message (message_octets message)

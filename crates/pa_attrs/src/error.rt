@@ -86,7 +86,7 @@ impl PaError {
     }
 }
 
-/// The octets of an Error: the value of its attribute.
+/// The octets of an Error: the value of its attribute (RFC 5792, section 4.2.8), with 0 in what is reserved.
 #[tactic(auto, unfolding(wire_base::specs::Written::written, wire_base::specs::Numbers::octets_of))]
 pub fn write_error(alloc: Global, error: &PaError) -> Result<Octets, Memory>
     requires vendor { error.now.vendor < 2 ^ 24 }
@@ -111,6 +111,7 @@ pub fn read_error(alloc: Global, value: &[u8], base: u32) -> Result<PaError, Fie
     error(alloc, Cursor::new(base, value))
 }
 
+/// The Error in what is left, all of it.
 #[tactic(auto, unfolding(crate::specs::ErrorForm::read_error))]
 fn error(alloc: Global, mut cursor: Cursor) -> Result<PaError, FieldRefused>
     ensures error { Gives (λ read. read) result (value_alone (read_error cursor.entry)) }

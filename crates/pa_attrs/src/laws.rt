@@ -1,6 +1,6 @@
 //! What the definitions mean, proved of every value: the calls do nothing.
 
-ghost use Rattle.pa_attrs.specs.Laws.{ErrorIsForm, FaultIsLowest, FrontStays, NoneIsFront, ReadingIsForm, WholeIsAttribute, WrittenErrorIsRead, WrittenIsCounted, WrittenIsFirst, WrittenIsRead};
+ghost use Rattle.pa_attrs.specs.Laws.{BadIsFault, ErrorIsForm, ErrorIsTorn, FaultIsFirst, FaultIsLowest, FrontStays, NoneIsFront, ReadingIsForm, WholeIsAttribute, WrittenErrorIsRead, WrittenIsCounted, WrittenIsFirst, WrittenIsRead};
 
 /// Octets of a stream begin with a whole attribute exactly where an attribute in its form stands first.
 pub fn whole_is_attribute()
@@ -42,9 +42,25 @@ pub fn fault_is_lowest()
     ensures law { FaultIsLowest }
 {}
 
+/// A message is refused with a fault exactly where, of all rows of the table that show on its header and its attributes, this
+/// one counts.
+pub fn fault_is_first()
+    ensures law { FaultIsFirst }
+{}
+
+/// A fault shows in a stream exactly where the 12 octets of a header are there, and it is the first row that shows on them.
+pub fn bad_is_fault()
+    ensures law { BadIsFault }
+{}
+
 /// An Error is read of octets exactly where they have its form.
 pub fn error_is_form()
     ensures law { ErrorIsForm }
+{}
+
+/// A value is refused as an Error exactly where it has fewer than 8 octets, at the first field that does not fit.
+pub fn error_is_torn()
+    ensures law { ErrorIsTorn }
 {}
 
 /// What is written of an Error is read back.

@@ -65,6 +65,7 @@ pub fn read_message(alloc: Global, bytes: &[u8], supported: &[u32]) -> PaRead
     }
 }
 
+/// The identifier of the message and its attributes that are supported, or its first fault.
 #[tactic(auto, unfolding(crate::specs::MessageReading::message_of))]
 fn message(
     alloc: Global,
@@ -86,6 +87,7 @@ fn message(
     Ok((u32_at(bytes, 4), attrs))
 }
 
+/// The attributes of a message that are supported, or the first fault behind its header.
 fn attributes(alloc: Global, bytes: &[u8], supported: &[u32]) -> Result<PlacedAttrs, MessageRefused>
     requires least { 8 ≤ length bytes.now }
     requires most { length bytes.now ≤ 16777216 }

@@ -4,7 +4,7 @@
 use super::*;
 use std::alloc::Global;
 use std::test::Fail;
-use wire_base::{FieldRefused, List, Memory, Octets};
+use wire_base::{FieldRefused, List, Memory, Octets, TryCopy};
 
 /// The header of a message.
 const START: [u8; 8] = [1, 0, 0, 0, 0, 0, 0, 5];
@@ -21,20 +21,33 @@ const TOLD: [u8; 20] = [
 /// The types that are supported.
 const SUPPORTED: [u32; 2] = [14, 18];
 
-/// Attributes with a fault, each with its code and its place. Where two rows of the table show, the first counts.
-const FAULTS: [([u8; 12], u32, u32); 12] = [
-    ([0, 0, 0, 0, 0, 0, 0, 8, 0, 0, 0, 11], 1, 8),
-    ([0, 0, 0, 0, 0, 0, 0, 14, 0, 0, 0, 11], 1, 8),
-    ([0, 0, 0, 0, 0, 0, 0, 14, 0, 0, 0, 13], 1, 8),
-    ([0, 0, 0, 0, 0, 0, 0, 14, 1, 0, 0, 12], 1, 8),
-    ([0, 0, 0, 0, 255, 255, 255, 255, 0, 0, 0, 12], 1, 4),
-    ([0, 0, 0, 0, 255, 255, 255, 255, 0, 0, 0, 11], 1, 4),
-    ([0, 255, 255, 255, 0, 0, 0, 14, 0, 0, 0, 12], 1, 1),
-    ([0, 255, 255, 255, 255, 255, 255, 255, 0, 0, 0, 0], 1, 1),
+/// Attributes with a fault that shows whatever follows, each with its code and its place: each row of the table of faults alone
+/// and beside each other one, of which the first counts.
+const FAULTS: [([u8; 12], u32, u32); 14] = [
     ([0x80, 0, 0, 0, 0, 0, 0, 20, 0, 0, 0, 12], 3, 0),
     ([0x80, 0, 0, 1, 0, 0, 0, 14, 0, 0, 0, 12], 3, 0),
     ([0xff, 255, 255, 255, 0, 0, 0, 14, 0, 0, 0, 12], 3, 0),
-    ([0x80, 0, 0, 0, 255, 255, 255, 255, 0, 0, 0, 11], 3, 0),
+    ([0x80, 0, 0, 0, 255, 255, 255, 255, 0, 0, 0, 12], 3, 0),
+    ([0x80, 0, 0, 0, 0, 0, 0, 20, 0, 0, 0, 11], 3, 0),
+    ([0, 255, 255, 255, 0, 0, 0, 14, 0, 0, 0, 12], 1, 1),
+    ([0, 255, 255, 255, 255, 255, 255, 255, 0, 0, 0, 12], 1, 1),
+    ([0, 255, 255, 255, 0, 0, 0, 14, 0, 0, 0, 0], 1, 1),
+    ([0, 0, 0, 0, 255, 255, 255, 255, 0, 0, 0, 12], 1, 4),
+    ([0, 0, 0, 0, 255, 255, 255, 255, 0, 0, 0, 11], 1, 4),
+    ([0, 0, 0, 0, 0, 0, 0, 14, 0, 0, 0, 11], 1, 8),
+    ([0, 0, 0, 0, 0, 0, 0, 13, 0, 0, 0, 11], 1, 8),
+    ([0, 0, 0, 0, 0, 0, 0, 8, 0, 0, 0, 11], 1, 8),
+    ([0x80, 0, 0, 0, 0, 0, 0, 14, 1, 0, 0, 12], 1, 8),
+];
+
+/// Octets that have a fault where a message ends behind them, each with its place, with code 1.
+const TORN: [(&[u8], u32); 6] = [
+    (&[0], 0),
+    (&[0x80, 0, 0, 0, 0, 0, 0, 20, 0, 0, 0], 0),
+    (&[0, 255, 255, 255, 0, 0, 0, 14, 0, 0, 0], 0),
+    (&[0, 0, 0, 0, 255, 255, 255, 255, 0, 0, 0], 0),
+    (&[0, 0, 0, 0, 0, 0, 0, 14, 0, 0, 0, 13], 8),
+    (&[0, 0, 0, 0, 0, 0, 0, 8, 0, 0, 0, 14, 0], 8),
 ];
 
 /// Two pieces behind the header of a message.
@@ -79,46 +92,89 @@ fn a_fault_is_found_behind_what_stands_before_it(rt: HostRuntime) {
         assert_eq!(rt; told_of(alloc, attribute, &[], 8), told);
         assert_eq!(rt; told_of(alloc, &GOOD, attribute, 20), told);
         assert_eq!(rt; told_of(alloc, &TOLD, attribute, 28), not_told);
+        assert_eq!(rt; told_of(alloc, attribute, &TOLD, 8), told);
     }
 }
 
 #[test]
-fn an_error_behind_a_fault_does_not_count(rt: HostRuntime) {
-    let attribute = [0, 0, 0, 0, 0, 0, 0, 8, 0, 0, 0, 11];
-    assert_eq!(rt;
-        told_of(rt.alloc(), &attribute, &TOLD, 8),
-        Some((1, 8, true))
-    );
-    let torn = [0x80, 0, 0, 0, 0, 0, 0, 20, 0, 0, 0];
-    assert_eq!(rt; told_of(rt.alloc(), &GOOD, &torn, 20), Some((1, 0, true)));
+fn a_message_that_ends_too_early_has_a_fault(rt: HostRuntime) {
+    let alloc = rt.alloc();
+    for (octets, place) in TORN.iter() {
+        let told = Some((1, *place, true));
+        let not_told = Some((1, *place, false));
+        assert_eq!(rt; told_of(alloc, octets, &[], 8), told);
+        assert_eq!(rt; told_of(alloc, &GOOD, octets, 20), told);
+        assert_eq!(rt; told_of(alloc, &TOLD, octets, 28), not_told);
+    }
+}
+
+/// Whether an attribute has the same fault whatever other fault stands behind it.
+fn counts_first(alloc: Global, attribute: &[u8], code: u32, place: u32) -> bool {
+    let told = Some((code, place, true));
+    FAULTS.iter().all(|(other, _, _)| told_of(alloc, attribute, other, 8) == told)
+        && TORN
+            .iter()
+            .all(|(other, _)| told_of(alloc, attribute, other, 8) == told)
 }
 
 #[test]
-fn what_is_no_message_has_a_fault(rt: HostRuntime) {
+fn the_first_fault_counts(rt: HostRuntime) {
+    for (attribute, code, place) in FAULTS.iter() {
+        assert!(rt; counts_first(rt.alloc(), attribute, *code, *place));
+    }
+}
+
+/// The copies of the header of messages of 0 to 7 octets, which have another version too.
+const SHORT: [[u8; 8]; 8] = [
+    [0, 0, 0, 0, 0, 0, 0, 0],
+    [2, 0, 0, 0, 0, 0, 0, 0],
+    [2, 9, 0, 0, 0, 0, 0, 0],
+    [2, 9, 8, 0, 0, 0, 0, 0],
+    [2, 9, 8, 7, 0, 0, 0, 0],
+    [2, 9, 8, 7, 6, 0, 0, 0],
+    [2, 9, 8, 7, 6, 5, 0, 0],
+    [2, 9, 8, 7, 6, 5, 4, 0],
+];
+
+#[test]
+fn a_message_has_8_octets(rt: HostRuntime) {
+    for (count, header) in SHORT.iter().enumerate() {
+        let fault = PaFault {
+            code: 1,
+            offset: 0,
+            header: *header,
+            first: [0; 8],
+            answer: true,
+        };
+        let (octets, _) = header.split_at(count.min(8));
+        assert_eq!(rt; fault_of(rt.alloc(), octets), Some(fault));
+    }
+}
+
+#[test]
+fn another_version_goes_before_what_stands_behind_it(rt: HostRuntime) -> Result<(), Fail> {
     let alloc = rt.alloc();
-    let none = PaFault {
-        code: 1,
+    let header = [2, 0, 0, 0, 0, 0, 0, 5];
+    let version = PaFault {
+        code: 2,
         offset: 0,
-        header: [0; 8],
+        header,
         first: [0; 8],
         answer: true,
     };
-    assert_eq!(rt; fault_of(alloc, &[]), Some(none));
-    let short = PaFault {
-        header: [2, 0, 0, 9, 9, 0, 0, 0],
-        ..none
-    };
-    assert_eq!(rt;
-        fault_of(alloc, &[2, 0, 0, 9, 9]),
-        Some(short),
-        "the version goes behind"
-    );
-    let version = PaFault {
-        code: 2,
-        header: [2, 0, 0, 0, 0, 0, 0, 5],
-        ..none
-    };
-    assert_eq!(rt; fault_of(alloc, &[2, 0, 0, 0, 0, 0, 0, 5]), Some(version));
+    assert_eq!(rt; fault_of(alloc, &header), Some(version));
+    for (attribute, _, _) in FAULTS.iter() {
+        let mut octets = List::new(alloc);
+        octets.extend(&header)?;
+        octets.extend(&TOLD)?;
+        octets.extend(attribute)?;
+        assert_eq!(rt; fault_of(alloc, octets.as_slice()), Some(version));
+    }
+    Ok(())
+}
+
+#[test]
+fn an_attribute_that_is_refused_is_told(rt: HostRuntime) {
     let refused = PaFault {
         code: 3,
         offset: 8,
@@ -129,7 +185,7 @@ fn what_is_no_message_has_a_fault(rt: HostRuntime) {
     let octets = [
         1, 0, 0, 0, 0, 0, 0, 5, 0x80, 0, 0, 0, 0, 0, 0, 20, 0, 0, 0, 12,
     ];
-    assert_eq!(rt; fault_of(alloc, &octets), Some(refused));
+    assert_eq!(rt; fault_of(rt.alloc(), &octets), Some(refused));
 }
 
 #[test]
@@ -140,6 +196,15 @@ fn a_message_has_64_attributes(rt: HostRuntime) -> Result<(), Fail> {
         octets.extend(&GOOD)?;
     }
     assert_eq!(rt; fault_of(alloc, octets.as_slice()), None);
+    for (attribute, _, _) in FAULTS.iter() {
+        let mut longer = octets.copy()?;
+        longer.extend(attribute)?;
+        let fault = fault_of(alloc, longer.as_slice());
+        assert_eq!(rt;
+            fault.map(|fault| (fault.code, fault.offset)),
+            Some((1, 776))
+        );
+    }
     octets.push(0)?;
     let fault = fault_of(alloc, octets.as_slice());
     assert_eq!(rt;
@@ -252,14 +317,17 @@ fn an_error_is_read(rt: HostRuntime) -> Result<(), Fail> {
     Ok(())
 }
 
-/// The first fault of each kind in a stream, with its place; the lengths of the stream's own limits.
-const STREAM_FAULTS: [([u8; 12], u64); 6] = [
-    ([0, 0, 0, 0, 0, 0, 0, 14, 0, 0, 0, 11], 8),
+/// Attributes of a stream with a fault, each with its place: each row of the table alone and beside each other one.
+const STREAM_FAULTS: [([u8; 12], u64); 9] = [
+    ([0x80, 255, 255, 255, 0, 0, 0, 14, 0, 0, 0, 12], 1),
+    ([0, 255, 255, 255, 255, 255, 255, 255, 0, 0, 0, 12], 1),
+    ([0, 255, 255, 255, 0, 0, 0, 14, 0, 0, 0, 0], 1),
+    ([0, 0, 0, 0, 255, 255, 255, 255, 0, 0, 0, 12], 4),
+    ([0, 0, 0, 0, 255, 255, 255, 255, 1, 0, 0, 1], 4),
+    ([0, 0, 0, 0, 0, 0, 0, 8, 0, 0, 0, 11], 8),
     ([0, 0, 0, 0, 0, 0, 0, 14, 1, 0, 0, 1], 8),
-    ([0, 0, 0, 0, 255, 255, 255, 255, 0, 0, 0, 11], 4),
-    ([0, 255, 255, 255, 0, 0, 0, 14, 0, 0, 0, 12], 1),
-    ([0x80, 255, 255, 255, 255, 255, 255, 255, 0, 0, 0, 0], 1),
     ([0x80, 0, 0, 0, 0, 0, 0, 0, 255, 255, 255, 255], 8),
+    ([0x80, 0, 0, 1, 0, 0, 0, 14, 0, 0, 0, 0], 8),
 ];
 
 /// What a feed answers at last to the attributes of a piece, whose types and values are put behind those seen before.
@@ -314,12 +382,52 @@ fn pieces_of_a_stream_do_not_matter(rt: HostRuntime) -> Result<(), Fail> {
 }
 
 #[test]
+fn a_stream_may_have_more_than_64_attributes(rt: HostRuntime) -> Result<(), Fail> {
+    let alloc = rt.alloc();
+    let mut octets = List::new(alloc);
+    for _ in 0..65 {
+        octets.extend(&GOOD)?;
+    }
+    octets.extend(&TOLD)?;
+    for size in [1, 2, 3, 5] {
+        let (seen, fault, feed) = stream_of(alloc, octets.as_slice(), size)?;
+        assert_eq!(rt; (seen.len(), seen.get(65)), (74, Some(&8)));
+        assert_eq!(rt; (fault, feed.have()), (None, 0));
+    }
+    Ok(())
+}
+
+/// The first octets of an attribute of type 14 that has 28 octets.
+const BEGUN: [u8; 20] = [
+    0, 0, 0, 0, 0, 0, 0, 14, 0, 0, 0, 28, // header
+    0, 0, 0, 0, 0, 0, 0, 1, // value
+];
+
+#[test]
+fn an_attribute_that_is_not_whole_is_awaited(rt: HostRuntime) -> Result<(), Fail> {
+    let alloc = rt.alloc();
+    let (header, _) = BEGUN.split_at(12);
+    for size in [1, 2, 3, 5, 20] {
+        let (seen, fault, feed) = stream_of(alloc, &BEGUN, size)?;
+        assert_eq!(rt; (seen.len(), fault, feed.have()), (0, None, 20));
+        assert_eq!(rt;
+            feed.header().as_ref().map(|held| held.as_slice()),
+            Some(header)
+        );
+    }
+    let longest = [0, 0, 0, 0, 0, 0, 0, 14, 1, 0, 0, 0];
+    let (_, fault, feed) = stream_of(alloc, &longest, 5)?;
+    assert_eq!(rt; (fault, feed.have()), (None, 12));
+    Ok(())
+}
+
+#[test]
 fn a_fault_of_a_stream_shows_after_12_octets(rt: HostRuntime) -> Result<(), Fail> {
     let alloc = rt.alloc();
     for (attribute, place) in STREAM_FAULTS.iter() {
         let octets = message_of(alloc, &GOOD, attribute)?;
         let (_, stream) = octets.as_slice().split_at(8.min(octets.len()));
-        for size in [1, 5, 30] {
+        for size in [1, 2, 3, 5, 30] {
             let (seen, fault, mut feed) = stream_of(alloc, stream, size)?;
             assert_eq!(rt; seen.as_slice(), [18].as_slice());
             assert_eq!(rt;

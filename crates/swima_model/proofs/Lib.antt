@@ -3,3 +3,4 @@ pub mod Rises
 pub mod Placing
 pub mod Living
 pub mod OfKind
+pub mod Honest

@@ -21,6 +21,7 @@ pub fn read_request(alloc: Global, value: &[u8], base: u32) -> Result<Request, F
     request(alloc, Cursor::new(base, value))
 }
 
+/// The request in what is left, all of it.
 #[tactic(auto, unfolding(crate::specs::RequestForm::read_request))]
 fn request(alloc: Global, mut cursor: Cursor) -> Result<Request, FieldRefused>
     ensures request { Gives (λ read. read) result (value_alone (read_request cursor.entry)) }
@@ -51,6 +52,7 @@ fn kind_of(ids_only: bool) -> Kind
 /// The fewest octets of a target.
 const FEWEST_TARGET_OCTETS: usize = 2;
 
+/// So many targets, one after another.
 fn targets(alloc: Global, cursor: &mut Cursor, count: u32) -> Result<Idents, FieldRefused>
     ensures targets { Gives (λ read. (read, cursor.new)) result (several count (counted 2) cursor.old) }
 {
@@ -62,6 +64,7 @@ fn targets(alloc: Global, cursor: &mut Cursor, count: u32) -> Result<Idents, Fie
     Ok(targets)
 }
 
+/// A target; a fault in it is at its length.
 fn target(alloc: Global, cursor: &mut Cursor) -> Result<Ident, FieldRefused>
     ensures target { Gives (λ read. (read, cursor.new)) result (counted 2 cursor.old) }
 {

@@ -8,3 +8,4 @@ pub mod Blocks
 pub mod Several
 pub mod StampLaws
 pub mod WrittenLaws
+pub mod Remaining

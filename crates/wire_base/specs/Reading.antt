@@ -31,6 +31,10 @@ done value rest = Ok (value, rest)
 abbrev pub octets : ℕ → Reader (List ℕ)
 octets count rest = if nat_lt (length rest.octets) count then Err rest.at else Ok (take count rest.octets, record { at = rest.at + count; octets = drop count rest.octets })
 
+-- All octets that are left.
+abbrev pub remaining : Reader (List ℕ)
+remaining rest = octets (length rest.octets) rest
+
 -- A number of so many octets.
 abbrev pub number : ℕ → Reader ℕ
 number size = do

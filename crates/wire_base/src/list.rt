@@ -1,6 +1,7 @@
 //! The one list type of the project: contracts see it as the list of its items.
 
-ghost use Rattle.std.specs.Prelude.{◌≡◌, ◌∷◌, ◌++◌, ◌↔◌, [], length, slice_get, IfOk, IsTrue, OnOk, OnErr};
+ghost use Rattle.std.specs.Prelude.{◌≡◌, ◌∷◌, ◌++◌, ◌≤◌, ◌↔◌, [], length, slice_get, IfOk, IsTrue, OnOk, OnErr};
+ghost use Rattle.std.specs.List.{insert};
 ghost use Rattle.std.specs.Option.{option_copied};
 
 use crate::memory::Memory;
@@ -130,6 +131,17 @@ impl<T: Drop> List<T> {
         ensures memory { OnErr result (self.new ≡ self.old) }
     {
         self.items.push(item)?;
+        Ok(())
+    }
+
+    /// Puts an item at `place`, before those that stand there and behind; at `Memory` the item is dropped and the list is as
+    /// it was.
+    pub fn insert(&mut self, place: usize, item: T) -> Result<(), Memory>
+        requires within { place ≤ length self.old }
+        ensures ok { OnOk result (self.new ≡ insert self.old place item) }
+        ensures memory { OnErr result (self.new ≡ self.old) }
+    {
+        self.items.insert(place, item)?;
         Ok(())
     }
 }

@@ -144,6 +144,17 @@ fn lists_hold_what_is_put_in(rt: HostRuntime) -> Result<(), Fail> {
 }
 
 #[test]
+fn items_are_put_in_between(rt: HostRuntime) -> Result<(), Fail> {
+    let mut list: Octets = List::new(rt.alloc());
+    list.insert(0, 3)?;
+    list.insert(0, 1)?;
+    list.insert(1, 2)?;
+    list.insert(3, 4)?;
+    assert_eq!(rt; list.as_slice(), [1, 2, 3, 4].as_slice());
+    Ok(())
+}
+
+#[test]
 fn lists_of_lists_are_copied(rt: HostRuntime) -> Result<(), Fail> {
     let alloc = rt.alloc();
     let mut lists = List::new(alloc);

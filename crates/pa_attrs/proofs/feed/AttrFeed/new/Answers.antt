@@ -1,4 +1,4 @@
-use Rattle.std.proofs.Common.{refl, arith, ap, ◌∙◌, length, List, ℕ}
+use Rattle.std.proofs.Common.{arith, ap, ◌∙◌, length, List, ℕ}
 use Rattle.pa_attrs.specs.Stream.{front_of}
 use Rattle.pa_attrs.proofs.Fronts.{front_none}
 use Rattle.pa_attrs.proofs.feed.AttrFeed.new.Goals as goal

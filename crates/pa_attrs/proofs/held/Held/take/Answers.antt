@@ -1,4 +1,4 @@
-use Rattle.std.proofs.Common.{◌≡◌, ◌≤◌, ◌<◌, ◌+◌, length, sym, ap, ◌∙◌, arith}
+use Rattle.std.proofs.Common.{◌≤◌, ◌<◌, ◌+◌, length, sym, ap, ◌∙◌, arith}
 use Rattle.pa_attrs.specs.declared.attr.Attr.{Attr}
 use Rattle.pa_attrs.specs.Held.{octets_of_held}
 use Rattle.pa_attrs.specs.Stream.{Whole}

@@ -2,8 +2,7 @@
 use Rattle.std.proofs.Common.{◌≡◌, ℕ, ◌+◌, List, [], ◌∷◌, ◌++◌, length, Result, Ok, Err, refl, sym, ap, subst, ◌∙◌, arith}
 use Rattle.std.proofs.lemmas.List.{append-nil}
 use Rattle.wire_base.specs.Layout.{AreOctets, Field, Fixed, Form}
-use Rattle.wire_base.specs.Reading.{Reader, Rest, ◌>>=◌, and_then, octets}
-use Rattle.pa_attrs.specs.Remaining.{remaining}
+use Rattle.wire_base.specs.Reading.{Reader, Rest, ◌>>=◌, and_then, octets, remaining}
 use Rattle.wire_base.proofs.Exact.{Exact, LaidOut, Takes, Nothing, behind, alone, from_alone, octets_forth, octets_back}
 use Rattle.wire_base.proofs.Spelled.{AreOctets-rest}
 
