@@ -1,10 +1,9 @@
 -- Octets that are found to begin with a batch have its form in front, and octets in its form are found to begin with it.
-use Rattle.std.proofs.Common.{◌≡◌, ℕ, zero, suc, ◌-◌, ◌+◌, ◌%◌, ◌≤◌, ◌<◌, Bool, true, false, not, cond, eqb, ltb, is_none, List, [], ◌∷◌, ◌++◌, length, take, drop, get_or, slice_range, unwrap_or, Result, Ok, Err, Option, Some, None, inl, inr, refl, sym, ap, subst, ◌∙◌, arith, length-append, length-take, length-drop}
-use Rattle.std.specs.Prelude.{sum_by}
+use Rattle.std.proofs.Common.{◌≡◌, ℕ, ◌-◌, ◌+◌, ◌%◌, ◌≤◌, ◌<◌, Bool, true, false, cond, eqb, ltb, is_none, List, [], ◌∷◌, ◌++◌, length, take, drop, get_or, slice_range, unwrap_or, Result, Ok, Option, Some, None, refl, sym, ap, subst, ◌∙◌, arith, length-append}
 use Rattle.std.proofs.lemmas.Bool.{eqb-true, ltb-false, le-ltb, eq-eqb, or_parts, or_from, not-false, not_from_true}
 use Rattle.std.proofs.lemmas.List.{take-append-drop, length-take-le, drop_more}
 use Rattle.wire_base.specs.Numbers.{number_of}
-use Rattle.wire_base.specs.Layout.{AreOctets, Field, Number, Reserved, Flags, AreFlags, Form, is_set}
+use Rattle.wire_base.specs.Layout.{AreOctets, Form, is_set}
 use Rattle.pb_batch.specs.declared.batch.Batch.{Batch}
 use Rattle.pb_batch.specs.declared.batch.Message.{Message}
 use Rattle.pb_batch.specs.declared.kind.BatchKind.{BatchKind}
@@ -12,14 +11,14 @@ use Rattle.pb_batch.specs.declared.kind.BatchKind.TheVariants.{Cdata, Sdata, Out
 use Rattle.pb_batch.specs.declared.fault.PbFault.{PbFault}
 use Rattle.pb_batch.specs.declared.header.Header.{Header}
 use Rattle.pb_batch.specs.Types.{kind_of, number_of_kind}
-use Rattle.pb_batch.specs.Form.{FLAG, HEADER_OCTETS, BATCH_OCTETS, BatchForm, MessagesForm, batch_octets, header_fields}
+use Rattle.pb_batch.specs.Form.{FLAG, BatchForm, batch_octets, header_fields}
 use Rattle.pb_batch.specs.Faults.{first_fault, number, header_rows, batch_length, differ}
-use Rattle.pb_batch.specs.Front.{Front, More, Bad, Whole, front_of, whole_front, header_in, header_of, messages_of, unless}
+use Rattle.pb_batch.specs.Front.{Whole, front_of, whole_front, header_in, header_of, messages_of, unless}
 use Rattle.pb_batch.specs.Shown.{Begins}
 use Rattle.pb_batch.proofs.Rows.{unless_ok, none_show, show_none}
 use Rattle.pb_batch.proofs.Fronts.{Seen, Short, Refused, Waits, Full, seen, WholeOf, whole_of, front_full}
 use Rattle.pb_batch.proofs.Fields.{Stands, length-between, between_split, AreOctets-between, number_forth, flags_forth, reserved_forth, end_forth, number_back, flags_back, reserved_back, end_back}
-use Rattle.pb_batch.proofs.Heads.{Placed, placed}
+use Rattle.pb_batch.proofs.Heads.{placed}
 use Rattle.pb_batch.proofs.MessageLists.{forms_length, messages_forth, messages_back}
 
 -- ---- the fields of a header

@@ -1,7 +1,6 @@
 -- The batch that tells a fault can be written.
-use Rattle.std.proofs.Common.{◌≡◌, ℕ, ◌+◌, ◌≤◌, ◌<◌, Bool, true, false, cond, eqb, List, [], ◌∷◌, length, inl, inr, refl, arith}
+use Rattle.std.proofs.Common.{ℕ, ◌≤◌, Bool, true, false, cond, eqb, [], ◌∷◌, length, inl, inr, arith}
 use Rattle.std.proofs.lemmas.List.Elements.{All-cons, All-nil}
-use Rattle.pb_batch.specs.declared.batch.Message.{Message}
 use Rattle.pb_batch.specs.declared.batch.Message.TheVariants.{Error}
 use Rattle.pb_batch.specs.declared.fault.PbFault.{PbFault}
 use Rattle.pb_batch.specs.Form.{IsMessage, VERSION}

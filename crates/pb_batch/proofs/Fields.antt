@@ -1,8 +1,8 @@
 -- Fields that stand in octets from one place to another, read off one by one.
-use Rattle.std.proofs.Common.{◌≡◌, ℕ, zero, suc, ◌-◌, ◌+◌, ◌^◌, ◌≤◌, ◌<◌, min, Bool, List, [], ◌∷◌, ◌++◌, length, take, drop, get_or, slice_range, refl, sym, ap, subst, ◌∙◌, arith, length-append, length-drop, length-take, add-one}
+use Rattle.std.proofs.Common.{◌≡◌, ℕ, ◌-◌, ◌+◌, ◌^◌, ◌≤◌, ◌<◌, Bool, List, [], ◌∷◌, ◌++◌, length, take, drop, get_or, slice_range, sym, ap, subst, ◌∙◌, arith, length-append, length-drop, length-take}
 use Rattle.std.proofs.lemmas.List.{take_at, drop_at, take-take, drop-drop, take-append-drop, drop-take, drop_more, nil_from_length}
 use Rattle.wire_base.specs.Numbers.{number_of, octets_of}
-use Rattle.wire_base.specs.Layout.{AreOctets, Field, Number, Reserved, Flags, FieldForm, AreFlags, Form}
+use Rattle.wire_base.specs.Layout.{AreOctets, Field, Number, Reserved, Flags, AreFlags, Form}
 use Rattle.wire_base.proofs.Spelled.{AreOctets-take, AreOctets-rest, length-octets_of, number_of-octets_of, octets_of-number_of, number_of-below}
 use Rattle.pb_batch.specs.Faults.{number}
 

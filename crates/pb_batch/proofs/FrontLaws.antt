@@ -1,6 +1,5 @@
 -- What the tables of faults and the layout mean for octets that are handed to a feed.
-use Rattle.std.proofs.Common.{◌≡◌, ℕ, zero, suc, ◌+◌, ◌≤◌, ◌<◌, Bool, true, false, cond, IsTrue, List, [], ◌∷◌, ◌++◌, length, slice_range, take, drop, get_or, Option, Some, None, Result, Ok, Err, ◌⊎◌, inl, inr, refl, sym, ap, subst, ◌∙◌, arith, length-append}
-use Rattle.std.specs.Prelude.{All}
+use Rattle.std.proofs.Common.{◌≡◌, ℕ, ◌≤◌, Bool, true, false, cond, IsTrue, List, [], ◌∷◌, ◌++◌, length, slice_range, get_or, Option, Some, Result, Ok, Err, ◌⊎◌, inl, inr, refl, sym, ap, subst, ◌∙◌, arith, length-append}
 use Rattle.std.specs.List.{AllByRecursion}
 use Rattle.std.proofs.lemmas.List.{append-nil, nil_from_length}
 use Rattle.std.proofs.lemmas.List.Elements.{All-from_recursion}
@@ -11,14 +10,15 @@ use Rattle.pb_batch.specs.declared.fault.PbFault.{PbFault}
 use Rattle.pb_batch.specs.declared.header.Header.{Header}
 use Rattle.pb_batch.specs.declared.kind.MessageType.{MessageType}
 use Rattle.pb_batch.specs.declared.kind.MessageType.TheVariants as type
-use Rattle.pb_batch.specs.Form.{FLAG, IsMessage, MessagesForm, BatchForm, batch_octets}
+use Rattle.pb_batch.specs.Form.{FLAG, IsMessage, MessagesForm}
 use Rattle.pb_batch.specs.Faults.{Row, first_fault, header_rows, message_rows, head_rows, value_rows, type_in, batch_length}
 use Rattle.pb_batch.specs.Front.{Front, More, Bad, Whole, front_of, whole_front, header_in, header_of, messages_of, unless}
-use Rattle.pb_batch.specs.Shown.{Begins, MessageFault, HeaderFault, BodyFault, ShowsFault, WholeIsForm, BadIsFault, OneOfThree, AreOneOfThree, NoneBeginsAnother, IsLowest, LowestCounts, WrittenIsRead}
+use Rattle.pb_batch.specs.Shown.{Begins, MessageFault, ShowsFault, WholeIsForm, BadIsFault, AreOneOfThree, FrontsStay, LengthsCount, NoneBeginsAnother, LowestCounts, WrittenIsRead}
 use Rattle.pb_batch.specs.Written.{IsBatch, written}
 use Rattle.pb_batch.proofs.Rows.{unless_ok, unless_err}
-use Rattle.pb_batch.proofs.Fronts.{Seen, Short, Refused, Waits, Full, seen, whole_more, front_refused, front_full, whole_within}
+use Rattle.pb_batch.proofs.Fronts.{Seen, Short, Refused, Waits, Full, seen, whole_more, bad_more, whole_longer, front_refused, front_full}
 use Rattle.pb_batch.proofs.Fields.{AreOctets-between}
+use Rattle.pb_batch.proofs.MessageBack.{form_length}
 use Rattle.pb_batch.proofs.MessageLists.{faults_forth, faults_back}
 use Rattle.pb_batch.proofs.BatchForms.{whole_forth, whole_back, begins_back, form_octets, form_direction}
 use Rattle.pb_batch.proofs.WrittenForms.{written_form}
@@ -108,6 +108,11 @@ are_one_of_three s octets are = record {
   neither = (λ more. (λ b n begins. more_no_batch s octets b n more begins, λ f shows. more_no_fault s octets f more shows), λ no. more_by s octets (front_of s octets) are refl no.0 no.1);
 }
 
+-- ---- lengths
+
+pub lengths_count : LengthsCount
+lengths_count = record { batch = form_octets; message = form_length }
+
 -- ---- no batch begins another
 
 pub none_begins_another : NoneBeginsAnother
@@ -119,6 +124,11 @@ none_begins_another b c octets more first second =
     sym (whole_back b octets more first) ∙ ap (λ (s : Bool). front_of s all) direction ∙ ap (λ (o : List ℕ). front_of c.from_server o) (sym (append-nil all)) ∙ whole_back c all [] second in
     let len : length octets ≡ length all = cc in
     (cc, nil_from_length more (omega (arith, len, length-append octets more)))
+
+-- ---- more octets
+
+pub fronts_stay : FrontsStay
+fronts_stay s octets more = record { whole = whole_more s octets more; bad = bad_more s octets more; longer = whole_longer s octets more }
 
 -- ---- the lowest place counts
 

@@ -1,5 +1,5 @@
 -- What joined octets begin with stays so when more octets come.
-use Rattle.std.proofs.Common.{◌≡◌, ℕ, zero, suc, ◌-◌, ◌+◌, ◌≤◌, ◌<◌, ◌%◌, Bool, true, false, cond, ltb, List, [], ◌∷◌, ◌++◌, length, take, drop, get_or, slice_range, Option, Some, None, Result, Ok, Err, refl, sym, ap, subst, ◌∙◌, inl, inr, append_assoc, arith, length-append, length-drop, length-take}
+use Rattle.std.proofs.Common.{◌≡◌, ℕ, ◌-◌, ◌≤◌, ◌<◌, Bool, cond, ltb, List, [], ◌++◌, length, take, drop, get_or, slice_range, Result, Ok, Err, refl, sym, ap, ◌∙◌, inl, inr, arith, length-append, length-drop}
 use Rattle.std.proofs.lemmas.Bool.{cases_lt, lt-ltb, le-ltb, or_parts, ltb-false}
 use Rattle.std.proofs.lemmas.List.{get_or-take, take-append-le, drop-append-le, take-take, drop-take}
 use Rattle.pb_batch.specs.declared.batch.Batch.{Batch}
@@ -7,7 +7,7 @@ use Rattle.pb_batch.specs.declared.batch.Message.{Message}
 use Rattle.pb_batch.specs.declared.fault.PbFault.{PbFault}
 use Rattle.pb_batch.specs.declared.header.Header.{Header}
 use Rattle.pb_batch.specs.Faults.{first_fault, header_rows, batch_length}
-use Rattle.pb_batch.specs.Front.{Front, More, Bad, Whole, front_of, front_behind, whole_front, header_in, header_of, messages_of, unless}
+use Rattle.pb_batch.specs.Front.{Front, More, Bad, Whole, front_of, front_behind, whole_front, header_in, header_of, messages_of}
 use Rattle.pb_batch.proofs.Rows.{unless_ok, none_show}
 
 -- ---- the header

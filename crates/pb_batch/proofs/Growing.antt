@@ -1,9 +1,8 @@
 -- A feed takes a piece up to the header, and then up to the end of the batch: what it finds is what the joined octets
 -- begin with.
-use Rattle.std.proofs.Common.{◌≡◌, ℕ, ◌-◌, ◌+◌, ◌≤◌, ◌<◌, min, Bool, List, [], ◌∷◌, ◌++◌, length, take, drop, slice_range, Result, Ok, Err, refl, sym, ap, subst, ◌∙◌, inl, inr, append_assoc, arith, length-append, length-drop, length-take}
+use Rattle.std.proofs.Common.{◌≡◌, ℕ, ◌-◌, ◌+◌, ◌≤◌, ◌<◌, Bool, List, ◌++◌, length, take, drop, slice_range, Result, Ok, Err, sym, ap, ◌∙◌, inl, inr, append_assoc, arith, length-append, length-drop, length-take}
 use Rattle.std.proofs.lemmas.Bool.{cases_lt}
 use Rattle.std.proofs.lemmas.List.{take_all, take-append-drop, take-append-le, drop-append-le, drop-drop}
-use Rattle.pb_batch.specs.declared.batch.Batch.{Batch}
 use Rattle.pb_batch.specs.declared.batch.Message.{Message}
 use Rattle.pb_batch.specs.declared.fault.BatchRefused.{BatchRefused}
 use Rattle.pb_batch.specs.declared.fault.BatchRefused.TheVariants as refused
@@ -11,7 +10,7 @@ use Rattle.pb_batch.specs.declared.fault.PbFault.{PbFault}
 use Rattle.pb_batch.specs.declared.feed.Grown.TheVariants as grown
 use Rattle.pb_batch.specs.declared.header.Header.{Header}
 use Rattle.pb_batch.specs.Feeding.{Filled, Grows}
-use Rattle.pb_batch.specs.Front.{Front, More, Bad, Whole, front_of, whole_front, header_of, messages_of}
+use Rattle.pb_batch.specs.Front.{More, Bad, Whole, front_of, whole_front, header_of, messages_of}
 use Rattle.pb_batch.specs.Gives.{Gives}
 use Rattle.pb_batch.proofs.Fronts.{Seen, Short, Refused, Waits, Full, seen, full_not_more, header_more, header_bounds, front_short, front_refused, front_waits, front_full}
 

@@ -1,5 +1,5 @@
 -- The head of a message, and its place in the octets.
-use Rattle.std.proofs.Common.{◌≡◌, ℕ, zero, suc, ◌-◌, ◌+◌, ◌^◌, ◌≤◌, ◌<◌, Bool, true, false, ◌&&◌, ◌||◌, not, cond, eqb, ltb, leb, List, [], ◌∷◌, ◌++◌, length, take, drop, slice_range, Result, Ok, Err, Option, Some, None, refl, sym, ap, subst, ◌∙◌, arith, length-append, length-take, length-drop, zero-add}
+use Rattle.std.proofs.Common.{◌≡◌, ℕ, suc, ◌-◌, ◌+◌, ◌^◌, ◌≤◌, ◌<◌, Bool, true, false, ◌&&◌, not, cond, eqb, ltb, List, ◌++◌, length, slice_range, Ok, Option, refl, ap, subst, ◌∙◌, arith, length-append, zero-add}
 use Rattle.std.proofs.lemmas.Bool.{ltb-false, le-ltb, or_parts, not-false, eqb-true, eqb-false, ne_eqb, or_from, not_from_true}
 use Rattle.std.proofs.lemmas.List.{take_at}
 use Rattle.wire_base.specs.Layout.{AreOctets}
@@ -8,7 +8,7 @@ use Rattle.pb_batch.specs.declared.kind.MessageType.{MessageType}
 use Rattle.pb_batch.specs.declared.kind.MessageType.TheVariants as type
 use Rattle.pb_batch.specs.declared.message.MessageHead.{MessageHead}
 use Rattle.pb_batch.specs.declared.fault.PbFault.{PbFault}
-use Rattle.pb_batch.specs.Types.{type_of, ietf_type, is_known}
+use Rattle.pb_batch.specs.Types.{type_of, is_known}
 use Rattle.pb_batch.specs.Form.{NO_VENDOR, NO_TYPE}
 use Rattle.pb_batch.specs.Faults.{first_fault, number, head_rows, noskip_in, vendor_in, kind_in, length_in, type_in, may_have}
 use Rattle.pb_batch.specs.Front.{unless, head_in, head_of}

@@ -1,5 +1,5 @@
 -- Octets that have the form of a message are read as that message, whatever follows.
-use Rattle.std.proofs.Common.{◌≡◌, ℕ, zero, suc, ◌-◌, ◌+◌, ◌^◌, ◌≤◌, ◌<◌, Bool, true, false, ◌&&◌, not, eqb, ltb, leb, IsTrue, List, [], ◌∷◌, ◌++◌, length, get_or, slice_range, Result, Ok, Err, Option, Some, None, refl, sym, ap, subst, ◌∙◌, arith, length-append}
+use Rattle.std.proofs.Common.{◌≡◌, ℕ, ◌+◌, ◌≤◌, ◌<◌, Bool, true, false, ◌&&◌, not, ltb, IsTrue, List, [], ◌∷◌, ◌++◌, length, get_or, slice_range, Ok, Option, refl, sym, ap, subst, ◌∙◌, arith, length-append}
 use Rattle.std.proofs.lemmas.Bool.{le-ltb, le-leb, eq-eqb, ne_eqb, or_from, and_right, not_from_true}
 use Rattle.wire_base.specs.Layout.{Field, Number, Flags, AreFlags, Form, is_set}
 use Rattle.pb_batch.specs.declared.batch.Message.{Message}
@@ -8,12 +8,12 @@ use Rattle.pb_batch.specs.declared.kind.MessageType.{MessageType}
 use Rattle.pb_batch.specs.declared.kind.MessageType.TheVariants as type
 use Rattle.pb_batch.specs.declared.fault.PbFault.{PbFault}
 use Rattle.pb_batch.specs.Types.{type_of, is_known}
-use Rattle.pb_batch.specs.Form.{NO_VENDOR, NO_TYPE, FLAG, IsMessage, MessageForm, message_fields, read_flags, body_of, field_octets, message_octets}
-use Rattle.pb_batch.specs.Faults.{first_fault, number, noskip_in, vendor_in, kind_in, length_in, type_in, may_have, value_rows}
+use Rattle.pb_batch.specs.Form.{NO_VENDOR, NO_TYPE, FLAG, MessageForm, message_fields, read_flags, body_of, message_octets}
+use Rattle.pb_batch.specs.Faults.{number, noskip_in, vendor_in, kind_in, length_in, type_in, may_have, value_rows}
 use Rattle.pb_batch.specs.Front.{unless, message_of_type, value_of}
 use Rattle.pb_batch.proofs.Rows.{NoneShow, show_none}
 use Rattle.pb_batch.proofs.Fields.{Stands, number_back, flags_back, reserved_back, end_back}
-use Rattle.pb_batch.proofs.Heads.{HeadIs, Placed, placed}
+use Rattle.pb_batch.proofs.Heads.{HeadIs, placed}
 
 -- What is read where a message stands in front of octets.
 pub record Found (m : Message) (rest : List ℕ) (count : ℕ) : Type 0 where

@@ -1,20 +1,18 @@
 -- What a message without a fault is read as has the message's form, and what has the form is read as the message.
-use Rattle.std.proofs.Common.{◌≡◌, ℕ, zero, suc, ◌-◌, ◌+◌, ◌^◌, ◌≤◌, ◌<◌, Bool, true, false, ◌&&◌, not, cond, eqb, ltb, leb, IsTrue, List, [], ◌∷◌, ◌++◌, length, take, drop, get_or, slice_range, Result, Ok, Err, Option, Some, None, refl, sym, ap, subst, ◌∙◌, arith, length-append}
-use Rattle.std.proofs.lemmas.Bool.{ltb-false, le-ltb, leb-true, le-leb, eqb-true, eq-eqb, ne_eqb, or_parts, or_from, and_right, and_cases}
+use Rattle.std.proofs.Common.{◌≡◌, ℕ, ◌+◌, ◌≤◌, ◌<◌, Bool, true, false, ◌&&◌, not, ltb, IsTrue, List, [], ◌∷◌, length, get_or, slice_range, Ok, refl, sym, ap, subst, ◌∙◌, arith}
+use Rattle.std.proofs.lemmas.Bool.{ltb-false, leb-true, eqb-true, or_parts}
 use Rattle.std.proofs.lemmas.List.{append-nil}
-use Rattle.wire_base.specs.Layout.{AreOctets, Field, Number, Reserved, Flags, AreFlags, Form, is_set}
+use Rattle.wire_base.specs.Layout.{AreOctets, Field, Number, Flags, AreFlags, is_set}
 use Rattle.pb_batch.specs.declared.batch.Message.{Message}
-use Rattle.pb_batch.specs.declared.batch.Message.TheVariants.{Pa, Assessment, Recommendation, Error, Frame}
 use Rattle.pb_batch.specs.declared.kind.MessageType.{MessageType}
 use Rattle.pb_batch.specs.declared.kind.MessageType.TheVariants as type
-use Rattle.pb_batch.specs.declared.fault.PbFault.{PbFault}
-use Rattle.pb_batch.specs.Types.{type_of, is_known}
-use Rattle.pb_batch.specs.Form.{NO_VENDOR, NO_TYPE, FLAG, IsMessage, MessageForm, message_fields, value_fields, read_flags, body_of, field_octets, message_octets, vendor_of, number_of_type}
+use Rattle.pb_batch.specs.Types.{is_known}
+use Rattle.pb_batch.specs.Form.{NO_VENDOR, NO_TYPE, FLAG, MessageForm}
 use Rattle.pb_batch.specs.Faults.{first_fault, number, noskip_in, vendor_in, kind_in, length_in, type_in, may_have, value_rows}
-use Rattle.pb_batch.specs.Front.{unless, message_of_type, value_of}
-use Rattle.pb_batch.proofs.Rows.{NoneShow, unless_ok, none_show, show_none}
-use Rattle.pb_batch.proofs.Fields.{Stands, length-between, between_split, number_forth, flags_forth, reserved_forth, end_forth, number_back, flags_back, reserved_back, end_back}
-use Rattle.pb_batch.proofs.Heads.{HeadIs, type_pa, type_assessment, type_recommendation, type_error, number_below, below_last, Placed, placed}
+use Rattle.pb_batch.specs.Front.{message_of_type, value_of}
+use Rattle.pb_batch.proofs.Rows.{NoneShow, unless_ok, none_show}
+use Rattle.pb_batch.proofs.Fields.{Stands, length-between, between_split, number_forth, flags_forth, reserved_forth, end_forth}
+use Rattle.pb_batch.proofs.Heads.{HeadIs, type_pa, type_assessment, type_recommendation, type_error, number_below, below_last}
 
 -- ---- what is read has the form
 

@@ -1,5 +1,5 @@
 -- What is read of the messages of a batch has their form, and what has the form is read; and a fault shows where it is read.
-use Rattle.std.proofs.Common.{◌≡◌, ℕ, zero, suc, ◌-◌, ◌+◌, ◌≤◌, ◌<◌, Bool, true, false, List, [], ◌∷◌, ◌++◌, length, take, drop, slice_range, Result, Ok, Err, Option, Some, None, ◌⊎◌, inl, inr, refl, sym, ap, subst, ◌∙◌, append_assoc, arith, length-append, length-drop}
+use Rattle.std.proofs.Common.{◌≡◌, ℕ, zero, suc, ◌-◌, ◌+◌, ◌≤◌, ◌<◌, List, [], ◌∷◌, ◌++◌, length, take, drop, Result, Ok, Err, Option, Some, None, ◌⊎◌, inl, inr, refl, sym, ap, subst, ◌∙◌, append_assoc, arith, length-append}
 use Rattle.std.specs.Prelude.{sum_by}
 use Rattle.std.proofs.lemmas.Bool.{cases_lt}
 use Rattle.std.proofs.lemmas.List.{take-append-drop, drop_at, nil_from_length, length-take-le}
@@ -9,14 +9,14 @@ use Rattle.wire_base.proofs.Spelled.{AreOctets-rest}
 use Rattle.pb_batch.specs.declared.batch.Message.{Message}
 use Rattle.pb_batch.specs.declared.fault.PbFault.{PbFault}
 use Rattle.pb_batch.specs.Form.{MessageForm, MessagesForm, message_octets}
-use Rattle.pb_batch.specs.Faults.{Row, first_fault, head_rows, value_rows, message_rows, type_in, length_in}
-use Rattle.pb_batch.specs.Front.{unless, head_in, head_of, value_of, message_of, messages_of, and_others, message_then}
+use Rattle.pb_batch.specs.Faults.{first_fault, head_rows, value_rows, message_rows, type_in, length_in}
+use Rattle.pb_batch.specs.Front.{unless, head_in, value_of, message_of, messages_of, and_others, message_then}
 use Rattle.pb_batch.specs.Shown.{MessageFault}
 use Rattle.pb_batch.proofs.Rows.{or_else, first_fault-append, unless_ok}
 use Rattle.pb_batch.proofs.Reading.{messages_of-more, messages_of-none, messages_of-fault, value_shows}
 use Rattle.pb_batch.proofs.Heads.{HeadIs, head_is, is_head}
 use Rattle.pb_batch.proofs.MessageForms.{message_forth}
-use Rattle.pb_batch.proofs.MessageBack.{Found, message_back, form_length}
+use Rattle.pb_batch.proofs.MessageBack.{message_back, form_length}
 
 -- ---- lengths
 

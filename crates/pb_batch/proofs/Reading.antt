@@ -1,5 +1,5 @@
 -- Messages that a loop reads one after another are those that `messages_of` reads.
-use Rattle.std.proofs.Common.{◌≡◌, ℕ, zero, suc, ◌-◌, ◌+◌, ◌≤◌, ◌<◌, Bool, true, false, cond, eqb, List, [], ◌∷◌, ◌++◌, length, drop, Option, Some, None, Result, Ok, Err, refl, sym, ap, ◌∙◌, append_assoc, arith}
+use Rattle.std.proofs.Common.{◌≡◌, ℕ, zero, suc, ◌-◌, ◌+◌, ◌<◌, List, [], ◌∷◌, ◌++◌, length, drop, Option, Some, Result, Ok, Err, refl, sym, ap, ◌∙◌, append_assoc, arith}
 use Rattle.std.proofs.lemmas.List.{append-nil, drop-drop, length_push}
 use Rattle.std.proofs.lemmas.Bool.{ne_eqb}
 use Rattle.pb_batch.specs.declared.batch.Message.{Message}
@@ -7,8 +7,8 @@ use Rattle.pb_batch.specs.declared.fault.BatchRefused.{BatchRefused}
 use Rattle.pb_batch.specs.declared.fault.BatchRefused.TheVariants as refused
 use Rattle.pb_batch.specs.declared.fault.PbFault.{PbFault}
 use Rattle.pb_batch.specs.declared.message.MessageHead.{MessageHead}
-use Rattle.pb_batch.specs.Faults.{Row, first_fault, head_rows, value_rows, message_rows, type_in, length_in}
-use Rattle.pb_batch.specs.Front.{unless, head_in, head_of, value_of, message_of, messages_of, and_others, message_then}
+use Rattle.pb_batch.specs.Faults.{first_fault, head_rows, value_rows, message_rows, type_in, length_in}
+use Rattle.pb_batch.specs.Front.{head_in, head_of, value_of, message_of, messages_of, and_others, message_then}
 use Rattle.pb_batch.specs.Gives.{Gives}
 use Rattle.pb_batch.proofs.Rows.{or_else, first_fault-append, unless_ok, unless_err}
 

@@ -2,7 +2,6 @@
 use Rattle.std.specs.Prelude.{◌≡◌, ◌<◌, ◌≤◌, ◌+◌, ◌-◌, ℕ, Bool, List, [], ◌++◌, Option, Some, None, Result, Ok, Err, length, take, min}
 use Rattle.pb_batch.specs.declared.fault.BatchRefused.{BatchRefused}
 use Rattle.pb_batch.specs.declared.fault.BatchRefused.TheVariants as refused
-use Rattle.pb_batch.specs.declared.fault.PbFault.{PbFault}
 use Rattle.pb_batch.specs.declared.feed.BatchFed.{BatchFed}
 use Rattle.pb_batch.specs.declared.feed.BatchFed.TheVariants as fed
 use Rattle.pb_batch.specs.declared.feed.Grown.{Grown}

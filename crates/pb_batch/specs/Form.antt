@@ -1,11 +1,10 @@
 -- The layout of a batch and of its messages (RFC 5793, section 4): which octets are which value. Octets that are reserved
 -- may be any, and so may the flags that are not read.
-use Rattle.std.specs.Prelude.{◌≡◌, ◌≢◌, ◌≤◌, ◌<◌, ◌+◌, ◌^◌, ◌%◌, ℕ, Bool, true, false, IsTrue, List, [], ◌∷◌, ◌++◌, length, sum_by, All}
+use Rattle.std.specs.Prelude.{◌≡◌, ◌≤◌, ◌<◌, ◌+◌, ◌^◌, ◌%◌, ℕ, Bool, true, IsTrue, List, [], ◌∷◌, ◌++◌, length, sum_by}
 use Rattle.wire_base.specs.Layout.{Field, Number, Reserved, Flags, Form}
 use Rattle.pb_batch.specs.declared.batch.Batch.{Batch}
 use Rattle.pb_batch.specs.declared.batch.Message.{Message}
 use Rattle.pb_batch.specs.declared.batch.Message.TheVariants.{Pa, Assessment, Recommendation, Error, Frame}
-use Rattle.pb_batch.specs.declared.kind.BatchKind.{BatchKind}
 use Rattle.pb_batch.specs.declared.kind.MessageType.TheVariants as type
 use Rattle.pb_batch.specs.Types.{number_of_kind, type_of, is_known}
 

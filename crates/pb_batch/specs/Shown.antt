@@ -1,10 +1,10 @@
 -- What the tables of faults and the layout mean for octets that are handed to a feed.
-use Rattle.std.specs.Prelude.{◌≡◌, ◌≤◌, ◌<◌, ◌+◌, ◌-◌, ◌↔◌, ◌⊎◌, ℕ, Bool, IsTrue, List, [], ◌++◌, Option, Some, None, All, length, take, slice_range}
+use Rattle.std.specs.Prelude.{◌≡◌, ◌≤◌, ◌<◌, ◌+◌, ◌-◌, ◌↔◌, ◌⊎◌, ℕ, Bool, IsTrue, List, [], ◌++◌, Some, None, All, length, take, slice_range}
 use Rattle.wire_base.specs.Layout.{AreOctets}
 use Rattle.pb_batch.specs.declared.batch.Batch.{Batch}
 use Rattle.pb_batch.specs.declared.batch.Message.{Message}
 use Rattle.pb_batch.specs.declared.fault.PbFault.{PbFault}
-use Rattle.pb_batch.specs.Form.{HEADER_OCTETS, BATCH_MESSAGES, MessagesForm, BatchForm, batch_octets}
+use Rattle.pb_batch.specs.Form.{HEADER_OCTETS, BATCH_MESSAGES, MessageForm, MessagesForm, BatchForm, message_octets, batch_octets}
 use Rattle.pb_batch.specs.Faults.{Row, first_fault, header_rows, message_rows, batch_length}
 use Rattle.pb_batch.specs.Front.{More, Bad, Whole, front_of}
 use Rattle.pb_batch.specs.Written.{IsBatch, written}
@@ -62,9 +62,24 @@ pub record OneOfThree (from_server : Bool) (octets : List ℕ) : Type 0 where
 abbrev pub AreOneOfThree : Type 0
 AreOneOfThree = (from_server : Bool) (octets : List ℕ) → AreOctets octets → OneOfThree from_server octets
 
+-- A batch and a message have as many octets as their lengths say.
+pub record LengthsCount : Type 0 where
+  pub batch : (b : Batch) (octets : List ℕ) → BatchForm b octets → length octets ≡ batch_octets b
+  pub message : (m : Message) (octets : List ℕ) → MessageForm m octets → length octets ≡ message_octets m
+
 -- No batch begins another.
 abbrev pub NoneBeginsAnother : Type 0
 NoneBeginsAnother = (b c : Batch) (octets more : List ℕ) → BatchForm b octets → BatchForm c (octets ++ more) → (b ≡ c) × (more ≡ [])
+
+-- More octets change neither a batch that was found nor a fault. A batch that they make whole reaches past the octets that
+-- were none yet.
+pub record FrontStays (from_server : Bool) (octets more : List ℕ) : Type 0 where
+  pub whole : (b : Batch) (len : ℕ) → front_of from_server octets ≡ Whole b len → front_of from_server (octets ++ more) ≡ Whole b len
+  pub bad : (f : PbFault) → front_of from_server octets ≡ Bad f → front_of from_server (octets ++ more) ≡ Bad f
+  pub longer : (b : Batch) (len : ℕ) → front_of from_server octets ≡ More → front_of from_server (octets ++ more) ≡ Whole b len → length octets < len
+
+abbrev pub FrontsStay : Type 0
+FrontsStay = (from_server : Bool) (octets more : List ℕ) → FrontStays from_server octets more
 
 -- The fault that counts has the lowest place of all rows that show.
 abbrev pub IsLowest : List Row → PbFault → Type 0

@@ -1,8 +1,10 @@
--- What is written of a batch: its one written form.
-use Rattle.std.specs.Prelude.{◌≡◌, ◌≤◌, ◌+◌, ◌==◌, ◌⊎◌, ℕ, Bool, true, false, List, [], ◌∷◌, ◌++◌, length, replicate, All, if◌then◌else◌}
+-- What is written of a batch: its one written form. Of a layout of fields it is what is written of each, with 0 in all that
+-- may be any.
+use Rattle.std.specs.Prelude.{◌≡◌, ◌≤◌, ◌==◌, ◌⊎◌, ℕ, Bool, true, false, List, [], ◌∷◌, ◌++◌, length, All, if◌then◌else◌}
 use Rattle.std.specs.List.{flat_map}
 use Rattle.wire_base.specs.Numbers.{octets_of}
-use Rattle.wire_base.specs.Layout.{Field, Number, Reserved, Flags, Fixed, Counted}
+use Rattle.wire_base.specs.Layout.{Number, Flags}
+use Rattle.wire_base.specs.Written.{written as written_fields}
 use Rattle.pb_batch.specs.declared.batch.Batch.{Batch}
 use Rattle.pb_batch.specs.declared.batch.Message.{Message}
 use Rattle.pb_batch.specs.declared.batch.Message.TheVariants.{Pa, Assessment, Recommendation, Error, Frame}
@@ -13,50 +15,32 @@ use Rattle.pb_batch.specs.Types.{number_of_kind}
 use Rattle.pb_batch.specs.Form.{VERSION, BATCH_MESSAGES, BATCH_OCTETS, FLAG, IsMessage, vendor_of, number_of_type, message_octets, message_fields, header_fields, body_of, batch_octets}
 use Rattle.pb_batch.specs.Faults.{INVALID_PARAMETER, UNSUPPORTED_MESSAGE, VERSION_NOT_SUPPORTED}
 
--- An octet with those of the flags that are set, and no other.
-abbrev pub flags_octet : List (ℕ × Bool) → ℕ
-flags_octet [] = 0
-flags_octet (flag ∷ []) = if flag.1 then flag.0 else 0
-flags_octet (flag ∷ next ∷ flags) = (if flag.1 then flag.0 else 0) + flags_octet (next ∷ flags)
-
--- What is written of a field: what is reserved is 0.
-abbrev pub field_written : Field → List ℕ
-field_written (Number size value) = octets_of size value
-field_written (Reserved size) = replicate size 0
-field_written (Flags flags) = flags_octet flags ∷ []
-field_written (Fixed size octets) = octets
-field_written (Counted size octets) = octets_of size (length octets) ++ octets
-
--- What is written of fields.
-abbrev pub fields_written : List Field → List ℕ
-fields_written fields = flat_map field_written fields
-
 -- NOSKIP is written on a message that a receiver has to know to go on, and not on a recommendation.
-abbrev pub noskip_written : Message → Bool
-noskip_written (Pa excl vendor subtype collector validator body) = true
-noskip_written (Assessment result) = true
-noskip_written (Recommendation code) = false
-noskip_written (Error fatal vendor code info) = true
-noskip_written (Frame noskip vendor kind body) = noskip
+abbrev pub written_noskip : Message → Bool
+written_noskip (Pa excl vendor subtype collector validator body) = true
+written_noskip (Assessment result) = true
+written_noskip (Recommendation code) = false
+written_noskip (Error fatal vendor code info) = true
+written_noskip (Frame noskip vendor kind body) = noskip
 
 -- What is written of a message: its fields, and its body.
-unfoldable pub message_written : Message → List ℕ
-message_written m = fields_written (message_fields ((FLAG, noskip_written m) ∷ []) m) ++ body_of m
+unfoldable pub written_message : Message → List ℕ
+written_message m = written_fields (message_fields ((FLAG, written_noskip m) ∷ []) m) ++ body_of m
 
--- The same of its head alone.
-abbrev pub head_written : MessageHead → List ℕ
-head_written head = fields_written (Flags ((FLAG, head.noskip) ∷ []) ∷ Number 3 head.vendor ∷ Number 4 head.kind ∷ Number 4 head.octets ∷ [])
+-- The same of its head alone, which has no body.
+abbrev pub written_head : MessageHead → List ℕ
+written_head head = written_fields (Flags ((FLAG, head.noskip) ∷ []) ∷ Number 3 head.vendor ∷ Number 4 head.kind ∷ Number 4 head.octets ∷ [])
 
 abbrev pub head_of_message : Message → MessageHead
-head_of_message m = record { noskip = noskip_written m; vendor = vendor_of m; kind = number_of_type m; octets = message_octets m }
+head_of_message m = record { noskip = written_noskip m; vendor = vendor_of m; kind = number_of_type m; octets = message_octets m }
 
 -- What is written of a header.
-abbrev pub header_written : Batch → List ℕ
-header_written b = fields_written (header_fields (number_of_kind b.kind) b)
+abbrev pub written_header : Batch → List ℕ
+written_header b = written_fields (header_fields (number_of_kind b.kind) b)
 
 -- What is written of a batch: its header, and its messages one after another.
 unfoldable pub written : Batch → List ℕ
-written b = header_written b ++ flat_map message_written b.messages
+written b = written_header b ++ flat_map written_message b.messages
 
 -- The batch is one that can be written.
 pub record IsBatch (b : Batch) : Type 0 where

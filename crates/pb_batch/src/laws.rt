@@ -1,6 +1,7 @@
 //! What the tables of faults and the layout mean, proved of all octets and batches: the calls do nothing.
 
-ghost use Rattle.pb_batch.specs.Shown.{AreOneOfThree, BadIsFault, LowestCounts, NoneBeginsAnother, WholeIsForm, WrittenIsRead};
+ghost use Rattle.pb_batch.specs.Shown.{AreOneOfThree, BadIsFault, FrontsStay, LengthsCount, LowestCounts};
+ghost use Rattle.pb_batch.specs.Shown.{NoneBeginsAnother, WholeIsForm, WrittenIsRead};
 
 /// Octets are found to begin with a batch exactly where octets in the form of that batch stand in front.
 pub fn whole_is_form()
@@ -17,9 +18,20 @@ pub fn one_of_three()
     ensures law { AreOneOfThree }
 {}
 
+/// A batch, and each of its messages, has as many octets as its length says.
+pub fn lengths_count()
+    ensures law { LengthsCount }
+{}
+
 /// No batch begins another.
 pub fn no_batch_begins_another()
     ensures law { NoneBeginsAnother }
+{}
+
+/// More octets change neither a batch that was found nor a fault, and a batch that they make whole reaches past those that
+/// were none yet.
+pub fn fronts_stay()
+    ensures law { FrontsStay }
 {}
 
 /// The fault that counts has the lowest place of all that show.

@@ -4,8 +4,9 @@
 ghost use Rattle.std.specs.Prelude.{◌<◌};
 
 use super::*;
+use std::alloc::Global;
 use std::test::Fail;
-use wire_base::{List, Octets, TryCopy};
+use wire_base::{List, Memory, Octets, TryCopy};
 
 /// A batch of the server with one PB-PA message, whose body has 32 octets.
 const ONE: [u8; 64] = [
@@ -16,46 +17,85 @@ const ONE: [u8; 64] = [
     0, 0, 0, 0, 0, 0, 0, 13, 0, 0, 0, 24, 0x20, 0, 0, 0, 0, 0, 0, 1, 0, 0, 0, 0,
 ];
 
-/// The octets of `ONE` with other octets at some places.
-fn changed(changes: &[(usize, &[u8])]) -> [u8; 64] {
-    let mut octets = ONE;
+/// A batch of the server with a PB-Assessment-Result and a PB-Access-Recommendation.
+const TWO: [u8; 40] = [
+    0x02, 0x80, 0, 3, 0, 0, 0, 40, // version, D, RESULT, length
+    0x80, 0, 0, 0, 0, 0, 0, 2, 0, 0, 0, 16, 0, 0, 0, 4, // the result
+    0, 0, 0, 0, 0, 0, 0, 3, 0, 0, 0, 16, 0, 0, 0, 3, // reserved, the code
+];
+
+/// Octets that stand at a place in place of others.
+type Change = (usize, &'static [u8]);
+
+/// The octets with these changes.
+fn changed(alloc: Global, octets: &[u8], changes: &[Change]) -> Result<Vec<u8>, Memory> {
+    let mut made = Vec::from_slice(alloc, octets)?;
     for (place, others) in changes {
         for (offset, octet) in others.iter().enumerate() {
-            if let Some(there) = octets.get_mut(place.saturating_add(offset)) {
+            if let Some(there) = made.get_mut(place.saturating_add(offset)) {
                 *there = *octet;
             }
         }
     }
-    octets
+    Ok(made)
 }
 
-/// What a feed of batches of the server answers to the octets in pieces of the size: the first answer that is not `More`.
-fn fed(rt: &HostRuntime, octets: &[u8], size: usize) -> BatchFed
-    requires { 0 < size }
-{
-    let mut feed = BatchFeed::new(rt.alloc(), true);
-    for piece in octets.chunks(size) {
+/// What a feed answers first that is not `More`.
+#[derive(Clone, Copy, Debug, PartialEq, Eq)]
+enum First {
+    /// Nothing else.
+    More,
+    /// A batch with so many messages, of so many octets.
+    Whole(usize, usize),
+    Bad(PbFault),
+    Memory,
+}
+
+/// What a feed of batches of the server answers first to the octets in pieces of the size.
+fn fed(alloc: Global, octets: &[u8], size: usize) -> First {
+    let mut feed = BatchFeed::new(alloc, true);
+    let mut taken: usize = 0;
+    for piece in octets.chunks(size.max(1)) {
         match feed.feed(piece) {
-            BatchFed::More => {}
-            answer => return answer,
+            BatchFed::More => taken = taken.saturating_add(piece.len()),
+            BatchFed::Done(batch, used) => {
+                return First::Whole(batch.messages.len(), taken.saturating_add(used));
+            }
+            BatchFed::Fault(fault) => return First::Bad(fault),
+            BatchFed::Memory => return First::Memory,
         }
     }
-    BatchFed::More
+    First::More
 }
 
-/// The fault that a feed of batches of the server answers, if it answers one.
-fn fault(rt: &HostRuntime, octets: &[u8], size: usize) -> Option<PbFault>
-    requires { 0 < size }
-{
-    match fed(rt, octets, size) {
-        BatchFed::Fault(fault) => Some(fault),
-        _ => None,
+/// The smallest pieces in which a feed answers something else first, if there are any.
+fn other_size(alloc: Global, octets: &[u8], wanted: First) -> Option<usize> {
+    for size in 1..=octets.len() {
+        if fed(alloc, octets, size) != wanted {
+            return Some(size);
+        }
     }
+    None
 }
 
-/// A fault of the code at the place.
-fn fault_at(code: u16, offset: u32) -> Option<PbFault> {
-    Some(PbFault {
+/// The first of the changes at which a feed answers something else in pieces of some size, if there is any.
+fn other_row(
+    alloc: Global,
+    octets: &[u8],
+    rows: &[(&[Change], First)],
+) -> Result<Option<usize>, Memory> {
+    for (row, (changes, wanted)) in rows.iter().enumerate() {
+        let octets = changed(alloc, octets, changes)?;
+        if other_size(alloc, &octets, *wanted).is_some() {
+            return Ok(Some(row));
+        }
+    }
+    Ok(None)
+}
+
+/// A fault of the code at the place. A version that is not supported is 3.
+const fn bad(code: u16, offset: u32) -> First {
+    First::Bad(PbFault {
         code,
         offset,
         version: if code == 4 { 3 } else { 0 },
@@ -63,59 +103,85 @@ fn fault_at(code: u16, offset: u32) -> Option<PbFault> {
 }
 
 #[test]
-fn each_fault_in_every_cut(rt: HostRuntime) {
-    let all = [0xff; 4];
-    let rows: [(&[(usize, &[u8])], u16, u32); 20] = [
-        (&[(0, &[3])], 4, 0),
-        (&[(1, &[0])], 1, 1),
-        (&[(3, &[7])], 1, 3),
-        (&[(4, &[0, 0, 0, 7])], 1, 4),
-        (&[(4, &[1, 0, 0, 1])], 1, 4),
-        (&[(7, &[0x13])], 1, 8),
-        (&[(12, &[0, 0, 0, 0x63])], 3, 8),
-        (&[(9, &[0xff, 0xff, 0xff])], 3, 8),
-        (&[(8, &[0, 0xff, 0xff, 0xff])], 1, 9),
-        (&[(8, &[0]), (12, &all)], 1, 12),
-        (&[(19, &[0x0b])], 1, 16),
-        (&[(19, &[0x17])], 1, 16),
-        (&[(19, &[0x39])], 1, 16),
-        (&[(21, &[0xff, 0xff, 0xff])], 1, 21),
-        (&[(24, &all)], 1, 24),
-        // Two at once: the lowest place counts.
-        (&[(0, &[3, 0])], 4, 0),
-        (&[(1, &[0, 0, 7])], 1, 1),
-        (&[(3, &[7, 0, 0, 0, 7])], 1, 3),
-        (&[(9, &[0xff, 0xff, 0xff]), (12, &all)], 3, 8),
-        (&[(21, &[0xff, 0xff, 0xff]), (24, &all)], 1, 21),
+fn each_fault_in_every_cut(rt: HostRuntime) -> Result<(), Fail> {
+    let one: [(&[Change], First); 11] = [
+        (&[(0, &[3])], bad(4, 0)),
+        (&[(1, &[0])], bad(1, 1)),
+        (&[(3, &[7])], bad(1, 3)),
+        (&[(3, &[0])], bad(1, 3)),
+        (&[(7, &[19])], bad(1, 8)), // 11 octets for a message
+        (&[(12, &[0, 0, 0, 0x63])], bad(3, 8)),
+        (&[(8, &[0x80, 0, 0, 9])], bad(3, 8)),
+        (&[(8, &[0, 0xff, 0xff, 0xff])], bad(1, 9)),
+        (&[(8, &[0]), (12, &[0xff; 4])], bad(1, 12)),
+        (&[(21, &[0xff; 3])], bad(1, 21)),
+        (&[(24, &[0xff; 4])], bad(1, 24)),
     ];
-    for (changes, code, offset) in rows {
-        let octets = changed(changes);
-        for size in 1..65 {
-            assert_eq!(rt; fault(&rt, &octets, size), fault_at(code, offset));
-        }
-    }
+    let two: [(&[Change], First); 5] = [
+        (&[(23, &[5])], bad(1, 20)),
+        (&[(20, &[1, 0, 0, 0])], bad(1, 20)),
+        (&[(39, &[0])], bad(1, 38)),
+        (&[(39, &[4])], bad(1, 38)),
+        (&[(38, &[1])], bad(1, 38)),
+    ];
+    let alloc = rt.alloc();
+    assert_eq!(rt; other_row(alloc, &ONE, &one)?, None);
+    assert_eq!(rt; other_row(alloc, &TWO, &two)?, None);
+    Ok(())
 }
 
 #[test]
-fn what_is_free_is_passed_over(rt: HostRuntime) {
-    let rows: [&[(usize, &[u8])]; 6] = [
-        &[],
-        &[(1, &[0xff, 0xff, 0xf2])], // reserved bits of the header
-        &[(8, &[0])], // NOSKIP on a PB-PA message
-        &[(20, &[0x7f])], // the flags beside EXCL
-        &[(8, &[0, 0, 0, 9])], // another vendor
-        &[(15, &[7])], // NOSKIP on a Reason-String
+fn of_two_faults_the_lower_counts(rt: HostRuntime) -> Result<(), Fail> {
+    let one: [(&[Change], First); 12] = [
+        (&[(0, &[3, 0])], bad(4, 0)),
+        (&[(1, &[0, 0, 7])], bad(1, 1)),
+        (&[(3, &[7, 0, 0, 0, 7])], bad(1, 3)),
+        (&[(4, &[0, 0, 0, 7]), (24, &[0xff; 4])], bad(1, 4)),
+        (&[(7, &[19]), (12, &[0, 0, 0, 0x63])], bad(1, 8)), // too few octets, and NOSKIP
+        (&[(9, &[0xff; 3])], bad(3, 8)),
+        (&[(12, &[0xff; 4])], bad(3, 8)),
+        (&[(8, &[0, 0xff, 0xff, 0xff]), (12, &[0xff; 4])], bad(1, 9)),
+        (&[(8, &[0]), (12, &[0xff; 4]), (19, &[57])], bad(1, 12)),
+        (&[(19, &[57]), (21, &[0xff; 3])], bad(1, 16)),
+        (&[(19, &[23]), (24, &[0xff; 4])], bad(1, 16)),
+        (&[(21, &[0xff; 3]), (24, &[0xff; 4])], bad(1, 21)),
     ];
-    for changes in rows {
-        let octets = changed(changes);
-        assert!(rt; matches!(fed(&rt, &octets, 7), BatchFed::Done(_, 1)));
-    }
+    let two: [(&[Change], First); 3] = [
+        (&[(19, &[17]), (23, &[5])], bad(1, 16)),
+        (&[(23, &[5]), (24, &[0x80, 0, 0, 9])], bad(1, 20)), // the second has its fault at its front
+        (&[(35, &[15]), (39, &[4])], bad(1, 32)),
+    ];
+    let alloc = rt.alloc();
+    assert_eq!(rt; other_row(alloc, &ONE, &one)?, None);
+    assert_eq!(rt; other_row(alloc, &TWO, &two)?, None);
+    Ok(())
 }
 
-/// A batch of the server with one message of the IETF's type `kind`, whose length is told as `len`. The code of a
-/// recommendation in it is 1.
-fn one_message(kind: u8, len: u8) -> [u8; 32] {
-    let mut octets = [0; 32];
+#[test]
+fn what_is_free_is_passed_over(rt: HostRuntime) -> Result<(), Fail> {
+    let one: [(&[Change], First); 6] = [
+        (&[], First::Whole(1, 64)),
+        (&[(1, &[0xff, 0xff, 0xf2])], First::Whole(1, 64)), // reserved bits of the header
+        (&[(8, &[0])], First::Whole(1, 64)), // NOSKIP on a PB-PA message
+        (&[(20, &[0x7f])], First::Whole(1, 64)), // the flags beside EXCL
+        (&[(8, &[0, 0, 0, 9])], First::Whole(1, 64)), // another vendor
+        (&[(8, &[0xff]), (15, &[7])], First::Whole(1, 64)), // NOSKIP and more on a Reason-String
+    ];
+    let two: [(&[Change], First); 3] = [
+        (&[(8, &[0])], First::Whole(2, 40)), // NOSKIP on a PB-Assessment-Result
+        (&[(24, &[0x80])], First::Whole(2, 40)), // and on a PB-Access-Recommendation
+        (&[(36, &[0xff, 0xff])], First::Whole(2, 40)), // the reserved octets of one
+    ];
+    let alloc = rt.alloc();
+    assert_eq!(rt; other_row(alloc, &ONE, &one)?, None);
+    assert_eq!(rt; other_row(alloc, &TWO, &two)?, None);
+    Ok(())
+}
+
+/// A batch of the server with one message of the IETF's type `kind`, whose length is told as `len`, and octets behind it.
+/// The code of a recommendation in it is 1.
+fn one_message(kind: u8, len: u8) -> [u8; 40] {
+    let mut octets = [0; 40];
     let head = [0x02, 0x80, 0, 3, 0, 0, 0, len.max(12).saturating_add(8)];
     octets[..8].copy_from_slice(&head);
     octets[15] = kind;
@@ -127,72 +193,48 @@ fn one_message(kind: u8, len: u8) -> [u8; 32] {
 #[test]
 fn messages_at_the_bounds_of_their_lengths(rt: HostRuntime) {
     let rows = [
-        (4, 11, false),
-        (4, 12, true),
-        (2, 15, false),
-        (2, 16, true),
-        (2, 17, false),
-        (3, 15, false),
-        (3, 16, true),
-        (3, 17, false),
-        (5, 19, false),
-        (5, 20, true),
-        (1, 23, false),
-        (1, 24, true),
+        (4, 11, bad(1, 16)),
+        (4, 12, First::Whole(1, 20)),
+        (2, 15, bad(1, 16)),
+        (2, 16, First::Whole(1, 24)),
+        (2, 17, bad(1, 16)),
+        (3, 15, bad(1, 16)),
+        (3, 16, First::Whole(1, 24)),
+        (3, 17, bad(1, 16)),
+        (5, 19, bad(1, 16)),
+        (5, 20, First::Whole(1, 28)),
+        (1, 23, bad(1, 16)),
+        (1, 24, First::Whole(1, 32)),
     ];
-    for (kind, len, is_whole) in rows {
+    for (kind, len, wanted) in rows {
         let octets = one_message(kind, len);
-        match fed(&rt, &octets, 40) {
-            BatchFed::Done(batch, used) => {
-                assert!(rt; is_whole, "type {kind}, length {len}");
-                assert_eq!(rt; used, usize::from(octets[7]));
-                assert_eq!(rt; batch.messages.len(), 1);
-            }
-            BatchFed::Fault(fault) => {
-                assert!(rt; !is_whole, "type {kind}, length {len}");
-                assert_eq!(rt; Some(fault), fault_at(1, 16));
-            }
-            _ => assert!(rt; false, "type {kind}, length {len}"),
-        }
-    }
-}
-
-#[test]
-fn values_at_their_bounds(rt: HostRuntime) {
-    let rows = [
-        (2, 4, None),
-        (2, 5, fault_at(1, 20)),
-        (3, 0, fault_at(1, 22)),
-        (3, 1, None),
-        (3, 3, None),
-        (3, 4, fault_at(1, 22)),
-    ];
-    for (kind, value, wanted) in rows {
-        let mut octets = one_message(kind, 16);
-        octets[23] = value;
-        for size in 1..33 {
-            assert_eq!(rt; fault(&rt, &octets, size), wanted, "{value} in type {kind}");
-        }
+        assert_eq!(rt;
+            other_size(rt.alloc(), &octets, wanted),
+            None,
+            "type {kind}, length {len}"
+        );
     }
 }
 
 #[test]
 fn batches_at_the_bounds_of_their_lengths(rt: HostRuntime) {
-    let header = |len: u32| {
-        let [a, b, c, d] = len.to_be_bytes();
-        [0x02, 0x80, 0, 2, a, b, c, d]
-    };
-    assert_eq!(rt; fault(&rt, &header(7), 1), fault_at(1, 4));
-    assert!(rt; matches!(fed(&rt, &header(8), 1), BatchFed::Done(_, 1)));
-    assert!(rt; matches!(fed(&rt, &header(16_777_216), 1), BatchFed::More));
-    assert_eq!(rt; fault(&rt, &header(16_777_217), 1), fault_at(1, 4));
+    let rows: [([u8; 4], First); 4] = [
+        ([0, 0, 0, 7], bad(1, 4)),
+        ([0, 0, 0, 8], First::Whole(0, 8)),
+        ([1, 0, 0, 0], First::More),
+        ([1, 0, 0, 1], bad(1, 4)),
+    ];
+    for ([a, b, c, d], wanted) in rows {
+        let header = [0x02, 0x80, 0, 2, a, b, c, d, 0x02];
+        assert_eq!(rt; other_size(rt.alloc(), &header, wanted), None, "{wanted:?}");
+    }
 }
 
 /// A batch of so many messages, fewer than 100, of a type that is passed over.
-fn frames(rt: &HostRuntime, count: usize) -> Result<Octets, Fail>
+fn frames(alloc: Global, count: usize) -> Result<Octets, Memory>
     requires { count < 100 }
 {
-    let mut octets = List::new(rt.alloc());
+    let mut octets = List::new(alloc);
     let len = (8 + 12 * count) as u16;
     octets.extend(&[0x02, 0x80, 0, 2, 0, 0])?;
     octets.extend(&len.to_be_bytes())?;
@@ -204,14 +246,19 @@ fn frames(rt: &HostRuntime, count: usize) -> Result<Octets, Fail>
 
 #[test]
 fn no_more_than_64_messages(rt: HostRuntime) -> Result<(), Fail> {
-    match fed(&rt, frames(&rt, 64)?.as_slice(), 1000) {
-        BatchFed::Done(batch, 776) => assert_eq!(rt; batch.messages.len(), 64),
-        _ => assert!(rt; false, "64 messages"),
-    }
+    let alloc = rt.alloc();
+    let most = frames(alloc, 64)?;
     assert_eq!(rt;
-        fault(&rt, frames(&rt, 65)?.as_slice(), 1000),
-        fault_at(1, 776)
+        other_size(alloc, most.as_slice(), First::Whole(64, 776)),
+        None
     );
+    let more = frames(alloc, 65)?;
+    let rows: [(&[Change], First); 3] = [
+        (&[], bad(1, 776)),
+        (&[(776, &[0x80])], bad(1, 776)), // and NOSKIP on what is not known
+        (&[(773, &[1])], bad(1, 772)), // and a length past the batch before it
+    ];
+    assert_eq!(rt; other_row(alloc, more.as_slice(), &rows)?, None);
     Ok(())
 }
 
@@ -330,8 +377,9 @@ fn a_batch_is_written_and_read(rt: HostRuntime) -> Result<(), Fail> {
         0x80, 0, 0, 0, 0, 0, 0, 5, 0, 0, 0, 20, 0, 0, 0, 9, 1, 2, 0, 0, // PB-Error
         0, 0, 0, 9, 0, 0, 0, 5, 0, 0, 0, 12, // another vendor's
     ].as_slice());
-    match fed(&rt, octets.as_slice(), 7) {
-        BatchFed::Done(batch, 5) => assert!(rt; are_those(&batch.messages.copy()?)),
+    let mut feed = BatchFeed::new(alloc, true);
+    match feed.feed(octets.as_slice()) {
+        BatchFed::Done(batch, 96) => assert!(rt; are_those(&batch.messages.copy()?)),
         _ => assert!(rt; false, "what was written is read"),
     }
     Ok(())

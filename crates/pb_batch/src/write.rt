@@ -1,8 +1,9 @@
 //! Octets of batches.
 
-ghost use Rattle.std.specs.Prelude.{◌≡◌, ◌≤◌, ◌<◌, ◌^◌, ◌++◌, ◌∷◌, [], IfOk, OnOk, if◌then◌else◌};
+ghost use Rattle.std.specs.Prelude.{◌≡◌, ◌≤◌, ◌<◌, ◌^◌, ◌++◌, ◌∷◌, [], IfOk, OnOk};
 ghost use Rattle.pb_batch.specs.Form.{BATCH_OCTETS, IsMessage, batch_octets, body_of, message_octets, value_fields};
-ghost use Rattle.pb_batch.specs.Written.{IsBatch, fields_written, head_of_message, head_written, header_written, message_written, written};
+ghost use Rattle.pb_batch.specs.Written.{IsBatch, head_of_message, written, written_head, written_header, written_message};
+ghost use Rattle.wire_base.specs.Written.{flags_octet, written as written_fields};
 
 use crate::batch::{Batch, Message};
 use crate::fault::VERSION;
@@ -28,9 +29,10 @@ pub fn write_batch(alloc: Global, batch: &Batch) -> Result<Octets, Memory>
 }
 
 /// The header of a batch of so many octets (RFC 5793, section 4.1).
+#[tactic(auto, unfolding(wire_base::specs::Written::written))]
 fn put_header(out: &mut Octets, batch: &Batch, count: u32) -> Result<(), Memory>
     requires count { count ≡ batch_octets batch.now }
-    ensures appended { OnOk result (out.new ≡ out.old ++ header_written batch.now) }
+    ensures appended { OnOk result (out.new ≡ out.old ++ written_header batch.now) }
 {
     put_u8(out, VERSION)?;
     out.push(flag(batch.from_server, SERVER))?;
@@ -66,11 +68,11 @@ fn octets_of_message(message: &Message) -> u32
 }
 
 /// A message (RFC 5793, section 4.2).
-#[tactic(auto, unfolding(crate::specs::Written::message_written))]
+#[tactic(auto, unfolding(crate::specs::Written::written_message, wire_base::specs::Written::written))]
 fn put_message(out: &mut Octets, message: &Message) -> Result<(), Memory>
     requires valid { IsMessage message.now }
     requires short { message_octets message.now ≤ BATCH_OCTETS }
-    ensures appended { OnOk result (out.new ≡ out.old ++ message_written message.now) }
+    ensures appended { OnOk result (out.new ≡ out.old ++ written_message message.now) }
 {
     put_head(out, head_of(message))?;
     put_value(out, message)?;
@@ -103,9 +105,10 @@ fn head_of(message: &Message) -> MessageHead
     }
 }
 
+#[tactic(auto, unfolding(wire_base::specs::Written::written))]
 fn put_head(out: &mut Octets, head: MessageHead) -> Result<(), Memory>
     requires vendor { head.vendor < 2 ^ 24 }
-    ensures appended { OnOk result (out.new ≡ out.old ++ head_written head) }
+    ensures appended { OnOk result (out.new ≡ out.old ++ written_head head) }
 {
     out.push(flag(head.noskip, NOSKIP))?;
     put_u24(out, head.vendor)?;
@@ -114,10 +117,11 @@ fn put_head(out: &mut Octets, head: MessageHead) -> Result<(), Memory>
 }
 
 /// The fields of the message's value (RFC 5793, sections 4.5, 4.6, 4.7 and 4.9).
+#[tactic(auto, unfolding(wire_base::specs::Written::written))]
 fn put_value(out: &mut Octets, message: &Message) -> Result<(), Memory>
     requires valid { IsMessage message.now }
     ensures appended { OnOk result
-        (out.new ≡ out.old ++ fields_written (value_fields message.now)) }
+        (out.new ≡ out.old ++ written_fields (value_fields message.now)) }
 {
     match message {
         Message::Pa {
@@ -169,7 +173,7 @@ fn body_of(message: &Message) -> &[u8]
 
 /// The bit, where it is set.
 fn flag(is_set: bool, bit: u8) -> u8
-    ensures octet { result ≡ (if is_set then bit else 0) }
+    ensures octet { result ≡ flags_octet ((bit, is_set) ∷ []) }
 {
     if is_set { bit } else { 0 }
 }

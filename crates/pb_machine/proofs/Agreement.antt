@@ -1,15 +1,16 @@
 -- The worlds that are reached are those of a list, which is shown by trying every step from each of them.
-use Rattle.std.proofs.Common.{◌≡◌, ◌≢◌, ℕ, zero, suc, Bool, true, false, ◌&&◌, ◌||◌, eqb, List, [], ◌∷◌, ◌++◌, Option, Some, None, inl, inr, refl, sym, ap, subst, ◌∙◌}
+use Rattle.std.proofs.Common.{◌≡◌, ◌≢◌, ℕ, zero, suc, Bool, true, false, ◌&&◌, ◌||◌, eqb, List, [], ◌∷◌, ◌++◌, Option, Some, None, inl, inr, refl, sym, ap, ◌∙◌}
 use Rattle.std.proofs.lemmas.Bool.{and_parts, or_cases, eqb-true}
 use Rattle.pb_batch.specs.declared.kind.BatchKind.{BatchKind}
 use Rattle.pb_batch.specs.declared.kind.BatchKind.TheVariants.{Cdata, Sdata, Outcome, Cretry, Sretry, Close}
+use Rattle.pb_machine.specs.declared.machine.Role.{Role}
 use Rattle.pb_machine.specs.declared.machine.Role.TheVariants.{Client, Server}
 use Rattle.pb_machine.specs.declared.machine.State.{State}
 use Rattle.pb_machine.specs.declared.machine.State.TheVariants.{Init, ServerWorking, ClientWorking, Decided, End}
 use Rattle.pb_machine.specs.declared.machine.Heard.{Heard}
 use Rattle.pb_machine.specs.declared.machine.Heard.TheVariants.{Go, Ignored, Unexpected}
-use Rattle.pb_machine.specs.Table.{sending, receiving}
-use Rattle.pb_machine.specs.World.{World, Step, ClientSends, ServerSends, ClientHears, ServerHears, Reached, Begun, After, Agrees, EndsAgree, begin}
+use Rattle.pb_machine.specs.Table.{sending, receiving, OnlyGoMoves}
+use Rattle.pb_machine.specs.World.{World, Step, ClientSends, ServerSends, ClientHears, ServerHears, Reached, Begun, After, EndsAgree}
 use Rattle.pb_machine.proofs.Worlds.{worlds}
 
 -- ---- which worlds are the same
@@ -276,3 +277,39 @@ ends_agree w reached =
       server_expects = λ kind rest first. expected _ (k.server_will kind rest first).1;
       one_state = one_state w (passes agrees w worlds here all_agree);
     }
+
+-- ---- what is not gone on with
+
+abbrev is_go : Heard → Bool
+is_go Go = true
+is_go Ignored = false
+is_go Unexpected = false
+
+-- The batch is gone on with, or the state stays.
+abbrev stays : Role → State → BatchKind → Bool
+stays role state kind = is_go (receiving role state kind).0 || same_states (receiving role state kind).1 state
+
+all_stay : (role : Role) (state : State) (kind : BatchKind) → stays role state kind ≡ true
+all_stay Client Init kind = kind_passes (stays Client Init) refl kind
+all_stay Client ServerWorking kind = kind_passes (stays Client ServerWorking) refl kind
+all_stay Client ClientWorking kind = kind_passes (stays Client ClientWorking) refl kind
+all_stay Client Decided kind = kind_passes (stays Client Decided) refl kind
+all_stay Client End kind = kind_passes (stays Client End) refl kind
+all_stay Server Init kind = kind_passes (stays Server Init) refl kind
+all_stay Server ServerWorking kind = kind_passes (stays Server ServerWorking) refl kind
+all_stay Server ClientWorking kind = kind_passes (stays Server ClientWorking) refl kind
+all_stay Server Decided kind = kind_passes (stays Server Decided) refl kind
+all_stay Server End kind = kind_passes (stays Server End) refl kind
+
+gone_on : (heard : Heard) → is_go heard ≡ true → heard ≡ Go
+gone_on Go e = refl
+gone_on Ignored e = absurd cc
+gone_on Unexpected e = absurd cc
+
+pub only_go_moves : OnlyGoMoves
+only_go_moves role state kind other =
+    let next : Heard × State = receiving role state kind in
+    elim (or_cases (is_go next.0) (same_states next.1 state) (all_stay role state kind)) [
+      | inl go ↦ absurd (other (gone_on next.0 go))
+      | inr same ↦ states_equal next.1 state same
+    ]

@@ -1,6 +1,6 @@
 -- The worlds that are reached, of which there are 81: for the states of both ends, what may be on its way to the client
 -- and to the server. The steps from each of them lead to others of them.
-use Rattle.std.specs.Prelude.{ℕ, List, [], ◌∷◌, ◌++◌, map}
+use Rattle.std.specs.Prelude.{List, [], ◌∷◌, ◌++◌, map}
 use Rattle.pb_batch.specs.declared.kind.BatchKind.{BatchKind}
 use Rattle.pb_batch.specs.declared.kind.BatchKind.TheVariants.{Cdata, Sdata, Outcome, Cretry, Sretry, Close}
 use Rattle.pb_machine.specs.declared.machine.State.{State}

@@ -1,7 +1,7 @@
 -- The state machines of a PB-TNC session (RFC 5793, section 3.2). The RFC leaves open what becomes of two retries that
 -- cross; here a client that awaits the server's batch ignores a retry of the server, and a server takes a retry of the
 -- client also while it or the client works.
-use Rattle.std.specs.Prelude.{Bool, Option, Some, None, is_some, unwrap_or}
+use Rattle.std.specs.Prelude.{◌≡◌, ◌≢◌, Bool, Option, Some, None, is_some, unwrap_or}
 use Rattle.pb_batch.specs.declared.kind.BatchKind.{BatchKind}
 use Rattle.pb_batch.specs.declared.kind.BatchKind.TheVariants as batch
 use Rattle.pb_machine.specs.declared.machine.Role.{Role}
@@ -55,3 +55,7 @@ sent machine kind = record machine { state = unwrap_or (sending machine.role mac
 -- What is done with a batch of the kind, and the machine once it has heard it.
 abbrev pub received : Position → BatchKind → Heard × Position
 received machine kind = ((receiving machine.role machine.state kind).0, record machine { state = (receiving machine.role machine.state kind).1 })
+
+-- A batch that an end does not go on with leaves its state as it is.
+abbrev pub OnlyGoMoves : Type 0
+OnlyGoMoves = (role : Role) (state : State) (kind : BatchKind) → (receiving role state kind).0 ≢ Go → (receiving role state kind).1 ≡ state

@@ -2,8 +2,9 @@
 //! what a batch does that is heard.
 //!
 //! It stands on `pb_batch`, for the kinds of batches. The crates above rest on `sent` of `Machine::send` and `heard` of
-//! `Machine::receive`: both are the tables of `specs/Table.antt`. The law of `laws` says of the same tables that two ends
-//! which keep to them never hear what they do not expect, and agree where nothing is on its way.
+//! `Machine::receive`: both are the tables of `specs/Table.antt`. The laws of `laws` say of the same tables that a batch which
+//! is not gone on with changes no state, and that two ends which keep to them never hear what they do not expect, and agree
+//! where nothing is on its way.
 #![tactic(auto)]
 
 pub mod laws;

@@ -1,4 +1,4 @@
-use Rattle.std.proofs.Common.{arith, ◌≤◌, length, sym, ap, ◌∙◌}
+use Rattle.std.proofs.Common.{arith, ◌≤◌, length, sym, ap}
 use Rattle.std.proofs.lemmas.Result.{err_from_is_err_and}
 use Rattle.pb_batch.proofs.Fronts.{header_bounds}
 use Rattle.pb_batch.proofs.Growing.{taken, grows_short, grows_refused, grows_waits, grows_bad, grows_done}

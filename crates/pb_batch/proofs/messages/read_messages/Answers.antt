@@ -1,5 +1,5 @@
-use Rattle.std.proofs.Common.{◌≡◌, ◌-◌, ◌+◌, ◌<◌, ◌≤◌, List, ℕ, length, take, drop, sym, ap, ◌∙◌, arith, length-drop, length-append}
-use Rattle.std.proofs.lemmas.List.{take_rest, drop-drop, length_push}
+use Rattle.std.proofs.Common.{◌≡◌, ◌-◌, ◌<◌, List, ℕ, length, drop, sym, ap, arith, length-drop}
+use Rattle.std.proofs.lemmas.List.{take_rest, length_push}
 use Rattle.std.proofs.lemmas.Result.{err_from_is_err_and}
 use Rattle.pb_batch.specs.Front.{messages_of}
 use Rattle.pb_batch.proofs.Reading.{head_stops, stops, more_of, some_left, all_read}
