@@ -1,1 +1,5 @@
 pub mod ReportLaws
+pub mod Faults
+pub mod FieldFaults
+pub mod FaultLaws
+pub mod Writing

@@ -22,12 +22,13 @@ use Rattle.swima_model.specs.declared.report.Report.TheVariants.{Inventory, Even
 use Rattle.swima_reports.specs.ActionNumber.{action_number, action_of}
 use Rattle.swima_reports.specs.ReportType.{IsReportType, report_type}
 use Rattle.swima_reports.specs.ReportForm.{FULFIL, MOST_BODY_OCTETS, MayCarry, MayCarryEvent, CanBeWritten, ReportForm, body_fields, record_fields, event_fields, inventory_fields, events_fields, report_fields}
-use Rattle.swima_reports.specs.ReportReading.{read_body, read_record, read_event, read_inventory, read_events, read_report, ReadingIsForm}
+use Rattle.swima_reports.specs.ReportReading.{record_from, read_body, read_record, read_event, read_inventory, read_events, read_report}
+use Rattle.swima_reports.specs.Laws.{ReadingIsForm}
 
 -- ---- fields
 
 -- A test on numbers decides their order.
-at_most : (n limit : ℕ) → (nat_le n limit ≡ true) ↔ (n ≤ limit)
+pub at_most : (n limit : ℕ) → (nat_le n limit ≡ true) ↔ (n ≤ limit)
 at_most n limit = (leb-true n limit, le-leb n limit)
 
 -- What is looked for among three actions, where it is found.
@@ -47,20 +48,20 @@ number_of_found number action e = elim (found_of (eqb 1 number) (eqb 2 number) (
 ]
 
 -- Each action has its number.
-action_of_number : (action : Action) → action_of (action_number action) ≡ Some action
+pub action_of_number : (action : Action) → action_of (action_number action) ≡ Some action
 action_of_number Creation = refl
 action_of_number Deletion = refl
 action_of_number Alteration = refl
 
 -- The numbers of actions mean these, and no other number means one.
-action_means : Means action_of action_number (λ action. Unit {0})
+pub action_means : Means action_of action_number (λ action. Unit {0})
 action_means = record {
   forth = λ number action e. (number_of_found number action e, tt);
   back = λ action so. action_of_number action;
 }
 
 -- The body of a record.
-body_exact : (kind : Kind) → Exact (read_body kind) (λ body. body) (body_fields kind) (MayCarry kind) Anything
+pub body_exact : (kind : Kind) → Exact (read_body kind) (λ body. body) (body_fields kind) (MayCarry kind) Anything
 unfolding read_body
 body_exact Ids = gives [] refl refl (λ body h. h)
 body_exact Full = meaning_exact (counted_exact 4) (if_so_means (λ body. at_most (length body) MOST_BODY_OCTETS))
@@ -68,22 +69,22 @@ body_exact Full = meaning_exact (counted_exact 4) (if_so_means (λ body. at_most
 -- ---- records and events
 
 -- A record is made of its parts.
-record_is : (r : Record) → r ≡ record { id = r.id; content = record { model = record { pen = r.content.model.pen; kind = r.content.model.kind }; source = r.content.source; ident = r.content.ident; locator = r.content.locator; body = r.content.body } }
+pub record_is : (r : Record) → r ≡ record { id = r.id; content = record { model = record { pen = r.content.model.pen; kind = r.content.model.kind }; source = r.content.source; ident = r.content.ident; locator = r.content.locator; body = r.content.body } }
 record_is r = refl
 
 -- A record in a report of the kind.
-record_exact : (kind : Kind) → Exact (read_record kind) (λ r. r) (record_fields kind) (λ r. MayCarry kind r.content.body) Anything
+pub record_exact : (kind : Kind) → Exact (read_record kind) (λ r. r) (record_fields kind) (λ r. MayCarry kind r.content.body) Anything
 unfolding read_record
 record_exact kind = then_number λ id. then_number λ pen. then_number λ model. then_number λ source. then_reserved λ reserved. then_counted λ ident. then_counted λ locator.
     last_part (λ r. r.content.body) (body_exact kind) (λ r h. assumption h) λ body known.
-    gives (record { id = id; content = record { model = record { pen = pen; kind = model }; source = source; ident = ident; locator = locator; body = body } }) refl (assumption (refl, known)) (λ r h. cc (record_is r))
+    gives (record_from id pen model source ident locator body) refl (assumption (refl, known)) (λ r h. cc (record_is r))
 
 -- An event is made of its parts.
-event_is : (e : Event) → e ≡ record { eid = e.eid; stamp = e.stamp; action = e.action; subject = record { id = e.subject.id; content = record { model = record { pen = e.subject.content.model.pen; kind = e.subject.content.model.kind }; source = e.subject.content.source; ident = e.subject.content.ident; locator = e.subject.content.locator; body = e.subject.content.body } } }
+pub event_is : (e : Event) → e ≡ record { eid = e.eid; stamp = e.stamp; action = e.action; subject = record { id = e.subject.id; content = record { model = record { pen = e.subject.content.model.pen; kind = e.subject.content.model.kind }; source = e.subject.content.source; ident = e.subject.content.ident; locator = e.subject.content.locator; body = e.subject.content.body } } }
 event_is e = refl
 
 -- An event in a report of the kind.
-event_exact : (kind : Kind) → Exact (read_event kind) (λ e. e) (event_fields kind) (MayCarryEvent kind) Anything
+pub event_exact : (kind : Kind) → Exact (read_event kind) (λ e. e) (event_fields kind) (MayCarryEvent kind) Anything
 unfolding read_event
 event_exact kind = then_number λ eid.
     then_meaning (λ e. e.stamp) (fixed_exact 20) (if_so_means stamp_test_is_form) (λ e h. assumption h) λ stamp is.
@@ -91,12 +92,12 @@ event_exact kind = then_number λ eid.
     then_meaning (λ e. e.action) (number_exact 1) action_means (λ e h. tt) λ action any.
     then_counted λ ident. then_counted λ locator.
     last_part (λ e. e.subject.content.body) (body_exact kind) (λ e h. assumption h) λ body known.
-    gives (record { eid = eid; stamp = stamp; action = action; subject = record { id = id; content = record { model = record { pen = pen; kind = model }; source = source; ident = ident; locator = locator; body = body } } }) refl (assumption (refl, is, known)) (λ e h. cc (event_is e))
+    gives (record { eid = eid; stamp = stamp; action = action; subject = record_from id pen model source ident locator body }) refl (assumption (refl, is, known)) (λ e h. cc (event_is e))
 
 -- ---- reports
 
 -- A point is made of its parts.
-point_is : (p : Point) → p ≡ record { epoch = p.epoch; eid = p.eid }
+pub point_is : (p : Point) → p ≡ record { epoch = p.epoch; eid = p.eid }
 point_is p = refl
 
 -- What an inventory tells.
@@ -106,7 +107,7 @@ pub record InventoryParts : Type 0 where
   pub point : Point
   pub records : List Record
 
-abbrev inventory_of : Kind → InventoryParts → Report
+abbrev pub inventory_of : Kind → InventoryParts → Report
 inventory_of kind p = Inventory kind p.fulfil p.id p.point p.records
 
 -- An inventory, behind which nothing is left.
@@ -124,7 +125,7 @@ pub record EventsParts : Type 0 where
   pub consulted : ℕ
   pub events : List Event
 
-abbrev events_of : Kind → EventsParts → Report
+abbrev pub events_of : Kind → EventsParts → Report
 events_of kind p = Events kind p.fulfil p.id p.point p.consulted p.events
 
 -- Events, behind which nothing is left.
@@ -177,7 +178,7 @@ abbrev HasForm : ℕ → Type 0
 HasForm attr_type = (base : ℕ) (octets : List ℕ) (report : Report) → AreOctets octets → whole (read_report attr_type) base octets ≡ Ok report → ReportForm attr_type report octets
 
 -- The types are these four.
-four_types : (t : ℕ) → IsReportType t → (t ≡ 14) ⊎ ((t ≡ 15) ⊎ ((t ≡ 16) ⊎ (t ≡ 17)))
+pub four_types : (t : ℕ) → IsReportType t → (t ≡ 14) ⊎ ((t ≡ 15) ⊎ ((t ≡ 16) ⊎ (t ≡ 17)))
 four_types t is = elim (cases_eq t 14) [
   | inl e ↦ inl e
   | inr a ↦ elim (cases_eq t 15) [
@@ -186,7 +187,7 @@ four_types t is = elim (cases_eq t 14) [
   ]
 ]
 
-form_of_type : (attr_type : ℕ) → IsReportType attr_type → HasForm attr_type
+pub form_of_type : (attr_type : ℕ) → IsReportType attr_type → HasForm attr_type
 form_of_type attr_type is = elim (four_types attr_type is) [
   | inl e ↦ subst (λ (t : ℕ). HasForm t) (sym e) (λ base octets report are r. inventory_forth Ids base 14 octets report (λ p. refl) are r)
   | inr (inl e) ↦ subst (λ (t : ℕ). HasForm t) (sym e) (λ base octets report are r. events_forth Ids base 15 octets report (λ p. refl) are r)

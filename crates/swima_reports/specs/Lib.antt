@@ -2,3 +2,6 @@ pub mod ActionNumber
 pub mod ReportType
 pub mod ReportForm
 pub mod ReportReading
+pub mod FirstFault
+pub mod Laws
+pub mod Written

@@ -1,8 +1,8 @@
 -- The same layouts read field by field, in the order of the figures of RFC 8412, sections 5.7 to 5.10: they give the
 -- report, or the place of the first fault. Where what a length counts does not fit, or is too long, that is the length.
-use Rattle.std.specs.Prelude.{◌≡◌, ◌↔◌, ◌==◌, ℕ, List, [], Ok, length, nat_le, if◌then◌else◌}
-use Rattle.wire_base.specs.Layout.{AreOctets, is_set}
-use Rattle.wire_base.specs.Reading.{Reader, ◌>>=◌, done, octets, number, counted, meaning, if_so, several, at_end, whole}
+use Rattle.std.specs.Prelude.{◌==◌, ℕ, List, [], length, nat_le, if◌then◌else◌}
+use Rattle.wire_base.specs.Layout.{is_set}
+use Rattle.wire_base.specs.Reading.{Reader, ◌>>=◌, done, octets, number, counted, meaning, if_so, several, at_end}
 use Rattle.wire_base.specs.Stamp.{is_stamp}
 use Rattle.swima_model.specs.declared.event.Event.{Event}
 use Rattle.swima_model.specs.declared.record.Record.{Record}
@@ -11,13 +11,20 @@ use Rattle.swima_model.specs.declared.report.Kind.TheVariants.{Ids, Full}
 use Rattle.swima_model.specs.declared.report.Report.{Report}
 use Rattle.swima_model.specs.declared.report.Report.TheVariants.{Inventory, Events}
 use Rattle.swima_reports.specs.ActionNumber.{action_of}
-use Rattle.swima_reports.specs.ReportForm.{FULFIL, MOST_BODY_OCTETS, ReportForm}
-use Rattle.swima_reports.specs.ReportType.{SOFTWARE_IDENTIFIER_INVENTORY, SOFTWARE_IDENTIFIER_EVENTS, SOFTWARE_INVENTORY, IsReportType}
+use Rattle.swima_reports.specs.ReportForm.{FULFIL, MOST_BODY_OCTETS}
+use Rattle.swima_reports.specs.ReportType.{SOFTWARE_IDENTIFIER_INVENTORY, SOFTWARE_IDENTIFIER_EVENTS, SOFTWARE_INVENTORY}
 
 -- The body of a record.
 unfoldable pub read_body : Kind → Reader (List ℕ)
 read_body Ids = done []
 read_body Full = meaning (if_so (λ body. nat_le (length body) MOST_BODY_OCTETS)) (counted 4)
+
+-- The record that is made of these parts.
+abbrev pub record_from : ℕ → ℕ → ℕ → ℕ → List ℕ → List ℕ → List ℕ → Record
+record_from id pen model source ident locator body = record {
+  id = id;
+  content = record { model = record { pen = pen; kind = model }; source = source; ident = ident; locator = locator; body = body };
+}
 
 -- A record.
 unfoldable pub read_record : Kind → Reader Record
@@ -30,7 +37,7 @@ read_record kind = do
   ident ← counted 2
   locator ← counted 2
   body ← read_body kind
-  done (record { id = id; content = record { model = record { pen = pen; kind = model }; source = source; ident = ident; locator = locator; body = body } })
+  done (record_from id pen model source ident locator body)
 
 -- An event.
 unfoldable pub read_event : Kind → Reader Event
@@ -45,7 +52,7 @@ read_event kind = do
   ident ← counted 2
   locator ← counted 2
   body ← read_body kind
-  done (record { eid = eid; stamp = stamp; action = action; subject = record { id = id; content = record { model = record { pen = pen; kind = model }; source = source; ident = ident; locator = locator; body = body } } })
+  done (record { eid = eid; stamp = stamp; action = action; subject = record_from id pen model source ident locator body })
 
 -- An inventory, behind which nothing is left.
 unfoldable pub read_inventory : Kind → Reader Report
@@ -77,7 +84,3 @@ read_report attr_type =
     else if attr_type == SOFTWARE_IDENTIFIER_EVENTS then read_events Ids
     else if attr_type == SOFTWARE_INVENTORY then read_inventory Full
     else read_events Full
-
--- A report is read of octets exactly where they have its form.
-abbrev pub ReadingIsForm : Type 0
-ReadingIsForm = (attr_type base : ℕ) (octets : List ℕ) (report : Report) → IsReportType attr_type → AreOctets octets → (whole (read_report attr_type) base octets ≡ Ok report) ↔ ReportForm attr_type report octets

@@ -2,7 +2,7 @@
 
 ghost use Rattle.std.specs.Prelude.{◌≡◌, ◌≤◌, nat_le};
 ghost use Rattle.swima_model.specs.declared.report.Kind.TheVariants as kinds;
-ghost use Rattle.swima_reports.specs.ActionNumber.{action_of};
+ghost use Rattle.swima_reports.specs.ActionNumber.{action_number, action_of};
 ghost use Rattle.swima_reports.specs.ReportReading.{read_body};
 ghost use Rattle.wire_base.specs.Reading.{Gives, GivesExactly, counted, if_so, meaning, number, octets};
 ghost use Rattle.wire_base.specs.Stamp.{is_stamp};
@@ -10,6 +10,9 @@ ghost use Rattle.wire_base.specs.Stamp.{is_stamp};
 use std::alloc::Global;
 use swima_model::{Action, Body, Bounded, Kind, Limit, LongRefused};
 use wire_base::{Cursor, FieldRefused, is_stamp};
+
+/// The flag of a report that fulfils a subscription (RFC 8412, sections 5.7 to 5.10).
+pub const FULFIL: u8 = 0x80;
 
 /// The event up to which a report looked, which is none behind its last event `eid`; a fault at its first octet where it
 /// is (RFC 8412, section 5.8).
@@ -58,6 +61,17 @@ fn action_of(number: u8) -> Option<Action>
         2 => Some(Action::Deletion),
         3 => Some(Action::Alteration),
         _ => None,
+    }
+}
+
+/// The number of the action (RFC 8412, section 5.8).
+pub fn action_number(action: Action) -> u8
+    ensures number { result ≡ action_number action }
+{
+    match action {
+        Action::Creation => 1,
+        Action::Deletion => 2,
+        Action::Alteration => 3,
     }
 }
 

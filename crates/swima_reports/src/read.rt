@@ -2,30 +2,19 @@
 
 ghost use Rattle.std.specs.Prelude.{◌≡◌, ◌+◌, ◌<◌, ◌≤◌, ◌^◌, Ok, IfOk, length};
 ghost use Rattle.swima_model.specs.declared.report.Report.{Report as ReportValue};
+ghost use Rattle.swima_reports.specs.FirstFault.{FirstFault, OnFault};
 ghost use Rattle.swima_reports.specs.ReportForm.{ReportForm};
 ghost use Rattle.swima_reports.specs.ReportReading.{read_events, read_inventory, read_report};
 ghost use Rattle.wire_base.specs.Reading.{Gives, value_alone, whole};
 
+use crate::attribute_types::{
+    SOFTWARE_IDENTIFIER_EVENTS, SOFTWARE_IDENTIFIER_INVENTORY, SOFTWARE_INVENTORY,
+};
 use crate::entry::{FEWEST_EVENT_OCTETS, FEWEST_RECORD_OCTETS, entries};
-use crate::fields::consulted;
+use crate::fields::{FULFIL, consulted};
 use std::alloc::Global;
 use swima_model::{Kind, Point, Report};
 use wire_base::{Cursor, FieldRefused};
-
-/// The attribute type of a Software Identifier Inventory (RFC 8412, section 5.2).
-pub const SOFTWARE_IDENTIFIER_INVENTORY: u32 = 14;
-
-/// The attribute type of Software Identifier Events (RFC 8412, section 5.2).
-pub const SOFTWARE_IDENTIFIER_EVENTS: u32 = 15;
-
-/// The attribute type of a Software Inventory (RFC 8412, section 5.2).
-pub const SOFTWARE_INVENTORY: u32 = 16;
-
-/// The attribute type of Software Events (RFC 8412, section 5.2).
-pub const SOFTWARE_EVENTS: u32 = 17;
-
-/// The flag of a report that fulfils a subscription.
-const FULFIL: u8 = 0x80;
 
 /// The report that is the value of an attribute of a type from 14 to 17 (RFC 8412, sections 5.7 to 5.10).
 ///
@@ -43,6 +32,7 @@ pub fn read_report(
     ensures found { IfOk result (λ report. ReportForm attr_type report value.now) }
     ensures only { (report : ReportValue) → ReportForm attr_type report value.now
         → Gives (λ read. read) result (Ok report) }
+    ensures fault { OnFault result (λ place. FirstFault attr_type base value.now place) }
     ensures exact { Gives (λ read. read) result (whole (read_report attr_type) base value.now) }
 {
     by_type(alloc, attr_type, Cursor::new(base, value))

@@ -1,0 +1,82 @@
+-- What is written of a report (RFC 8412, sections 5.7 to 5.10).
+use Rattle.std.specs.Prelude.{◌≡◌, ◌≤◌, ℕ, All, List, Ok, drop, length, take}
+use Rattle.wire_base.specs.Layout.{Field}
+use Rattle.wire_base.specs.Reading.{whole}
+use Rattle.wire_base.specs.Stamp.{IsStamp}
+use Rattle.wire_base.specs.Written.{Fit, written}
+use Rattle.swima_model.specs.Kinds.{body_of_kind, records_of_kind, events_of_kind}
+use Rattle.swima_model.specs.declared.event.Event.{Event}
+use Rattle.swima_model.specs.declared.record.Record.{Record}
+use Rattle.swima_model.specs.declared.report.Kind.{Kind}
+use Rattle.swima_model.specs.declared.report.Kind.TheVariants.{Ids}
+use Rattle.swima_model.specs.declared.report.Report.{Report}
+use Rattle.swima_model.specs.declared.report.Report.TheVariants.{Inventory, Events}
+use Rattle.swima_model.specs.Size.{report_size}
+use Rattle.swima_reports.specs.ReportForm.{CanBeWritten, MayCarry, ReportForm, event_fields, record_fields, report_fields}
+use Rattle.swima_reports.specs.ReportReading.{read_report}
+use Rattle.swima_reports.specs.ReportType.{report_type}
+
+-- The octets that are written.
+abbrev pub written_report : Report → List ℕ
+written_report report = written (report_fields report)
+
+-- What they carry of the report: those of a report of identifiers have no bodies (sections 5.7 and 5.8).
+abbrev pub carried : Report → Report
+carried (Inventory kind fulfil id point records) = Inventory kind fulfil id point (records_of_kind kind records)
+carried (Events kind fulfil id point consulted events) = Events kind fulfil id point consulted (events_of_kind kind events)
+
+-- ---- parts of the layout
+
+-- The fields of a record before its reserved octet, and those behind it; an event has them before and behind its action.
+abbrev pub origin_fields : Record → List Field
+origin_fields r = take 4 (record_fields Ids r)
+
+abbrev pub software_fields : Kind → Record → List Field
+software_fields kind r = drop 5 (record_fields kind r)
+
+-- ---- what a report has to be
+
+-- The time of each of its events is told as a stamp (section 5.8, "Timestamp").
+abbrev pub HasStamps : Report → Type 0
+HasStamps (Inventory kind fulfil id point records) = Unit {0}
+HasStamps (Events kind fulfil id point consulted events) = All (λ (e : Event). IsStamp e.stamp) events
+
+-- The last event that was consulted is none behind its point (section 5.8, "Last Consulted EID").
+abbrev pub ConsultsWithin : Report → Type 0
+ConsultsWithin (Inventory kind fulfil id point records) = Unit {0}
+ConsultsWithin (Events kind fulfil id point consulted events) = consulted ≤ point.eid
+
+-- ---- what its parts are by their types
+
+-- The fields of a record have room, and its body is none that is too long.
+abbrev pub RecordHasRoom : Kind → Record → Type 0
+RecordHasRoom kind r = Fit (record_fields kind r) × MayCarry kind (body_of_kind kind r.content.body)
+
+-- So it is of an event.
+abbrev pub EventHasRoom : Kind → Event → Type 0
+EventHasRoom kind e = Fit (event_fields kind e) × MayCarry kind (body_of_kind kind e.subject.content.body)
+
+-- The fields of a report have room, and what is carried of it may be.
+pub record IsWritable (report : Report) : Type 0 where
+  pub fits : Fit (report_fields report)
+  pub carried : CanBeWritten (carried report)
+
+-- ---- what is written
+
+-- What is written of a report is read back as what it carries, of the type that carries the report.
+abbrev pub WrittenIsRead : Type 0
+WrittenIsRead = (base : ℕ) (report : Report) → IsWritable report
+    → whole (read_report (report_type report)) base (written_report report) ≡ Ok (carried report)
+
+-- Of a report that its kind may carry, that is the report.
+abbrev pub CarriedIsReport : Type 0
+CarriedIsReport = (report : Report) → CanBeWritten report → carried report ≡ report
+
+-- It has so many octets as `report_size` counts.
+abbrev pub WrittenIsCounted : Type 0
+WrittenIsCounted = (report : Report) → HasStamps report → length (written_report report) ≡ report_size report
+
+-- So has each value of an attribute that carries the report, whatever stands where any octets may.
+abbrev pub FormIsCounted : Type 0
+FormIsCounted = (attr_type : ℕ) (report : Report) (octets : List ℕ) → ReportForm attr_type report octets
+    → length octets ≡ report_size report
