@@ -1,9 +1,9 @@
 -- What an honest epoch has live.
-use Rattle.std.proofs.Common.{◌≡◌, inl, inr, ℕ, zero, suc, ◌+◌, ◌<◌, ◌≤◌, false, List, [], ◌∷◌, ◌++◌, length, get_or, take, drop, sym, ap, ◌∙◌, subst, append_assoc, arith}
+use Rattle.std.proofs.Common.{◌≡◌, inl, inr, ℕ, ◌<◌, ◌≤◌, false, List, [], ◌∷◌, ◌++◌, length, get_or, take, sym, ap, ◌∙◌, subst, append_assoc, arith}
 use Rattle.std.specs.Prelude.{Contains}
 use Rattle.std.specs.List.Sorted.{IsStrictlyIncreasing}
 use Rattle.std.proofs.lemmas.Bool.{cases_lt}
-use Rattle.std.proofs.lemmas.List.{get_or_default, take_more, take-append-drop, map-append}
+use Rattle.std.proofs.lemmas.List.{get_or_default, map-append}
 use Rattle.swima_model.specs.declared.event.Event.{Event}
 use Rattle.swima_model.specs.declared.record.Record.{Record}
 use Rattle.swima_model.specs.declared.report.Kind.{Kind}
@@ -12,7 +12,8 @@ use Rattle.swima_model.specs.Kinds.{records_of_kind, events_of_kind}
 use Rattle.swima_model.specs.History.{Epoch, History, IsHonest, IsHonestEpoch, FitsBehind, contradicts, does_not_fit, live_at}
 use Rattle.swima_model.specs.Live.{live}
 use Rattle.swima_model.specs.Size.{are_large}
-use Rattle.swima_model.proofs.Living.{live_rises, live_more, live_none}
+use Rattle.swima_model.proofs.Living.{live_rises, live_more}
+use Rattle.swima_model.proofs.Honest.{live_fits}
 use Rattle.swima_model.proofs.OfKind.{event_of_kind, ids_of_kind, live_of_kind, some_of_kind, fits_of_kind}
 
 -- ---- the epochs of an honest history
@@ -39,22 +40,6 @@ one_epoch history one other honest here there same = elim (cases_lt here.0 there
 ]
 
 -- ---- what is live at a place of it
-
--- What is live after so many events fits.
-pub live_fits : (epoch : Epoch) (count : ℕ) → IsHonestEpoch epoch → count ≤ length epoch.events → are_large (live epoch.base (take count epoch.events)) ≡ false
-live_fits epoch zero honest le = ap are_large (live_none epoch.base honest.rising) ∙ honest.begins
-live_fits epoch (suc count) honest le =
-    let f = found epoch.events count (omega (arith, le)) in
-    let split : epoch.events ≡ take count epoch.events ++ f.0 ∷ drop (count + 1) epoch.events =
-    sym (take-append-drop (count + 1) epoch.events) ∙ ap (λ (es : List Event). es ++ drop (count + 1) epoch.events) f.1
-    ∙ append_assoc (take count epoch.events) (f.0 ∷ []) (drop (count + 1) epoch.events) in
-    let one : suc count ≡ count + 1 = omega arith in
-    ap (λ (k : ℕ). are_large (live epoch.base (take k epoch.events))) one ∙ ap (λ (es : List Event). are_large (live epoch.base es)) f.1
-    ∙ (honest.fit (take count epoch.events) f.0 (drop (count + 1) epoch.events) split).fits
-  where
-    found : (events : List Event) (k : ℕ) → k < length events → (event : Event) × (take (k + 1) events ≡ take k events ++ event ∷ [])
-    found [] k lt = absurd (omega arith)
-    found (e ∷ later) k lt = (get_or (e ∷ later) k e, take_more (e ∷ later) k e lt)
 
 pub live_at_rises : (epoch : Epoch) (count : ℕ) (kind : Kind) → IsHonestEpoch epoch → IsStrictlyIncreasing (ids (live_at epoch count kind))
 live_at_rises epoch count kind honest =

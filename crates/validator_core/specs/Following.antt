@@ -52,7 +52,9 @@ or_later None later = later
 -- What is said of the first event of which something is to be said, behind those before them.
 abbrev pub first_trouble_behind : List Record → List Event → List Event → Option Taken
 first_trouble_behind base before [] = None
-first_trouble_behind base before (event ∷ later) = or_later (trouble base before event) (first_trouble_behind base (before ++ event ∷ []) later)
+first_trouble_behind base before (event ∷ later) =
+    or_later (trouble base before event) (first_trouble_behind base (before ++ event ∷ []) later)
 
+-- What is said of the first such event of a report, over the records that are held.
 abbrev pub first_trouble : List Record → List Event → Option Taken
 first_trouble base events = first_trouble_behind base [] events

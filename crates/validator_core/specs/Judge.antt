@@ -47,6 +47,7 @@ abbrev pub judge_records : Held → Point → List Record → Option ℕ → Tak
 judge_records mirror point records (Some id) = (taken.Doubled id, marked mirror)
 judge_records mirror point records None = judge_distinct mirror point records
 
+-- An inventory: of the wrong kind, stale, or one whose records are judged.
 abbrev pub judge_inventory : Held → Kind → Point → List Record → Taken × Held
 judge_inventory mirror kind point records =
     if not (same_kind kind mirror.kind) then (taken.WrongKind, mirror)
@@ -59,8 +60,10 @@ judge_inventory mirror kind point records =
 -- the mirror stands at the last that was consulted.
 abbrev pub judge_above : Held → Point → ℕ → List Event → Option Taken → Taken × Held
 judge_above mirror held consulted above (Some trouble) = (trouble, marked mirror)
-judge_above mirror held consulted above None =
-    (taken.Advanced held.eid consulted, record mirror { point = Some (record held { eid = consulted }); records = live mirror.records above })
+judge_above mirror held consulted above None = (
+  taken.Advanced held.eid consulted,
+  record mirror { point = Some (record held { eid = consulted }); records = live mirror.records above },
+)
 
 -- Events that were consulted up to above the one that is held, of which the first gap is given.
 abbrev pub judge_numbered : Held → Point → ℕ → List Event → Option ℕ → Taken × Held
@@ -76,6 +79,7 @@ judge_events_at mirror epoch consulted events (Some held) =
     else (if nat_le consulted held.eid then (taken.Stale, mirror)
     else judge_numbered mirror held consulted events (gap held.eid consulted events))
 
+-- Events: of the wrong kind, or judged over the mirror's point.
 abbrev pub judge_events : Held → Kind → ℕ → ℕ → List Event → Taken × Held
 judge_events mirror kind epoch consulted events =
     if not (same_kind kind mirror.kind) then (taken.WrongKind, mirror)
@@ -83,6 +87,7 @@ judge_events mirror kind epoch consulted events =
 
 -- ---- a report
 
+-- The answer to a report, and the mirror then.
 abbrev pub judge : Held → Report → Taken × Held
 judge mirror (Inventory kind fulfil id point records) = judge_inventory mirror kind point records
 judge mirror (Events kind fulfil id point consulted events) = judge_events mirror kind point.epoch consulted events

@@ -29,4 +29,5 @@ BlamesNot answer = Unit {0}
 -- A mirror that is right over an honest history is right after each report that answers from it, and says nothing
 -- against that.
 abbrev pub StaysRight : Held → Report → Taken → Held → Type 0
-StaysRight before report answer after = (history : History) → IsHonest history → IsRight history before → Answers history report → IsRight history after × BlamesNot answer
+StaysRight before report answer after = (history : History) → IsHonest history → IsRight history before → Answers history report
+    → IsRight history after × BlamesNot answer

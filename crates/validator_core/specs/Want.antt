@@ -16,6 +16,7 @@ want_at None off = wanted.Full
 want_at (Some point) true = wanted.Full
 want_at (Some point) false = if point.eid == LAST_EID then wanted.Spent else wanted.EventsFrom (point.eid + 1)
 
+-- What a mirror wants next.
 abbrev pub want : Held → Want
 want mirror = want_at mirror.point mirror.off
 

@@ -12,13 +12,13 @@ use std::alloc::Global;
 use std::collections::BTreeSet;
 use std::mem;
 use swima_model::{Action, Event, Events, Record, Records};
-use wire_base::{List, Memory, TryCopy};
+use wire_base::{List, Memory};
 
-/// Makes of `records` those that are live after the events above the event identifier `eid`. It copies the records that
-/// are last mentioned and moves the others; at `Memory` all is as it was.
-pub fn follow(records: &mut Records, eid: u32, events: &Events) -> Result<(), Memory>
+/// Makes of `records` those that are live after the events above the event identifier `eid`. No record is copied; at
+/// `Memory` the records are as they were.
+pub fn follow(records: &mut Records, eid: u32, events: Events) -> Result<(), Memory>
     requires rising { IsStrictlyIncreasing (ids records.old) }
-    ensures live { OnOk result (records.new ≡ live records.old (events_above eid events.now)) }
+    ensures live { OnOk result (records.new ≡ live records.old (events_above eid events)) }
     ensures memory { OnErr result (records.new ≡ records.old) }
 {
     let mentions = Mentions::above(records.allocator(), eid, events)?;
@@ -39,16 +39,15 @@ pub struct Mentions {
 
 impl Mentions {
     /// The mentions of the events above the event identifier `eid`.
-    fn above(alloc: Global, eid: u32, events: &Events) -> Result<Self, Memory>
-        ensures mentions { IfOk result (λ made. AreOf (events_above eid events.now) made) }
+    fn above(alloc: Global, eid: u32, events: Events) -> Result<Self, Memory>
+        ensures mentions { IfOk result (λ made. AreOf (events_above eid events) made) }
     {
         let mut mentions = Mentions {
             ids: BTreeSet::new(alloc),
             last: Vec::new(alloc),
         };
-        let mut left = events.as_slice();
-        while let Some((event, earlier)) = left.split_last() {
-            left = earlier;
+        let mut left = events.into_vec();
+        while let Some(event) = left.pop() {
             if event.eid > eid {
                 mentions.add_earlier(event)?;
             }
@@ -57,13 +56,13 @@ impl Mentions {
     }
 
     /// Adds an event before those that there are.
-    fn add_earlier(&mut self, event: &Event) -> Result<(), Memory>
+    fn add_earlier(&mut self, event: Event) -> Result<(), Memory>
         ensures added { (later : List Event) → AreOf later self.old
-            → OnOk result (AreOf (event.now ∷ later) self.new) }
+            → OnOk result (AreOf (event ∷ later) self.new) }
     {
         let is_last = self.ids.insert(event.subject.id)?;
         if is_last && event.action != Action::Deletion {
-            self.last.push(event.subject.copy()?)?;
+            self.last.push(event.subject)?;
         }
         Ok(())
     }

@@ -1,6 +1,6 @@
 //! What the definitions mean, proved of every value: the calls do nothing.
 
-ghost use Rattle.validator_core.specs.Growth.{GrowthKeeps};
+ghost use Rattle.validator_core.specs.Growth.{GrowthKeepsAnswers, GrowthKeepsRight, HonestGrowthIsLater};
 ghost use Rattle.validator_core.specs.Kept.{JudgeKeepsRising};
 
 /// A mirror in which each identifier is below the next, as in a new one, is such a mirror after each report.
@@ -8,8 +8,11 @@ pub fn judge_keeps_rising()
     ensures law { JudgeKeepsRising }
 {}
 
-/// Where a history grows and is honest then, each report that answered from it still does, and each mirror that was right
-/// over it still is.
+/// Where a history grows, each mirror that was right over it still is, and so does each inventory that answered from it
+/// still answer; and each report of events too, where the event identifiers of the new events are above the number of
+/// those before them, as they are where the history is honest then.
 pub fn growth_keeps()
-    ensures law { GrowthKeeps }
+    ensures right { GrowthKeepsRight }
+    ensures answers { GrowthKeepsAnswers }
+    ensures honest { HonestGrowthIsLater }
 {}

@@ -4,20 +4,23 @@ ghost use Rattle.std.specs.Prelude.{◌≡◌, ◌<◌, ◌≤◌, ◌^◌, [], 
 ghost use Rattle.std.specs.Option.{option_copied};
 ghost use Rattle.swima_model.specs.Doubled.{doubled as smallest_doubled};
 ghost use Rattle.validator_core.specs.Following.{events_above, first_trouble, gap};
+ghost use Rattle.validator_core.specs.Given.{list_of};
 ghost use Rattle.validator_core.specs.Held.{Held, empty_mirror};
 ghost use Rattle.swima_model.specs.InOrder.{ids};
 ghost use Rattle.swima_model.specs.Size.{is_large, report_count};
-ghost use Rattle.validator_core.specs.Judge.{Judged, StandsAt, is_stale, judge, judge_above, judge_events, judge_inventory, judge_numbered, judge_records};
+ghost use Rattle.validator_core.specs.Judge.{Judged, StandsAt, is_stale, judge, judge_above, judge_events};
+ghost use Rattle.validator_core.specs.Judge.{judge_inventory, judge_numbered, judge_records};
 ghost use Rattle.validator_core.specs.Right.{StaysRight};
 
 use crate::doubled::doubled;
 use crate::follow::follow;
 use crate::gap::gap;
+use crate::given::Given;
 use crate::order::{in_order, records_octets};
 use crate::trouble::first_trouble;
 use std::alloc::Global;
 use std::marker::Model;
-use swima_model::{Events, Kind, Point, Record, Records, Report};
+use swima_model::{Event, Kind, Point, Record, Records, Report};
 use wire_base::{List, Memory};
 
 /// The most records that a mirror holds.
@@ -170,20 +173,44 @@ impl Mirror {
                 point,
                 records,
                 ..
-            } => self.take_inventory(*kind, *point, records),
+            } => self.take_inventory(*kind, *point, Given::Lent(records)),
             Report::Events {
                 kind,
                 point,
                 consulted,
                 events,
                 ..
-            } => self.take_events(*kind, point.epoch, *consulted, events),
+            } => self.take_events(*kind, point.epoch, *consulted, Given::Lent(events)),
         }
     }
 
-    fn take_inventory(&mut self, kind: Kind, point: Point, records: &Records) -> Taken
-        requires { length records.now < 2 ^ 32 }
-        ensures judged { Judged self.old (judge_inventory self.old kind point records.now)
+    /// As `take`, of a report that is given up: what the mirror keeps of it is moved and not copied.
+    pub fn take_owned(&mut self, report: Report) -> Taken
+        requires { report_count report < 2 ^ 32 }
+        ensures judged { Judged self.old (judge self.old report) result self.new }
+        ensures right { StaysRight self.old report result self.new }
+        ensures stands { StandsAt self.old report result self.new }
+    {
+        match report {
+            Report::Inventory {
+                kind,
+                point,
+                records,
+                ..
+            } => self.take_inventory(kind, point, Given::Own(records)),
+            Report::Events {
+                kind,
+                point,
+                consulted,
+                events,
+                ..
+            } => self.take_events(kind, point.epoch, consulted, Given::Own(events)),
+        }
+    }
+
+    fn take_inventory(&mut self, kind: Kind, point: Point, records: Given<Record>) -> Taken
+        requires { length (list_of records) < 2 ^ 32 }
+        ensures judged { Judged self.old (judge_inventory self.old kind point (list_of records.entry))
             result self.new }
     {
         if kind != self.kind {
@@ -211,33 +238,34 @@ impl Mirror {
         }
     }
 
-    fn take_records(&mut self, point: Point, records: &Records) -> Result<Taken, Memory>
-        requires { length records.now < 2 ^ 32 }
+    fn take_records(&mut self, point: Point, records: Given<Record>) -> Result<Taken, Memory>
+        requires { length (list_of records) < 2 ^ 32 }
         ensures judged { IfOk result (λ answer.
-            judge_records self.old point records.now (smallest_doubled (ids records.now))
+            judge_records self.old point (list_of records.entry) (smallest_doubled (ids (list_of records.entry)))
             ≡ (answer, self.new)) }
         ensures memory { OnErr result (self.new ≡ self.old) }
     {
-        if let Some(id) = doubled(records)? {
+        if let Some(id) = doubled(records.as_list())? {
             self.off = true;
             return Ok(Taken::Doubled { id });
         }
-        let octets = records_octets(records);
-        if is_large(records.len(), octets) {
+        let count = records.as_list().len();
+        let octets = records_octets(records.as_list());
+        if is_large(count, octets) {
             self.off = true;
             return Ok(Taken::Large {
-                count: records.len() as u32,
+                count: count as u32,
                 octets,
             });
         }
-        self.records = in_order(records)?;
+        self.records = in_order(records.into_list()?)?;
         self.point = Some(point);
         self.off = false;
         Ok(Taken::Adopted)
     }
 
-    fn take_events(&mut self, kind: Kind, epoch: u32, consulted: u32, events: &Events) -> Taken
-        ensures judged { Judged self.old (judge_events self.old kind epoch consulted events.now)
+    fn take_events(&mut self, kind: Kind, epoch: u32, consulted: u32, events: Given<Event>) -> Taken
+        ensures judged { Judged self.old (judge_events self.old kind epoch consulted (list_of events.entry))
             result self.new }
     {
         if kind != self.kind {
@@ -264,13 +292,13 @@ impl Mirror {
     }
 
     /// Takes events of the mirror's epoch that were consulted up to above its event identifier.
-    fn take_later(&mut self, held: Point, consulted: u32, events: &Events) -> Taken
+    fn take_later(&mut self, held: Point, consulted: u32, events: Given<Event>) -> Taken
         requires later { held.eid ≤ consulted }
         ensures judged { Judged self.old
-            (judge_numbered self.old held consulted events.now (gap held.eid consulted events.now))
+            (judge_numbered self.old held consulted (list_of events.entry) (gap held.eid consulted (list_of events.entry)))
             result self.new }
     {
-        if let Some(got) = gap(held.eid, consulted, events) {
+        if let Some(got) = gap(held.eid, consulted, events.as_list()) {
             self.off = true;
             let have = held.eid;
             return Taken::Gap { have, got };
@@ -286,19 +314,19 @@ impl Mirror {
         &mut self,
         held: Point,
         consulted: u32,
-        events: &Events,
+        events: Given<Event>,
     ) -> Result<Taken, Memory>
         ensures judged { IfOk result (λ answer.
-            judge_above self.old held consulted (events_above held.eid events.now)
-            (first_trouble self.old.records (events_above held.eid events.now))
+            judge_above self.old held consulted (events_above held.eid (list_of events.entry))
+            (first_trouble self.old.records (events_above held.eid (list_of events.entry)))
             ≡ (answer, self.new)) }
         ensures memory { OnErr result (self.new ≡ self.old) }
     {
-        if let Some(trouble) = first_trouble(&self.records, held.eid, events)? {
+        if let Some(trouble) = first_trouble(&self.records, held.eid, events.as_list())? {
             self.off = true;
             return Ok(trouble);
         }
-        follow(&mut self.records, held.eid, events)?;
+        follow(&mut self.records, held.eid, events.into_list()?)?;
         self.point = Some(Point {
             epoch: held.epoch,
             eid: consulted,

@@ -5,13 +5,13 @@ ghost use Rattle.swima_model.specs.Size.{records_octets};
 ghost use Rattle.swima_model.specs.InOrder.{in_order};
 
 use swima_model::Records;
-use wire_base::{List, Memory, TryCopy};
+use wire_base::{List, Memory};
 
-/// Copies of the records in order of identifier.
-pub fn in_order(records: &Records) -> Result<Records, Memory>
-    ensures order { IfOk result (λ made. made ≡ in_order records.now) }
+/// The records in order of identifier.
+pub fn in_order(records: Records) -> Result<Records, Memory>
+    ensures order { IfOk result (λ made. made ≡ in_order records) }
 {
-    let mut items = records.copy()?.into_vec();
+    let mut items = records.into_vec();
     items.sort_by_key(|record| record.id)?;
     Ok(List::from_vec(items))
 }

@@ -24,14 +24,23 @@ pub enum Told {
 /// A report, the answer to it, and where the mirror stands then, with which records and which mark, and what it wants.
 #[derive(Clone, Copy)]
 pub struct Row {
+    /// What the row shows.
     pub says: &'static str,
+    /// The kind of the report.
     pub kind: Kind,
+    /// The point of the report.
     pub point: Point,
+    /// What the report tells.
     pub told: Told,
+    /// The answer to it.
     pub answer: Taken,
+    /// The mirror's point then.
     pub stands: Option<Point>,
+    /// The identifiers of its records then, in order.
     pub holds: &'static [u32],
+    /// Its mark then.
     pub off: bool,
+    /// What it wants then.
     pub want: Want,
 }
 
@@ -186,6 +195,7 @@ pub fn inventory_of(alloc: Global, kind: Kind, point: Point, ids: &[u32]) -> Res
     Ok(inventory(kind, point, records))
 }
 
+/// A report of these records.
 pub fn inventory(kind: Kind, point: Point, records: Records) -> Report
     requires few { length records < 2 ^ 32 }
     ensures few { report_count result < 2 ^ 32 }
@@ -225,6 +235,7 @@ pub fn events_of(
     })
 }
 
+/// An event that tells the record.
 pub fn event_of(eid: u32, action: Action, subject: Record) -> Event {
     Event {
         eid,
@@ -261,7 +272,7 @@ pub fn take_row(
         }
         Told::Events(consulted, told) => {
             assert!(rt; told.len() < 10);
-            mirror.take(&events_of(alloc, row.kind, row.point, consulted, told)?)
+            mirror.take_owned(events_of(alloc, row.kind, row.point, consulted, told)?)
         }
     };
     assert_eq!(rt; answer, row.answer, "{}", row.says);
@@ -295,7 +306,7 @@ fn answer_to(rt: &impl Abort, alloc: Global, count: u32, last: u32) -> Result<Ta
     ids.push(last)?;
     assert!(rt; ids.len() < 100000);
     let report = inventory_of(alloc, Kind::Ids, Point { epoch: 1, eid: 1 }, &ids)?;
-    Ok(Mirror::new(alloc, Kind::Ids).take(&report))
+    Ok(Mirror::new(alloc, Kind::Ids).take_owned(report))
 }
 
 #[test]

@@ -10,5 +10,5 @@ pub returns : goal.returns
 returns c =
     let up = IsNonDecreasingBy-from_sort_by_key (λ (r : Record). r.id) _ c.in_ok-sort_by_key.ensures.sorted (λ a r q k. search rules) in
     let stable = c.in_ok-sort_by_key.ensures.stable (λ (r : Record). r.id) (answers_always _ _ _ (λ f a r g h. search rules)) in
-    let copied = c.into_vec-items.ensures.items ∙ c.in_ok-copy.ensures.equal in
+    let copied = c.into_vec-items.ensures.items in
     record { order = c.from_vec.ensures.items ∙ sorted_is_in_order c.into_vec-items.result.items c.sort_by_key.new.self.items up stable ∙ ap in_order copied }

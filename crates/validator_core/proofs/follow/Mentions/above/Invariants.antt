@@ -6,7 +6,7 @@ use Rattle.validator_core.specs.Mentions.{AreOf}
 use Rattle.validator_core.proofs.follow.Mentions.above.Given as goal
 
 abbrev pub invariant-loop-event : goal.invariant-loop-event
-invariant-loop-event l = (later : List Event) × (l.events ≡ l.left ++ later) × AreOf (events_above l.eid later) l.mentions
+invariant-loop-event l = (later : List Event) × (l.fn.events ≡ l.left.items ++ later) × AreOf (events_above l.eid later) l.mentions
 
 abbrev pub decreases-loop-event : goal.decreases-loop-event
-decreases-loop-event l = length l.left
+decreases-loop-event l = length l.left.items

@@ -21,8 +21,8 @@ returns-in_ok-push c = record {
   added = λ later are. record {
     ids = search rules;
     last =
-        let new = not-true (contains nat_cmp c.args.self.now.ids c.args.event.now.subject.id) (sym c.in_ok-is_last.ensures.added ∙ c.if-is_last.true) in
-        said_earlier c.args.event.now later c.args.self.now.last.items c.push.new.self.items c.in_ok-copy.field-0 (sym (are.ids c.args.event.now.subject.id) ∙ new)
-        (no_deletion c.args.event.now.action c.if-ne.ensures) are.last c.in_ok-copy.ensures.equal c.in_ok-push.ensures.items;
+        let new = not-true (contains nat_cmp c.args.self.now.ids c.args.event.subject.id) (sym c.in_ok-is_last.ensures.added ∙ c.if-is_last.true) in
+        said_earlier c.args.event later c.args.self.now.last.items c.push.new.self.items c.args.event.subject (sym (are.ids c.args.event.subject.id) ∙ new)
+        (no_deletion c.args.event.action c.if-ne.ensures) are.last refl c.in_ok-push.ensures.items;
   };
 }

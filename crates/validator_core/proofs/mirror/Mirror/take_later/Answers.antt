@@ -1,6 +1,8 @@
 -- Without a gap, what is judged is what is judged of the events above the one that is held.
-use Rattle.std.proofs.Common.{◌∙◌, [], ℕ, Option, sym, subst}
-use Rattle.validator_core.specs.Following.{events_above, first_trouble}
+use Rattle.std.proofs.Common.{◌∙◌, [], ℕ, List, Option, ap, sym, subst}
+use Rattle.swima_model.specs.declared.event.Event.{Event}
+use Rattle.validator_core.specs.Following.{events_above, first_trouble, gap}
+use Rattle.validator_core.specs.Given.{list_of}
 use Rattle.validator_core.specs.Judge.{Judged, NeedsMemory, judge_numbered}
 use Rattle.validator_core.proofs.Troubles.{above_needs_memory, judged_above, trouble_behind}
 use Rattle.validator_core.proofs.mirror.Mirror.take_later.Goals as goal
@@ -8,11 +10,11 @@ use Rattle.validator_core.proofs.mirror.Mirror.take_later.Goals as goal
 pub returns-in-Ok : goal.returns-in-Ok
 returns-in-Ok c =
     let mirror = c.args.self.now in
-    let above = events_above c.args.held.eid c.args.events.now in
-    let none = sym c.in_default.is ∙ c.gap.ensures.gap in
+    let above = events_above c.args.held.eid (list_of c.args.events) in
+    let none = sym c.in_default.is ∙ c.gap.ensures.gap ∙ ap (λ (es : List Event). gap c.args.held.eid c.args.consulted es) c.as_list.ensures.list in
     record {
       judged =
-          subst (λ (found : Option ℕ). Judged mirror (judge_numbered mirror c.args.held c.args.consulted c.args.events.now found) c.in-Ok.taken c.take_following.new.self) none
+          subst (λ (found : Option ℕ). Judged mirror (judge_numbered mirror c.args.held c.args.consulted (list_of c.args.events) found) c.in-Ok.taken c.take_following.new.self) none
           (judged_above mirror c.take_following.new.self c.args.held c.args.consulted above (first_trouble mirror.records above) c.in-Ok.taken
           (trouble_behind mirror.records [] above) c.in-Ok.ensures.judged);
     }
@@ -20,11 +22,11 @@ returns-in-Ok c =
 pub returns-in-Err : goal.returns-in-Err
 returns-in-Err c =
     let mirror = c.args.self.now in
-    let above = events_above c.args.held.eid c.args.events.now in
-    let none = sym c.in_default.is ∙ c.gap.ensures.gap in
+    let above = events_above c.args.held.eid (list_of c.args.events) in
+    let none = sym c.in_default.is ∙ c.gap.ensures.gap ∙ ap (λ (es : List Event). gap c.args.held.eid c.args.consulted es) c.as_list.ensures.list in
     record {
       judged = (
-        subst (λ (found : Option ℕ). NeedsMemory (judge_numbered mirror c.args.held c.args.consulted c.args.events.now found).0) none
+        subst (λ (found : Option ℕ). NeedsMemory (judge_numbered mirror c.args.held c.args.consulted (list_of c.args.events) found).0) none
             (above_needs_memory mirror c.args.held c.args.consulted above (first_trouble mirror.records above) (trouble_behind mirror.records [] above)),
         c.in-Err.ensures.memory,
       );
