@@ -1,11 +1,13 @@
 #!/usr/bin/env python3
-"""Writes one stream of PA-TNC attributes to measure with. The same words give the same file.
+"""Writes one stream of PA-TNC attributes to measure with. The same words give the same file, which may be /dev/stdout.
 
 usage: streams.py KIND COUNT EVENTS FILE  COUNT records, and then a report of EVENTS events over them
        streams.py smallest FILE           an inventory of as many records of 14 octets as an attribute holds
        streams.py churn FILE              65,536 such records, and then as many events of 38 octets as an attribute
                                           holds, each second of which creates again what the one before deleted
        streams.py single REPORTS FILE     65,536 such records, and then REPORTS reports of one alteration each
+       streams.py mebibytes COUNT FILE    COUNT inventories of whole records, each an attribute of exactly 1 MiB and each
+                                          with the next EID, so that each stands in place of the one before
 
 KIND is ids or full, of which the second has bodies of 1,024 octets. The first 14,000 records come in an inventory,
 and the others by reports of at most 14,000 creations, since with bodies an attribute holds no more. Of the EVENTS
@@ -25,6 +27,7 @@ SMALLEST_RECORD = 14
 SMALLEST_EVENT = 38
 LARGEST_ATTRIBUTE = 16_777_216
 MOST_RECORDS = 65_536
+MEBIBYTE = 1_048_576
 
 INVENTORY = {"ids": 14, "full": 16}  # the attribute types
 EVENTS = {"ids": 15, "full": 17}
@@ -121,6 +124,17 @@ def single(reports):
         yield events("ids", 2 + index, [event(2 + index, altered)])
 
 
+def mebibytes(count):
+    """The last record's body is as long as makes the attribute 1 MiB; only the EID differs from one to the next."""
+    records = [realistic("full", it) for it in range(MEBIBYTE // (BODY + 128))]
+    missing = MEBIBYTE - len(inventory("full", 0, records)) - len(record(len(records), body=b""))
+    records.append(record(len(records), body=b"x" * missing))
+    whole = inventory("full", 0, records)
+    place = HEADER + INVENTORY_HEAD - 4
+    for eid in range(1, count + 1):
+        yield whole[:place] + struct.pack(">I", eid) + whole[place + 4 :]
+
+
 def parts(words):
     """The attributes that the words ask for."""
     if words == ["smallest"]:
@@ -129,6 +143,8 @@ def parts(words):
         return churn()
     if len(words) == 2 and words[0] == "single":
         return single(int(words[1]))
+    if len(words) == 2 and words[0] == "mebibytes":
+        return mebibytes(int(words[1]))
     if len(words) == 3 and words[0] in INVENTORY:
         return stream(words[0], int(words[1]), int(words[2]))
     sys.exit(__doc__)

@@ -3,6 +3,8 @@ use Rattle.std.proofs.Common.{◌≡◌, ◌≢◌, ◌⊎◌, inl, inr, ℕ, ze
 use Rattle.std.specs.Prelude.{IfSome}
 use Rattle.std.proofs.lemmas.Bool.{cond-true}
 use Rattle.wire_base.specs.Reading.{whole}
+use Rattle.pa_attrs.specs.declared.attr.Attr.{Attr}
+use Rattle.pa_attrs.specs.Numbers.{HEADER}
 use Rattle.swima_model.specs.History.{History, IsHonest, Answers}
 use Rattle.swima_model.specs.declared.report.Kind.{Kind}
 use Rattle.swima_model.specs.declared.report.Kind.TheVariants.{Ids, Full}
@@ -17,14 +19,12 @@ use Rattle.validator_core.specs.Right.{IsRight}
 use Rattle.validator_core.proofs.Righting.{judged_right, judged_kind}
 use Rattle.swid_cli.specs.declared.front.Front.{Front}
 use Rattle.swid_cli.specs.declared.front.Front.TheVariants as front
-use Rattle.swid_cli.specs.declared.header.Header.{Header}
 use Rattle.swid_cli.specs.declared.step.Ending.TheVariants as ending
 use Rattle.swid_cli.specs.Answering.{StandsIn, report_kind, AllAnswer, EndsRight, PrintedMirrorIsRight, PrintsRight}
 use Rattle.swid_cli.specs.Answering.StandsIn.{as_first, behind_first}
 use Rattle.wire_base.specs.Outside.{Adds}
 use Rattle.swid_cli.specs.Run.{Prints}
-use Rattle.swid_cli.specs.Front.{front_of}
-use Rattle.swid_cli.specs.Header.{HEADER_OCTETS, carries_report}
+use Rattle.swid_cli.specs.Front.{carries_report, first_of}
 use Rattle.swid_cli.specs.Stream.{INPUT_OCTETS, Printed, Goes, after_line, and_on, front_step, report_step, step_of, stream, stream_by, stream_text}
 use Rattle.swid_cli.specs.Text.{mirror_text, skipped_line, took_line}
 use Rattle.swid_cli.proofs.Running.{is_whole}
@@ -38,9 +38,9 @@ record Stands (history : History) (kind : Kind) (mirror : Held) : Type 0 where
   of_kind : mirror.kind ≡ kind
   right : IsRight history mirror
 
--- Where what is printed was not refused, it ends with a right mirror.
-abbrev Ended : History → Printed → Type 0
-Ended history printed = printed.ending ≡ ending.Whole → EndsRight history printed
+-- Where what is printed was not refused, it ends with a right mirror of the kind.
+abbrev Ended : History → Kind → Printed → Type 0
+Ended history kind printed = printed.ending ≡ ending.Whole → EndsRight history kind printed
 
 -- The kinds are one, or they are not.
 kinds : (one other : Kind) → (one ≡ other) ⊎ (one ≢ other)
@@ -71,47 +71,47 @@ stands_on history kind mirror report honest stands answers = elim (kinds (report
 ]
 
 -- A line before a text that ends right.
-line_before : (history : History) (line : List ℕ) (printed : Printed) → Ended history printed → Ended history (after_line line printed)
-line_before history line printed ended whole =
+line_before : (history : History) (kind : Kind) (line : List ℕ) (printed : Printed) → Ended history kind printed → Ended history kind (after_line line printed)
+line_before history kind line printed ended whole =
     let e = ended whole in
-    (line ++ e.0, e.1, e.2, ap (λ (text : List ℕ). line ++ text) e.3 ∙ sym (append_assoc line e.0 (mirror_text e.1)))
+    (line ++ e.0, e.1, e.2, e.3, ap (λ (text : List ℕ). line ++ text) e.4 ∙ sym (append_assoc line e.0 (mirror_text e.1)))
 
 module _ (history : History) (kind : Kind) (honest : IsHonest history) (attributes : ℕ)
-    (behind : (at : ℕ) (mirror : Held) (octets : List ℕ) → Stands history kind mirror → Answering history kind at octets → Ended history (stream_by attributes at mirror octets)) where
+    (behind : (at : ℕ) (mirror : Held) (octets : List ℕ) → Stands history kind mirror → Answering history kind at octets → Ended history kind (stream_by attributes at mirror octets)) where
   read_ends : (at : ℕ) (mirror : Held) (octets : List ℕ) (len : ℕ) (read : Result Report ℕ) → Stands history kind mirror → Answering history kind (at + len) (drop len octets)
-      → ((report : Report) → read ≡ Ok report → report_kind report ≡ kind → Answers history report) → Ended history (and_on (stream_by attributes) at octets (report_step mirror octets len read))
+      → ((report : Report) → read ≡ Ok report → report_kind report ≡ kind → Answers history report) → Ended history kind (and_on (stream_by attributes) at octets (report_step mirror octets len read))
   read_ends at mirror octets len (Ok report) stands answering answers =
-      line_before history (took_line report (judge mirror report).0) (stream_by attributes (at + len) (judge mirror report).1 (drop len octets))
+      line_before history kind (took_line report (judge mirror report).0) (stream_by attributes (at + len) (judge mirror report).1 (drop len octets))
       (behind (at + len) (judge mirror report).1 (drop len octets) (stands_on history kind mirror report honest stands (answers report refl)) answering)
   read_ends at mirror octets len (Err place) stands answering answers = λ whole. absurd cc
 
-  attribute_ends : (at : ℕ) (mirror : Held) (octets : List ℕ) (header : Header) (attribute : List ℕ) (carries : Bool) → carries_report header ≡ carries → Stands history kind mirror
-      → Answering history kind at octets → front_of (INPUT_OCTETS - at) octets ≡ front.Whole header attribute
-      → Ended history (and_on (stream_by attributes) at octets (cond carries (report_step mirror octets (length attribute) (whole (read_report header.attr_type) (at + HEADER_OCTETS) (drop HEADER_OCTETS attribute)))
-      (Goes (skipped_line header.vendor header.attr_type) (length attribute) mirror)))
-  attribute_ends at mirror octets header attribute true is stands answering first =
-      read_ends at mirror octets (length attribute) (whole (read_report header.attr_type) (at + HEADER_OCTETS) (drop HEADER_OCTETS attribute)) stands
-      (λ report later. answering report (behind_first at octets report header attribute first later))
-      (λ report read. answering report (as_first at octets report header attribute first is read))
-  attribute_ends at mirror octets header attribute false is stands answering first =
-      line_before history (skipped_line header.vendor header.attr_type) (stream_by attributes (at + length attribute) mirror (drop (length attribute) octets))
-      (behind (at + length attribute) mirror (drop (length attribute) octets) stands (λ report later. answering report (behind_first at octets report header attribute first later)))
+  attribute_ends : (at : ℕ) (mirror : Held) (octets : List ℕ) (attr : Attr) (len : ℕ) (carries : Bool) → carries_report attr.vendor attr.kind ≡ carries → Stands history kind mirror
+      → Answering history kind at octets → first_of (INPUT_OCTETS - at) octets ≡ front.Whole attr len
+      → Ended history kind (and_on (stream_by attributes) at octets (cond carries (report_step mirror octets len (whole (read_report attr.kind) (at + HEADER) attr.value))
+      (Goes (skipped_line attr.vendor attr.kind) len mirror)))
+  attribute_ends at mirror octets attr len true is stands answering first =
+      read_ends at mirror octets len (whole (read_report attr.kind) (at + HEADER) attr.value) stands
+      (λ report later. answering report (behind_first at octets report attr len first later))
+      (λ report read. answering report (as_first at octets report attr len first is read))
+  attribute_ends at mirror octets attr len false is stands answering first =
+      line_before history kind (skipped_line attr.vendor attr.kind) (stream_by attributes (at + len) mirror (drop len octets))
+      (behind (at + len) mirror (drop len octets) stands (λ report later. answering report (behind_first at octets report attr len first later)))
 
-  front_ends : (at : ℕ) (mirror : Held) (octets : List ℕ) (first : Front) → front_of (INPUT_OCTETS - at) octets ≡ first → Stands history kind mirror → Answering history kind at octets
-      → Ended history (and_on (stream_by attributes) at octets (front_step at mirror octets first))
-  front_ends at mirror octets front.End is stands answering = λ whole. ([], mirror, stands.right, refl)
+  front_ends : (at : ℕ) (mirror : Held) (octets : List ℕ) (first : Front) → first_of (INPUT_OCTETS - at) octets ≡ first → Stands history kind mirror → Answering history kind at octets
+      → Ended history kind (and_on (stream_by attributes) at octets (front_step at mirror octets first))
+  front_ends at mirror octets front.End is stands answering = λ whole. ([], mirror, stands.of_kind, stands.right, refl)
   front_ends at mirror octets (front.Torn have) is stands answering = λ whole. absurd cc
   front_ends at mirror octets front.Limit is stands answering = λ whole. absurd cc
   front_ends at mirror octets (front.Faulty fault) is stands answering = λ whole. absurd cc
-  front_ends at mirror octets (front.Whole header attribute) is stands answering = attribute_ends at mirror octets header attribute (carries_report header) refl stands answering is
+  front_ends at mirror octets (front.Whole attr len) is stands answering = attribute_ends at mirror octets attr len (carries_report attr.vendor attr.kind) refl stands answering is
 
 -- So it is over any number of attributes.
 stream_ends : (history : History) (kind : Kind) → IsHonest history → (attributes at : ℕ) (mirror : Held) (octets : List ℕ) → Stands history kind mirror → Answering history kind at octets
-    → Ended history (stream_by attributes at mirror octets)
+    → Ended history kind (stream_by attributes at mirror octets)
 unfolding step_of
 stream_ends history kind honest zero at mirror octets stands answering = λ whole. absurd cc
 stream_ends history kind honest (suc attributes) at mirror octets stands answering =
-    front_ends history kind honest attributes (stream_ends history kind honest attributes) at mirror octets (front_of (INPUT_OCTETS - at) octets) refl stands answering
+    front_ends history kind honest attributes (stream_ends history kind honest attributes) at mirror octets (first_of (INPUT_OCTETS - at) octets) refl stands answering
 
 pub printed_mirror_is_right : PrintedMirrorIsRight
 unfolding stream
@@ -120,8 +120,8 @@ printed_mirror_is_right history kind octets honest answers whole =
 
 -- So it is of what a command printed.
 pub prints_right : (kind : Kind) (told left-after before after : Option (List ℕ)) (status : ℕ) → status ≡ 0 → IfSome told (λ octets. Prints (stream_text kind octets) left-after before after status)
-    → IfSome told (λ octets. (history : History) → IsHonest history → AllAnswer history kind octets → PrintsRight history before after)
+    → IfSome told (λ octets. (history : History) → IsHonest history → AllAnswer history kind octets → PrintsRight history kind before after)
 prints_right kind None left-after before after status good printed = tt
 prints_right kind (Some octets) left-after before after status good printed = λ history honest answers.
     let right = printed_mirror_is_right history kind octets honest answers (is_whole (stream_text kind octets).ending (sym printed.ending ∙ good)) in
-    (right.0, right.1, right.2, subst (λ (text : List ℕ). Adds before after text) right.3 printed.text)
+    (right.0, right.1, right.2, right.3, subst (λ (text : List ℕ). Adds before after text) right.4 printed.text)

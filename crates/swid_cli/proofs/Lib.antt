@@ -2,9 +2,9 @@ pub mod Streaming
 pub mod Following
 pub mod Values
 pub mod Fronts
-pub mod Headers
+pub mod Wanting
 pub mod Stepping
 pub mod Running
-pub mod Attributes
+pub mod FirstLaws
 pub mod Answered
 pub mod Bodies

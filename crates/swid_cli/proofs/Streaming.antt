@@ -1,57 +1,52 @@
 -- The text of a stream is the line of its first step and then the text of what is behind it.
-use Rattle.std.proofs.Common.{◌≡◌, ℕ, zero, suc, ◌+◌, ◌-◌, ◌<◌, ◌≤◌, min, Bool, true, false, cond, eqb, List, [], length, take, drop, Option, Some, Result, Ok, Err, refl, sym, ap, ◌∙◌, arith, length-take, length-drop, add-one}
-use Rattle.std.specs.Prelude.{nat_lt, None}
-use Rattle.std.proofs.lemmas.Bool.{cond_both, ltb-false}
+use Rattle.std.proofs.Common.{◌≡◌, ℕ, zero, suc, ◌+◌, ◌-◌, ◌<◌, ◌≤◌, Bool, true, false, cond, eqb, List, [], length, take, drop, Option, Some, Result, Ok, Err, refl, sym, ap, ◌∙◌, arith, length-take, length-drop, add-one}
+use Rattle.std.specs.Prelude.{nat_lt}
+use Rattle.std.proofs.lemmas.Bool.{cond_both}
 use Rattle.wire_base.specs.Reading.{whole}
+use Rattle.pa_attrs.specs.declared.attr.Attr.{Attr}
+use Rattle.pa_attrs.specs.Faults.{fault}
+use Rattle.pa_attrs.specs.Numbers.{HEADER, UNSUPPORTED_ATTRIBUTE}
+use Rattle.pa_attrs.specs.Stream.{Front as Begun, More, Bad, Whole, front_of}
+use Rattle.pa_attrs.proofs.Fronts.{whole_within}
 use Rattle.swima_model.specs.declared.report.Report.{Report}
 use Rattle.swima_reports.specs.ReportReading.{read_report}
 use Rattle.validator_core.specs.Held.{Held}
 use Rattle.swid_cli.specs.declared.front.Front.{Front}
 use Rattle.swid_cli.specs.declared.front.Front.TheVariants as front
-use Rattle.swid_cli.specs.declared.header.Header.{Header}
-use Rattle.swid_cli.specs.declared.header.HeaderFault.{HeaderFault}
 use Rattle.swid_cli.specs.declared.step.Ending.{Ending}
 use Rattle.swid_cli.specs.declared.step.Ending.TheVariants as ending
 use Rattle.swid_cli.specs.declared.step.Step.TheVariants as step
-use Rattle.swid_cli.specs.Front.{cut, front_of, judged_front, sized_front}
-use Rattle.swid_cli.specs.Header.{HEADER_OCTETS, carries_report, header_fault, header_of}
+use Rattle.swid_cli.specs.Front.{begins, carries_report, first_of, shows_refused}
 use Rattle.swid_cli.specs.Text.{skipped_line}
 use Rattle.swid_cli.specs.Stream.{INPUT_OCTETS, Printed, StepOf, Goes, Ends, StreamGoesOn, after_line, and_on, attribute_step, front_step, report_step, step_of, stream, stream_by}
 use Rattle.swid_cli.specs.Steps.{IsStep, TakesStep, left_of}
-use Rattle.swid_cli.proofs.Fronts.{good_length}
 
 -- ---- a step that goes on takes some of the octets
 
 abbrev Takes : Front → List ℕ → Type 0
-Takes (front.Whole header attribute) octets = (0 < length attribute) × (length attribute ≤ length octets)
+Takes (front.Whole attr len) octets = (0 < len) × (len ≤ length octets)
 Takes front.End octets = Unit {0}
 Takes (front.Torn have) octets = Unit {0}
 Takes front.Limit octets = Unit {0}
-Takes (front.Faulty fault) octets = Unit {0}
+Takes (front.Faulty bad) octets = Unit {0}
 
-takes_by : (test : Bool) (first second : Front) (octets : List ℕ) → (test ≡ true → Takes first octets) → (test ≡ false → Takes second octets) → Takes (cond test first second) octets
-takes_by true first second octets here there = here refl
-takes_by false first second octets here there = there refl
+cut_takes : (over none : Bool) (count : ℕ) (octets : List ℕ) → Takes (cond over front.Limit (cond none front.End (front.Torn count))) octets
+cut_takes true none count octets = tt
+cut_takes false true count octets = tt
+cut_takes false false count octets = tt
 
-cut_takes : (room count : ℕ) (octets : List ℕ) → Takes (cut room count) octets
-cut_takes room count octets =
-    takes_by (nat_lt room count) front.Limit (cond (eqb count 0) front.End (front.Torn count)) octets (λ e. tt)
-    (λ e. takes_by (eqb count 0) front.End (front.Torn count) octets (λ z. tt) (λ z. tt))
+takes_by : (refused : Bool) (room : ℕ) (octets : List ℕ) (begun : Begun) → front_of (take room octets) ≡ begun
+    → Takes (cond refused (front.Faulty (fault UNSUPPORTED_ATTRIBUTE 0)) (begins room (length octets) begun)) octets
+takes_by true room octets begun is = tt
+takes_by false room octets More is = cut_takes (nat_lt room (length octets)) (eqb (length octets) 0) (length octets) octets
+takes_by false room octets (Bad bad) is = tt
+takes_by false room octets (Whole attr len) is =
+    let within = whole_within (take room octets) attr len is in
+    (omega (arith, within.0), omega (arith, within.2, length-take room octets))
 
-judged_takes : (room : ℕ) (octets : List ℕ) (header : Header) (found : Option HeaderFault) → header_fault header ≡ found → Takes (judged_front found (sized_front room octets header)) octets
-judged_takes room octets header (Some fault) is = tt
-judged_takes room octets header None is =
-    takes_by (nat_lt (min room (length octets)) header.length) (cut room (length octets)) (front.Whole header (take header.length octets)) octets (λ e. cut_takes room (length octets) octets)
-    (λ enough. let within : header.length ≤ min room (length octets) = ltb-false (min room (length octets)) header.length enough in
-    let good = good_length header is in
-    let taken = length-take header.length octets in
-    (omega arith, omega arith))
-
-front_takes : (room : ℕ) (octets : List ℕ) → Takes (front_of room octets) octets
-unfolding front_of
-front_takes room octets =
-    takes_by (nat_lt (min room (length octets)) HEADER_OCTETS) (cut room (length octets)) (judged_front (header_fault (header_of octets)) (sized_front room octets (header_of octets))) octets
-    (λ e. cut_takes room (length octets) octets) (λ long. judged_takes room octets (header_of octets) (header_fault (header_of octets)) refl)
+front_takes : (room : ℕ) (octets : List ℕ) → Takes (first_of room octets) octets
+unfolding first_of
+front_takes room octets = takes_by (shows_refused (take room octets)) room octets (front_of (take room octets)) refl
 
 abbrev StepTakes : StepOf → List ℕ → Type 0
 StepTakes (Goes line len mirror) octets = (0 < len) × (len ≤ length octets)
@@ -61,14 +56,14 @@ report_takes : (mirror : Held) (octets : List ℕ) (len : ℕ) (read : Result Re
 report_takes mirror octets len (Ok report) takes = takes
 report_takes mirror octets len (Err place) takes = tt
 
-attribute_takes : (at : ℕ) (mirror : Held) (octets : List ℕ) (header : Header) (attribute : List ℕ) → (0 < length attribute) × (length attribute ≤ length octets) → StepTakes (attribute_step at mirror octets header attribute) octets
-attribute_takes at mirror octets header attribute takes =
-    let read = whole (read_report header.attr_type) (at + HEADER_OCTETS) (drop HEADER_OCTETS attribute) in
-    cond_both (carries_report header) (report_step mirror octets (length attribute) read) (Goes (skipped_line header.vendor header.attr_type) (length attribute) mirror)
-    (λ taken. StepTakes taken octets) (λ carries. report_takes mirror octets (length attribute) read takes) (λ skipped. takes)
+attribute_takes : (at : ℕ) (mirror : Held) (octets : List ℕ) (attr : Attr) (len : ℕ) → (0 < len) × (len ≤ length octets) → StepTakes (attribute_step at mirror octets attr len) octets
+attribute_takes at mirror octets attr len takes =
+    let read = whole (read_report attr.kind) (at + HEADER) attr.value in
+    cond_both (carries_report attr.vendor attr.kind) (report_step mirror octets len read) (Goes (skipped_line attr.vendor attr.kind) len mirror)
+    (λ taken. StepTakes taken octets) (λ carries. report_takes mirror octets len read takes) (λ skipped. takes)
 
 front_step_takes : (at : ℕ) (mirror : Held) (octets : List ℕ) (first : Front) → Takes first octets → StepTakes (front_step at mirror octets first) octets
-front_step_takes at mirror octets (front.Whole header attribute) takes = attribute_takes at mirror octets header attribute takes
+front_step_takes at mirror octets (front.Whole attr len) takes = attribute_takes at mirror octets attr len takes
 front_step_takes at mirror octets front.End takes = tt
 front_step_takes at mirror octets (front.Torn have) takes = tt
 front_step_takes at mirror octets front.Limit takes = tt
@@ -76,7 +71,7 @@ front_step_takes at mirror octets (front.Faulty fault) takes = tt
 
 step_takes : (at : ℕ) (mirror : Held) (octets : List ℕ) → StepTakes (step_of at mirror octets) octets
 unfolding step_of
-step_takes at mirror octets = front_step_takes at mirror octets (front_of (INPUT_OCTETS - at) octets) (front_takes (INPUT_OCTETS - at) octets)
+step_takes at mirror octets = front_step_takes at mirror octets (first_of (INPUT_OCTETS - at) octets) (front_takes (INPUT_OCTETS - at) octets)
 
 -- ---- as many steps as octets and more are all alike
 
@@ -104,13 +99,13 @@ goes_on_by at octets (Goes line len mirror) takes =
     ap (λ (p : Printed). after_line line p) (alike (length octets) (length (drop len octets) + 1) (at + len) mirror (drop len octets) (omega (arith, takes.0, takes.1)) (omega arith))
 goes_on_by at octets (Ends printed) takes = refl
 
-first_of : (at : ℕ) (mirror : Held) (octets : List ℕ) → stream at mirror octets ≡ and_on (stream_by (length octets)) at octets (step_of at mirror octets)
+first_on : (at : ℕ) (mirror : Held) (octets : List ℕ) → stream at mirror octets ≡ and_on (stream_by (length octets)) at octets (step_of at mirror octets)
 unfolding stream
-first_of at mirror octets = rw add-one refl
+first_on at mirror octets = rw add-one refl
 
 -- A stream is its first attribute, and behind it the stream of the octets behind it.
 pub stream_goes_on : StreamGoesOn
-stream_goes_on at mirror octets = first_of at mirror octets ∙ goes_on_by at octets (step_of at mirror octets) (step_takes at mirror octets)
+stream_goes_on at mirror octets = first_on at mirror octets ∙ goes_on_by at octets (step_of at mirror octets) (step_takes at mirror octets)
 
 on_goes : (at : ℕ) (octets text : List ℕ) (count : ℕ) (after : Held) (left : Option (List ℕ)) (taken : StepOf) → IsStep taken (step.Goes text count) after → left ≡ Some (left_of taken octets)
     → (and_on stream at octets taken ≡ after_line text (stream (at + count) after (drop count octets))) × (left ≡ Some (drop count octets))
@@ -150,22 +145,22 @@ report_leaves : (mirror : Held) (octets : List ℕ) (len : ℕ) (read : Result R
 report_leaves mirror octets len (Ok report) = tt
 report_leaves mirror octets len (Err place) = λ whole. absurd (cc)
 
-attribute_leaves : (at : ℕ) (mirror : Held) (octets : List ℕ) (header : Header) (attribute : List ℕ) → StepLeaves (attribute_step at mirror octets header attribute)
-attribute_leaves at mirror octets header attribute =
-    let read = whole (read_report header.attr_type) (at + HEADER_OCTETS) (drop HEADER_OCTETS attribute) in
-    cond_both (carries_report header) (report_step mirror octets (length attribute) read) (Goes (skipped_line header.vendor header.attr_type) (length attribute) mirror)
-    StepLeaves (λ carries. report_leaves mirror octets (length attribute) read) (λ skipped. tt)
+attribute_leaves : (at : ℕ) (mirror : Held) (octets : List ℕ) (attr : Attr) (len : ℕ) → StepLeaves (attribute_step at mirror octets attr len)
+attribute_leaves at mirror octets attr len =
+    let read = whole (read_report attr.kind) (at + HEADER) attr.value in
+    cond_both (carries_report attr.vendor attr.kind) (report_step mirror octets len read) (Goes (skipped_line attr.vendor attr.kind) len mirror)
+    StepLeaves (λ carries. report_leaves mirror octets len read) (λ skipped. tt)
 
 front_leaves : (at : ℕ) (mirror : Held) (octets : List ℕ) (first : Front) → StepLeaves (front_step at mirror octets first)
 front_leaves at mirror octets front.End = λ whole. refl
 front_leaves at mirror octets (front.Torn have) = λ whole. refl
 front_leaves at mirror octets front.Limit = λ whole. absurd (cc)
 front_leaves at mirror octets (front.Faulty fault) = λ whole. absurd (cc)
-front_leaves at mirror octets (front.Whole header attribute) = attribute_leaves at mirror octets header attribute
+front_leaves at mirror octets (front.Whole attr len) = attribute_leaves at mirror octets attr len
 
 step_leaves : (at : ℕ) (mirror : Held) (octets : List ℕ) → StepLeaves (step_of at mirror octets)
 unfolding step_of
-step_leaves at mirror octets = front_leaves at mirror octets (front_of (INPUT_OCTETS - at) octets)
+step_leaves at mirror octets = front_leaves at mirror octets (first_of (INPUT_OCTETS - at) octets)
 
 leaves_on : (steps at : ℕ) (octets : List ℕ) (taken : StepOf) → ((at : ℕ) (mirror : Held) (octets : List ℕ) → NothingLeft (stream_by steps at mirror octets)) → StepLeaves taken → NothingLeft (and_on (stream_by steps) at octets taken)
 leaves_on steps at octets (Goes line len mirror) behind leaves = behind (at + len) mirror (drop len octets)

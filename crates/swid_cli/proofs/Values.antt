@@ -1,15 +1,14 @@
 -- What the value of an attribute makes.
 use Rattle.std.proofs.Common.{◌≡◌, ◌≢◌, ℕ, List, Result, Ok, Err, refl, sym, ap, ◌∙◌}
+use Rattle.pa_attrs.specs.Numbers.{INVALID_PARAMETER}
 use Rattle.swima_model.specs.declared.report.Report.{Report}
 use Rattle.validator_core.specs.Held.{Held}
 use Rattle.validator_core.specs.Judge.{Judged, judge}
 use Rattle.validator_core.specs.declared.mirror.Taken.{Taken}
 use Rattle.validator_core.specs.declared.mirror.Taken.TheVariants as taken
-use Rattle.swid_cli.specs.Header.{error_number}
 use Rattle.swid_cli.specs.Text.{fault_line, took_line}
 use Rattle.swid_cli.specs.Stream.{report_step}
 use Rattle.swid_cli.specs.Steps.{IsStep}
-use Rattle.swid_cli.specs.declared.header.ErrorCode.TheVariants.{InvalidParameter}
 use Rattle.swid_cli.specs.declared.step.Ending.TheVariants as ending
 use Rattle.swid_cli.specs.declared.step.Step.{Step}
 use Rattle.swid_cli.specs.declared.step.Step.TheVariants as step
@@ -36,6 +35,6 @@ goes len octets before after read report answer line is answers some printed =
     rw is (printed ∙ ap (λ (j : Taken × Held). took_line report j.0) (sym judged), refl, ap (λ (j : Taken × Held). j.1) (sym judged))
 
 -- A value that has a fault makes its line.
-pub faulty : (len place : ℕ) (octets : List ℕ) (before : Held) (read : Result Report ℕ) (taken : Step) → read ≡ Err place → taken ≡ step.Ends (fault_line (error_number InvalidParameter) place) ending.Refused
+pub faulty : (len place : ℕ) (octets : List ℕ) (before : Held) (read : Result Report ℕ) (taken : Step) → read ≡ Err place → taken ≡ step.Ends (fault_line INVALID_PARAMETER place) ending.Refused
     → IsStep (report_step before octets len read) taken before
 faulty len place octets before read taken is made = rw (is, made) (refl, refl)

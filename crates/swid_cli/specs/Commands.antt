@@ -4,5 +4,6 @@ use Rattle.swid_cli.specs.declared.command.Command.{Command}
 use Rattle.swid_cli.specs.declared.command.Command.TheVariants.{Mirror}
 use Rattle.swid_cli.specs.Words.{IsMirror}
 
+-- The words say the command.
 abbrev pub Says : Command → List (List ℕ) → Type 0
 Says (Mirror kind) words = IsMirror kind words

@@ -1,9 +1,8 @@
 pub mod Words
 pub mod Commands
 pub mod Text
-pub mod Header
 pub mod Front
-pub mod Attribute
+pub mod FirstLaws
 pub mod Stream
 pub mod Steps
 pub mod Run

@@ -1,23 +1,40 @@
 -- What the calls of `mirror` do. A clause on octets holds where the input tells what is left of it.
-use Rattle.std.specs.Prelude.{◌≡◌, ◌<◌, ◌≤◌, ◌+◌, ℕ, min, List, Option, Some, length, drop}
+use Rattle.std.specs.Prelude.{◌≡◌, ◌<◌, ◌≤◌, ◌+◌, ℕ, min, false, List, Option, Some, None, length, drop}
+use Rattle.pa_attrs.specs.Numbers.{HEADER, MOST_OCTETS}
+use Rattle.pa_attrs.specs.Header.{header_of}
+use Rattle.pa_attrs.specs.Faults.{is_refused}
+use Rattle.pa_attrs.specs.Stream.{Feeding, More, front_of}
 use Rattle.validator_core.specs.Held.{Held}
 use Rattle.swid_cli.specs.declared.front.Front.{Front}
 use Rattle.swid_cli.specs.declared.front.Front.TheVariants as front
 use Rattle.swid_cli.specs.declared.step.Step.{Step}
 use Rattle.swid_cli.specs.declared.step.Step.TheVariants as step
-use Rattle.swid_cli.specs.Front.{front_of, left_behind}
-use Rattle.swid_cli.specs.Header.{ATTRIBUTE_OCTETS, HEADER_OCTETS}
+use Rattle.swid_cli.specs.Front.{REPORT_TYPES, first_of, left_behind}
 use Rattle.swid_cli.specs.Stream.{INPUT_OCTETS, StepOf, Goes, Ends, step_of}
 
--- What stood first in what was left, of which `room` octets may be looked at, and what is left behind it.
+-- What stands first in octets of which `room` may be looked at, and what is left behind it.
+abbrev pub TakesFirst : ℕ → List ℕ → Option (List ℕ) → Front → Type 0
+TakesFirst room octets after first = (first ≡ first_of room octets) × (after ≡ Some (left_behind room octets first))
+
+-- What stood first in what was left.
 abbrev pub TakesFront : ℕ → Option (List ℕ) → Option (List ℕ) → Front → Type 0
-TakesFront room before after first = (octets : List ℕ) → before ≡ Some octets → (first ≡ front_of room octets) × (after ≡ Some (left_behind room octets first))
+TakesFront room before after first = (octets : List ℕ) → before ≡ Some octets → TakesFirst room octets after first
+
+-- A feed has begun an attribute of so many octets: the header is there, without a fault and of an attribute that is not
+-- refused, some octets are wanting, and all that it holds may be looked at.
+pub record IsBegun (room len : ℕ) (feed : Feeding) : Type 0 where
+  pub goes : feed.stopped ≡ None
+  pub header : HEADER ≤ length feed.octets
+  pub more : front_of feed.octets ≡ More
+  pub said : (header_of feed.octets).octets ≡ len
+  pub passed : is_refused REPORT_TYPES (header_of feed.octets) ≡ false
+  pub within : length feed.octets ≤ room
 
 -- A whole attribute has a header and is within what may be looked at, and a fault lies in the header, whether the input
 -- tells or not.
 abbrev pub IsWithin : ℕ → Front → Type 0
-IsWithin room (front.Whole header attribute) = (HEADER_OCTETS ≤ length attribute) × (length attribute ≤ min room ATTRIBUTE_OCTETS)
-IsWithin room (front.Faulty fault) = fault.place < HEADER_OCTETS
+IsWithin room (front.Whole attr len) = (len ≡ HEADER + length attr.value) × (len ≤ min room MOST_OCTETS)
+IsWithin room (front.Faulty fault) = fault.at < HEADER
 IsWithin room other = Unit {0}
 
 -- What a value makes is as defined, and so is the mirror after it where it was taken.
@@ -39,5 +56,5 @@ TakesStep at before left-before left-after taken after = (octets : List ℕ) →
 
 -- A step that goes on takes a header at least, and no more than may be looked at, whether the input tells or not.
 abbrev pub Advances : ℕ → Step → Type 0
-Advances at (step.Goes text taken) = (HEADER_OCTETS ≤ taken) × (at + taken ≤ INPUT_OCTETS)
+Advances at (step.Goes text taken) = (HEADER ≤ taken) × (at + taken ≤ INPUT_OCTETS)
 Advances at (step.Ends text ended) = Unit {0}

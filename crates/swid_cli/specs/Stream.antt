@@ -1,6 +1,8 @@
 -- What `mirror` prints, as a function of all octets of the input.
 use Rattle.std.specs.Prelude.{◌≡◌, ◌+◌, ◌-◌, ℕ, zero, suc, List, [], ◌++◌, Result, Ok, Err, length, drop, codes, if◌then◌else◌}
 use Rattle.wire_base.specs.Reading.{whole}
+use Rattle.pa_attrs.specs.declared.attr.Attr.{Attr}
+use Rattle.pa_attrs.specs.Numbers.{HEADER, INVALID_PARAMETER}
 use Rattle.swima_model.specs.declared.report.Kind.{Kind}
 use Rattle.swima_model.specs.declared.report.Report.{Report}
 use Rattle.swima_reports.specs.ReportReading.{read_report}
@@ -8,12 +10,9 @@ use Rattle.validator_core.specs.Held.{Held, empty_mirror}
 use Rattle.validator_core.specs.Judge.{judge}
 use Rattle.swid_cli.specs.declared.front.Front.{Front}
 use Rattle.swid_cli.specs.declared.front.Front.TheVariants as front
-use Rattle.swid_cli.specs.declared.header.ErrorCode.TheVariants.{InvalidParameter}
-use Rattle.swid_cli.specs.declared.header.Header.{Header}
 use Rattle.swid_cli.specs.declared.step.Ending.{Ending}
 use Rattle.swid_cli.specs.declared.step.Ending.TheVariants as ending
-use Rattle.swid_cli.specs.Front.{front_of, left_behind}
-use Rattle.swid_cli.specs.Header.{HEADER_OCTETS, carries_report, error_number}
+use Rattle.swid_cli.specs.Front.{carries_report, first_of, left_behind}
 use Rattle.swid_cli.specs.Text.{fault_line, mirror_text, refusal, skipped_line, took_line}
 
 -- The most octets of the input.
@@ -39,25 +38,26 @@ refused text left = Ends (record { text = text; ending = ending.Refused; left = 
 -- A report that was read, of an attribute of this length.
 abbrev pub report_step : Held → List ℕ → ℕ → Result Report ℕ → StepOf
 report_step mirror octets len (Ok report) = Goes (took_line report (judge mirror report).0) len (judge mirror report).1
-report_step mirror octets len (Err place) = refused (fault_line (error_number InvalidParameter) place) (drop len octets)
+report_step mirror octets len (Err place) = refused (fault_line INVALID_PARAMETER place) (drop len octets)
 
--- A whole attribute that begins at `at`: the report that it carries is taken, and one that carries none is skipped.
-abbrev pub attribute_step : ℕ → Held → List ℕ → Header → List ℕ → StepOf
-attribute_step at mirror octets header attribute =
-    if carries_report header then report_step mirror octets (length attribute) (whole (read_report header.attr_type) (at + HEADER_OCTETS) (drop HEADER_OCTETS attribute))
-    else Goes (skipped_line header.vendor header.attr_type) (length attribute) mirror
+-- A whole attribute of this length that begins at `at`: the report that it carries is taken, and one that carries none is
+-- skipped.
+abbrev pub attribute_step : ℕ → Held → List ℕ → Attr → ℕ → StepOf
+attribute_step at mirror octets attr len =
+    if carries_report attr.vendor attr.kind then report_step mirror octets len (whole (read_report attr.kind) (at + HEADER) attr.value)
+    else Goes (skipped_line attr.vendor attr.kind) len mirror
 
 -- What stands first in octets that begin at `at`.
 abbrev pub front_step : ℕ → Held → List ℕ → Front → StepOf
 front_step at mirror octets front.End = Ends (record { text = mirror_text mirror; ending = ending.Whole; left = [] })
 front_step at mirror octets (front.Torn have) = refused (refusal (codes "torn") have) []
 front_step at mirror octets front.Limit = refused (refusal (codes "limit") INPUT_OCTETS) (left_behind (INPUT_OCTETS - at) octets front.Limit)
-front_step at mirror octets (front.Faulty fault) = refused (fault_line (error_number fault.code) (at + fault.place)) (left_behind (INPUT_OCTETS - at) octets (front.Faulty fault))
-front_step at mirror octets (front.Whole header attribute) = attribute_step at mirror octets header attribute
+front_step at mirror octets (front.Faulty fault) = refused (fault_line fault.code (at + fault.at)) (left_behind (INPUT_OCTETS - at) octets (front.Faulty fault))
+front_step at mirror octets (front.Whole attr len) = attribute_step at mirror octets attr len
 
 -- The first attribute of octets that begin at `at`.
 unfoldable pub step_of : ℕ → Held → List ℕ → StepOf
-step_of at mirror octets = front_step at mirror octets (front_of (INPUT_OCTETS - at) octets)
+step_of at mirror octets = front_step at mirror octets (first_of (INPUT_OCTETS - at) octets)
 
 -- A line before a text.
 abbrev pub after_line : List ℕ → Printed → Printed

@@ -1,7 +1,7 @@
 //! What the definitions mean, proved of every value: the calls do nothing.
 
 ghost use Rattle.swid_cli.specs.Answering.{PrintedMirrorIsRight};
-ghost use Rattle.swid_cli.specs.Attribute.{WholeIsAttribute};
+ghost use Rattle.swid_cli.specs.FirstLaws.{EndIsNothing, FaultyShows, LimitIsBeyond, TornIsUnfinished, WholeIsAttribute};
 ghost use Rattle.swid_cli.specs.Stream.{StreamGoesOn};
 
 /// What a stream prints is what its first attribute makes, and behind it what the stream behind that attribute prints.
@@ -9,14 +9,35 @@ pub fn stream_goes_on()
     ensures law { StreamGoesOn }
 {}
 
-/// What is found first in the input is a whole attribute exactly where the octets there are laid out as one (RFC 5792,
-/// section 4.1), whose header has no fault, and lie within what may be looked at.
+/// The input is at its end exactly where nothing is left.
+pub fn end_is_nothing()
+    ensures law { EndIsNothing }
+{}
+
+/// The input is torn exactly where all that is left may be looked at, and is some octets without a fault in a header and
+/// without a whole attribute in front.
+pub fn torn_is_unfinished()
+    ensures law { TornIsUnfinished }
+{}
+
+/// The limit shows exactly where more is left than may be looked at, and what may be has neither of the two.
+pub fn limit_is_beyond()
+    ensures law { LimitIsBeyond }
+{}
+
+/// A fault is told exactly where it is the first of the table that shows in a header that may be looked at.
+pub fn faulty_shows()
+    ensures law { FaultyShows }
+{}
+
+/// A whole attribute is found exactly where one in its form stands first (RFC 5792, section 4.1), lies in what may be
+/// looked at, and carries a report or may be passed over.
 pub fn whole_is_attribute()
     ensures law { WholeIsAttribute }
 {}
 
 /// Where each report of the kind in an input that is not refused answers from one honest history, what is printed ends with
-/// the text of a mirror that holds exactly what this history has live at the mirror's point.
+/// the text of a mirror of the kind that holds exactly what this history has live at the mirror's point.
 pub fn printed_mirror_is_right()
     ensures law { PrintedMirrorIsRight }
 {}

@@ -1,6 +1,6 @@
 //! The commands, over any source, sink and files.
 //!
-//! It stands on `validator_core`, `swima_reports`, `swima_model` and `wire_base`. The program rests on the clauses of
+//! It stands on `validator_core`, `swima_reports`, `pa_attrs`, `swima_model` and `wire_base`. The program rests on the clauses of
 //! `run_plain`: status 2 exactly where the words are no command line; else status 3 exactly where a count of faults rose;
 //! else what is printed, the status and what is left of the input are, of an input that tells its octets, `stream_text`
 //! of them (`specs/Stream.antt`). The functions of `laws` say what the definitions mean.
@@ -11,11 +11,11 @@ mod command;
 mod cut_tests;
 mod escape;
 mod front;
-mod header;
 pub mod laws;
 mod mirror;
 mod run;
 mod step;
+mod supported;
 mod text;
 
 pub use run::run_plain;

@@ -56,7 +56,7 @@ pub fn run_plain<S: Source, K: Sink, F: Files>(
         → IsMirror kind (map (λ word. word.now) words.now)
         → IfSome (S.left input.old) (λ octets. (history : History)
         → IsHonest history → AllAnswer history kind octets
-        → PrintsRight history (K.written output.old) (K.written output.new)) }
+        → PrintsRight history kind (K.written output.old) (K.written output.new)) }
 
     // Status 3 tells a fault, no other status hides one, and no count falls.
     ensures fault { result ≡ 3

@@ -1,7 +1,7 @@
 //! One attribute of the input: what is printed of it.
 
-ghost use Rattle.std.specs.Prelude.{◌≡◌, ◌+◌, ◌≤◌, ◌<◌, ◌^◌, List, ℕ, IfOk, IsTrue, drop, length};
-ghost use Rattle.swid_cli.specs.Header.{HEADER_OCTETS, carries_report, error_number};
+ghost use Rattle.std.specs.Prelude.{◌≡◌, ◌+◌, ◌≤◌, ◌<◌, ◌^◌, List, ℕ, IfOk, length};
+ghost use Rattle.pa_attrs.specs.Numbers.{HEADER as HEADER_OCTETS};
 ghost use Rattle.swid_cli.specs.Steps.{Advances, IsStep, TakesStep};
 ghost use Rattle.swid_cli.specs.Stream.{INPUT_OCTETS, attribute_step, report_step};
 ghost use Rattle.swid_cli.specs.Text.{fault_line, refusal};
@@ -10,9 +10,10 @@ ghost use Rattle.wire_base.specs.Reading.{whole};
 ghost use Rattle.wire_base.specs.Outside.{HasCause};
 ghost use Rattle.wire_base.specs.Passing.{is_fault};
 
-use crate::front::{Front, take_front};
-use crate::header::{ErrorCode, HEADER, Header};
-use crate::text::{fault_line, mirror_text, refusal, skipped_line, took_line};
+use crate::front::{Front, HEADER, take_front};
+use crate::supported::carries_report;
+use crate::text::{fault_line, mirror_text, point_and_count, refusal, skipped_line, took_line};
+use pa_attrs::{Attr, INVALID_PARAMETER};
 use std::alloc::Global;
 use swima_reports::read_report;
 use validator_core::Mirror;
@@ -57,10 +58,8 @@ pub fn next_step<S: Source>(
         Front::End => Ok(Step::Ends(mirror_text(alloc, mirror)?, Ending::Whole)),
         Front::Torn(have) => Ok(refuse(alloc, "torn", have)?),
         Front::Limit => Ok(refuse(alloc, "limit", MOST_INPUT_OCTETS)?),
-        Front::Faulty(fault) => Ok(fault_at(alloc, fault.code, at + fault.place)?),
-        Front::Whole(header, attribute) => {
-            Ok(take_attribute(alloc, header, attribute.as_slice(), at, mirror)?)
-        }
+        Front::Faulty(fault) => Ok(fault_at(alloc, fault.code, at + fault.at as u32)?),
+        Front::Whole(attr, len) => Ok(take_attribute(alloc, &attr, len, at, mirror)?),
     }
 }
 
@@ -71,63 +70,60 @@ fn refuse(alloc: Global, word: &str, number: u32) -> Result<Step, Memory>
     Ok(Step::Ends(refusal(alloc, word, number)?, Ending::Refused))
 }
 
-fn fault_at(alloc: Global, code: ErrorCode, place: u32) -> Result<Step, Memory>
+fn fault_at(alloc: Global, code: u32, place: u32) -> Result<Step, Memory>
     ensures refused { IfOk result
-        (λ made. made ≡ Step.Ends (fault_line (error_number code) place) Ending.Refused) }
+        (λ made. made ≡ Step.Ends (fault_line code place) Ending.Refused) }
 {
-    Ok(Step::Ends(fault_line(alloc, code.number(), place)?, Ending::Refused))
+    Ok(Step::Ends(fault_line(alloc, code, place)?, Ending::Refused))
 }
 
-/// Takes a whole attribute that begins at `at`: one that carries no report is skipped.
+/// Takes a whole attribute of `len` octets that begins at `at`: one that carries no report is skipped.
 fn take_attribute(
     alloc: Global,
-    header: Header,
-    attribute: &[u8],
+    attr: &Attr,
+    len: u32,
     at: u32,
     mirror: &mut Mirror,
 ) -> Result<Step, Memory>
-    requires header { HEADER_OCTETS ≤ length attribute.now }
-    requires places { at + length attribute.now ≤ INPUT_OCTETS }
+    requires counted { len ≡ HEADER_OCTETS + length attr.now.value }
+    requires places { at + len ≤ INPUT_OCTETS }
     ensures step { IfOk result (λ made. (octets : List ℕ) → IsStep
-        (attribute_step at mirror.old octets header attribute.now) made mirror.new) }
+        (attribute_step at mirror.old octets attr.now len) made mirror.new) }
     ensures advances { IfOk result (λ made. Advances at made) }
 {
-    let carries_report = header.carries_report();
+    let carries_report = carries_report(attr.vendor, attr.kind);
     if !carries_report {
-        let line = skipped_line(alloc, header.vendor, header.attr_type)?;
-        return Ok(Step::Goes(line, attribute.len() as u32));
+        return Ok(Step::Goes(skipped_line(alloc, attr.vendor, attr.kind)?, len));
     }
-    take_report(alloc, header.attr_type, attribute, at, mirror)
+    take_report(alloc, attr, len, at, mirror)
 }
 
-/// Reads the value of an attribute that begins at `at`, and lets the mirror take the report.
+/// Reads the value of an attribute of `len` octets that begins at `at`, and lets the mirror take the report.
 fn take_report(
     alloc: Global,
-    attr_type: u32,
-    attribute: &[u8],
+    attr: &Attr,
+    len: u32,
     at: u32,
     mirror: &mut Mirror,
 ) -> Result<Step, Memory>
-    requires from { 14 ≤ attr_type }
-    requires to { attr_type ≤ 17 }
-    requires header { HEADER_OCTETS ≤ length attribute.now }
-    requires places { at + length attribute.now ≤ INPUT_OCTETS }
+    requires from { 14 ≤ attr.now.kind }
+    requires to { attr.now.kind ≤ 17 }
+    requires counted { len ≡ HEADER_OCTETS + length attr.now.value }
+    requires places { at + len ≤ INPUT_OCTETS }
     ensures step { IfOk result (λ made. (octets : List ℕ) → IsStep
-        (report_step mirror.old octets (length attribute.now)
-        (whole (read_report attr_type) (at + HEADER_OCTETS) (drop HEADER_OCTETS attribute.now)))
+        (report_step mirror.old octets len
+        (whole (read_report attr.now.kind) (at + HEADER_OCTETS) attr.now.value))
         made mirror.new) }
     ensures advances { IfOk result (λ made. Advances at made) }
 {
-    let (_, value) = attribute.split_at(HEADER);
     let base = at + HEADER as u32;
-    match read_report(alloc, attr_type, value, base) {
+    match read_report(alloc, attr.kind, attr.value.as_slice(), base) {
         Err(FieldRefused::Memory) => Err(Memory),
-        Err(FieldRefused::Fault { offset }) => {
-            fault_at(alloc, ErrorCode::InvalidParameter, offset)
-        }
+        Err(FieldRefused::Fault { offset }) => fault_at(alloc, INVALID_PARAMETER, offset),
         Ok(report) => {
-            let line = took_line(alloc, &report, mirror.take(&report))?;
-            Ok(Step::Goes(line, attribute.len() as u32))
+            let (point, count) = point_and_count(&report);
+            let line = took_line(alloc, point, count, mirror.take_owned(report))?;
+            Ok(Step::Goes(line, len))
         }
     }
 }

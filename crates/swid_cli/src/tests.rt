@@ -55,12 +55,14 @@ const ALTERATION_3_OF_1: &[u8; 39] =
 const CREATION_4_OF_1: &[u8; 39] =
     b"\0\0\0\x041970-01-01T00:00:01Z\0\0\0\x01\0\0\0\x02\0\x01\0\x01a\0\0";
 
+/// The creation of record 2 by event 4.
 pub const CREATION_4_OF_2: &[u8; 39] =
     b"\0\0\0\x041970-01-01T00:00:01Z\0\0\0\x02\0\0\0\x02\0\x01\0\x01a\0\0";
 
 const DELETION_4_OF_2: &[u8; 39] =
     b"\0\0\0\x041970-01-01T00:00:01Z\0\0\0\x02\0\0\0\x02\0\x02\0\x01a\0\0";
 
+/// The deletion of record 1 by event 5.
 pub const DELETION_5_OF_1: &[u8; 39] =
     b"\0\0\0\x051970-01-01T00:00:01Z\0\0\0\x01\0\0\0\x02\0\x02\0\x01a\0\0";
 
@@ -85,7 +87,7 @@ const FULL: Example = Example {
 };
 
 /// Streams of inventories.
-const INVENTORIES: [Example; 8] = [
+const INVENTORIES: [Example; 9] = [
     IDS,
     Example {
         input: &[EMPTY],
@@ -98,10 +100,18 @@ const INVENTORIES: [Example; 8] = [
         output: "took adopted 7 0 0\ntook stale\nmirror 7 0 0\n",
         ..IDS
     },
+    // No records, at the largest event identifier.
+    Example {
+        input: &[b"\0\0\0\0\0\0\0\x0e\0\0\0\x1c\0\0\0\0\0\0\0\x01\0\0\0\x07\xff\xff\xff\xff"],
+        output: "took adopted 7 4294967295 0\nmirror 7 4294967295 0\n",
+        ..IDS
+    },
     // Two records of one identifier.
     Example {
         input: &[
-            b"\0\0\0\0\0\0\0\x0e\0\0\0\x3a\0\0\0\x02\0\0\0\x01\0\0\0\x07\0\0\0\x03\0\0\0\x01\0\0\0\x02\0\0\0\x01a\0\0\0\0\0\x01\0\0\0\x02\0\0\0\x01a\0\0",
+            b"\0\0\0\0\0\0\0\x0e\0\0\0\x3a\0\0\0\x02\0\0\0\x01\0\0\0\x07\0\0\0\x03",
+            b"\0\0\0\x01\0\0\0\x02\0\0\0\x01a\0\0",
+            b"\0\0\0\x01\0\0\0\x02\0\0\0\x01a\0\0",
         ],
         output: "took doubled 1\nmirror none\n",
         ..IDS
@@ -109,7 +119,8 @@ const INVENTORIES: [Example; 8] = [
     // The largest event identifier; flags but the highest and the reserved octet are not looked at.
     Example {
         input: &[
-            b"\x7f\0\0\0\0\0\0\x0e\0\0\0\x2b\xff\0\0\x01\0\0\0\x01\0\0\0\x07\xff\xff\xff\xff\xff\xff\xff\xff\xff\xff\xff\xff\xff\xff\0\x01\x5c\0\0",
+            b"\x7f\0\0\0\0\0\0\x0e\0\0\0\x2b\xff\0\0\x01\0\0\0\x01\0\0\0\x07\xff\xff\xff\xff",
+            b"\xff\xff\xff\xff\xff\xff\xff\xff\xff\xff\0\x01\x5c\0\0",
         ],
         output: "took adopted 7 4294967295 1\nmirror 7 4294967295 1\nrecord 4294967295 16777215/255 255 \\x5c \\e -\n",
         ..IDS
@@ -117,7 +128,8 @@ const INVENTORIES: [Example; 8] = [
     // The first and the last octets that stand for themselves, and those round them.
     Example {
         input: &[
-            b"\0\0\0\0\0\0\0\x0e\0\0\0\x31\0\0\0\x01\0\0\0\x01\0\0\0\x07\0\0\0\x03\0\0\0\x01\0\0\0\x02\0\0\0\x03\x20\x21\x7e\0\x04\x7f\x5b\x5c\x5d",
+            b"\0\0\0\0\0\0\0\x0e\0\0\0\x31\0\0\0\x01\0\0\0\x01\0\0\0\x07\0\0\0\x03",
+            b"\0\0\0\x01\0\0\0\x02\0\0\0\x03\x20\x21\x7e\0\x04\x7f\x5b\x5c\x5d",
         ],
         output: "took adopted 7 3 1\nmirror 7 3 1\nrecord 1 0/2 0 \\x20!~ \\x7f[\\x5c] -\n",
         ..IDS
@@ -125,7 +137,8 @@ const INVENTORIES: [Example; 8] = [
     // A body is told by its length and its SHA-256 digest.
     Example {
         input: &[WITH_BODY],
-        output: "took adopted 7 2 1\nmirror 7 2 1\nrecord 1 0/0 5 a \\e 3:ba7816bf8f01cfea414140de5dae2223b00361a396177a9cb410ff61f20015ad\n",
+        output: "took adopted 7 2 1\nmirror 7 2 1\nrecord 1 0/0 5 a \\e \
+            3:ba7816bf8f01cfea414140de5dae2223b00361a396177a9cb410ff61f20015ad\n",
         ..FULL
     },
     // A report of the other kind.

@@ -2,6 +2,7 @@
 
 ghost use Rattle.std.specs.Prelude.{◌≡◌, ◌≢◌, ◌∷◌, ◌++◌, [], IfOk, OnOk, string_bytes};
 ghost use Rattle.std.specs.List.{flat_map};
+ghost use Rattle.validator_core.specs.declared.mirror.Taken.{Taken as TakenValue};
 ghost use Rattle.swid_cli.specs.Text.{body_text, fault_line, mirror_text, record_line, refusal, skipped_line, took, took_line};
 
 use crate::escape::push_escaped;
@@ -11,18 +12,18 @@ use swima_model::{Kind, Point, Record, Report};
 use validator_core::{Mirror, Taken};
 use wire_base::{List, Memory, Octets};
 
-/// The line that says what a mirror answered to a report; want of memory has none.
-pub fn took_line(alloc: Global, report: &Report, taken: Taken) -> Result<Octets, Memory>
-    ensures line { IfOk result (λ made. made ≡ took_line report.now taken) }
-    ensures answered { OnOk result (taken ≢ Taken.Memory) }
+/// The point of a report, and how many records or events it has.
+pub fn point_and_count(report: &Report) -> (Point, usize)
+    ensures told { (answer : TakenValue) → took result.0 result.1 answer ≡ took_line report.now answer }
 {
     match report {
-        Report::Inventory { point, records, .. } => took(alloc, *point, records.len(), taken),
-        Report::Events { point, events, .. } => took(alloc, *point, events.len(), taken),
+        Report::Inventory { point, records, .. } => (*point, records.len()),
+        Report::Events { point, events, .. } => (*point, events.len()),
     }
 }
 
-fn took(alloc: Global, point: Point, count: usize, taken: Taken) -> Result<Octets, Memory>
+/// The line that says what a mirror answered to a report of so many records or events at a point; want of memory has none.
+pub fn took_line(alloc: Global, point: Point, count: usize, taken: Taken) -> Result<Octets, Memory>
     ensures line { IfOk result (λ made. made ≡ took point count taken) }
     ensures answered { OnOk result (taken ≢ Taken.Memory) }
 {

@@ -1,67 +1,82 @@
-use Rattle.std.proofs.Common.{◌≡◌, ◌<◌, ◌≤◌, ◌+◌, ℕ, min, length, None, sym, ap, ◌∙◌, arith}
-use Rattle.swid_cli.specs.Front.{cut}
+use Rattle.std.proofs.Common.{◌≡◌, ◌<◌, ◌≤◌, ◌+◌, ◌++◌, ℕ, List, min, length, drop, Some, false, sym, ap, subst, ◌∙◌, arith}
+use Rattle.pa_attrs.specs.declared.header.Header.{Header}
+use Rattle.pa_attrs.specs.Numbers.{HEADER}
+use Rattle.pa_attrs.specs.Header.{header_of}
+use Rattle.pa_attrs.specs.Faults.{is_refused}
+use Rattle.pa_attrs.specs.Stream.{Feeding}
 use Rattle.swid_cli.specs.declared.front.Front.TheVariants as front
-use Rattle.swid_cli.specs.declared.header.Header.{Header}
-use Rattle.swid_cli.specs.Header.{HEADER_OCTETS, header_fault, header_of}
-use Rattle.swid_cli.proofs.Fronts.{first_read, next_read, good_length, is_short, is_faulty, is_torn, is_whole, short_length}
+use Rattle.swid_cli.specs.Front.{REPORT_TYPES, cut, first_of}
+use Rattle.swid_cli.specs.Steps.{TakesFirst}
+use Rattle.swid_cli.proofs.FirstLaws.{bad_near}
+use Rattle.swid_cli.proofs.Fronts.{first_read, is_faulty, is_header, is_short, is_unsupported}
+use Rattle.swid_cli.proofs.Wanting.{fresh_takes, header_whole, if_ok}
 use Rattle.swid_cli.proofs.front.take_front.Goals as goal
 
 pub returns-then-min-lt-HEADER-clause-front : goal.returns-then-min-lt-HEADER-clause-front
 returns-then-min-lt-HEADER-clause-front g c = λ octets told.
     let room = c.args.room in
     let held = c.fill.new.held in
-    let read = first_read (min 12 (room + 1)) _ octets _ held _ _ c.min.ensures c.new-held.ensures.empty told c.in_ok-fill.ensures.fills in
-    let short : min (length held) room < HEADER_OCTETS = omega (arith, c.if-min-lt-HEADER.true, c.min-2.ensures, c.len.ensures.len) in
+    let read = first_read (min 12 (room + 1)) _ octets _ held _ _ c.min.ensures c.new-start.ensures.empty told c.in_ok-fill.ensures.fills in
+    let short : min (length held) room < HEADER = omega (arith, c.if-min-lt-HEADER.true, c.min-2.ensures, c.len.ensures.len) in
     rw (c.cut.ensures.front ∙ ap (λ (n : ℕ). cut room n) c.len-then-min-lt-HEADER.ensures.len) (is_short room octets _ held read short)
 
-pub returns-in-Some-clause-front : goal.returns-in-Some-clause-front
-returns-in-Some-clause-front g c = λ octets told.
+pub returns-then-is_refused-clause-front : goal.returns-then-is_refused-clause-front
+returns-then-is_refused-clause-front g c = λ octets told.
     let room = c.args.room in
     let held = c.fill.new.held in
-    let read = first_read (min 12 (room + 1)) _ octets _ held _ _ c.min.ensures c.new-held.ensures.empty told c.in_ok-fill.ensures.fills in
-    let long : HEADER_OCTETS ≤ min (length held) room = omega (arith, c.if-min-lt-HEADER.false, c.min-2.ensures, c.len.ensures.len) in
-    let said : c.of-header.result ≡ header_of held = c.of-header.ensures.header ∙ ap header_of c.as_slice.ensures.items in
-    is_faulty room octets _ held read long c.in-Some.fault (ap header_fault (sym said) ∙ sym c.in-Some.ensures.fault)
+    let read = first_read (min 12 (room + 1)) _ octets _ held _ _ c.min.ensures c.new-start.ensures.empty told c.in_ok-fill.ensures.fills in
+    let long : HEADER ≤ min (length held) room = omega (arith, c.if-min-lt-HEADER.false, c.min-2.ensures, c.len.ensures.len) in
+    let said : c.read_header-header.result ≡ header_of held = c.read_header-header.ensures.header ∙ ap header_of c.as_slice.ensures.items in
+    is_unsupported room octets _ held read long (ap (is_refused REPORT_TYPES) (sym said) ∙ sym c.is_refused.ensures.refused ∙ c.if-is_refused.true)
 
-pub fill-requires-2 : goal.fill-requires-2
-fill-requires-2 g c =
-    let good : header_fault c.of-header.result ≡ None = sym c.fault.ensures.fault ∙ c.in_default.is in
-    omega (arith, good_length c.of-header.result good, c.in_ok-fill.ensures.within, c.min.ensures, c.min-3.ensures)
-
-pub returns-then-min-length-clause-front : goal.returns-then-min-length-clause-front
-returns-then-min-length-clause-front g c = λ octets told.
+pub returns-in-More-clause-front : goal.returns-in-More-clause-front
+returns-in-More-clause-front g c =
     let room = c.args.room in
     let held = c.fill.new.held in
-    let whole = c.fill-2.new.held in
-    let read = first_read (min 12 (room + 1)) _ octets _ held _ _ c.min.ensures c.new-held.ensures.empty told c.in_ok-fill.ensures.fills in
-    let long : HEADER_OCTETS ≤ min (length held) room = omega (arith, c.if-min-lt-HEADER.false, c.min-2.ensures, c.len.ensures.len) in
-    let said : c.of-header.result ≡ header_of held = c.of-header.ensures.header ∙ ap header_of c.as_slice.ensures.items in
-    let good : header_fault (header_of held) ≡ None = ap header_fault (sym said) ∙ sym c.fault.ensures.fault ∙ c.in_default.is in
-    let sized : c.of-header.result.length ≡ (header_of held).length = ap (λ (h : Header). h.length) said in
-    let read-on = next_read (min (header_of held).length (room + 1)) _ _ octets held whole _ _ (c.min-3.ensures ∙ ap (λ (n : ℕ). min n (room + 1)) sized) read c.in_ok-fill-2.ensures.fills in
-    let short : min (length whole) room < (header_of held).length = omega (arith, c.if-min-length.true, c.min-4.ensures, c.len-2.ensures.len, sized) in
-    rw (c.cut-then-min-length.ensures.front ∙ ap (λ (n : ℕ). cut room n) c.len-then-min-length.ensures.len) (is_torn room octets _ held read long good _ whole read-on short)
+    let takes = fresh_takes c.new-feed.result c.feed.new.self _ held _ c.new-feed.ensures.fresh c.as_slice-2.ensures.items c.in-More.ensures.fed in
+    if_ok c.take_value.result _ _ (λ first found octets told.
+    let read = first_read (min 12 (room + 1)) _ octets _ held _ _ c.min.ensures c.new-start.ensures.empty told c.in_ok-fill.ensures.fills in
+    subst (λ (o : List ℕ). TakesFirst room o (g.S.Source.left c.take_value.new.input) first) (ap (λ (f : Feeding). f.octets ++ read.rest) takes.1 ∙ sym read.parts) (found read.rest read.still))
+    c.take_value.ensures.front
 
-pub returns-clause-front : goal.returns-clause-front
-returns-clause-front g c = λ octets told.
+pub returns-in-Done-clause-front : goal.returns-in-Done-clause-front
+returns-in-Done-clause-front g c = λ octets told.
     let room = c.args.room in
     let held = c.fill.new.held in
-    let whole = c.fill-2.new.held in
-    let read = first_read (min 12 (room + 1)) _ octets _ held _ _ c.min.ensures c.new-held.ensures.empty told c.in_ok-fill.ensures.fills in
-    let long : HEADER_OCTETS ≤ min (length held) room = omega (arith, c.if-min-lt-HEADER.false, c.min-2.ensures, c.len.ensures.len) in
-    let said : c.of-header.result ≡ header_of held = c.of-header.ensures.header ∙ ap header_of c.as_slice.ensures.items in
-    let good : header_fault (header_of held) ≡ None = ap header_fault (sym said) ∙ sym c.fault.ensures.fault ∙ c.in_default.is in
-    let sized : c.of-header.result.length ≡ (header_of held).length = ap (λ (h : Header). h.length) said in
-    let read-on = next_read (min (header_of held).length (room + 1)) _ _ octets held whole _ _ (c.min-3.ensures ∙ ap (λ (n : ℕ). min n (room + 1)) sized) read c.in_ok-fill-2.ensures.fills in
-    let enough : (header_of held).length ≤ min (length whole) room = omega (arith, c.if-min-length.false, c.min-4.ensures, c.len-2.ensures.len, sized) in
-    let is = is_whole room octets _ held read long good _ whole read-on enough in
-    (ap (λ (h : Header). front.Whole h whole) said ∙ is.0, is.1)
+    let read = first_read (min 12 (room + 1)) _ octets _ held _ _ c.min.ensures c.new-start.ensures.empty told c.in_ok-fill.ensures.fills in
+    let long : HEADER ≤ min (length held) room = omega (arith, c.if-min-lt-HEADER.false, c.min-2.ensures, c.len.ensures.len) in
+    let said : c.read_header-header.result ≡ header_of held = c.read_header-header.ensures.header ∙ ap header_of c.as_slice.ensures.items in
+    let passed : is_refused REPORT_TYPES (header_of held) ≡ false = ap (is_refused REPORT_TYPES) (sym said) ∙ sym c.is_refused.ensures.refused ∙ c.if-is_refused.false in
+    let takes = fresh_takes c.new-feed.result c.feed.new.self _ held _ c.new-feed.ensures.fresh c.as_slice-2.ensures.items c.in-Done.ensures.fed in
+    let size : length held ≡ HEADER = omega (arith, c.in_ok-fill.ensures.within, c.min.ensures, long) in
+    let whole = header_whole held c.in-Done.attr c.in-Done.field-1 c.feed.new.self size takes in
+    subst (λ (n : ℕ). (front.Whole c.in-Done.attr n ≡ first_of room octets) × (g.S.Source.left c.fill.new.input ≡ Some (drop n octets))) (ap (λ (h : Header). h.octets) (sym said))
+    (is_header room octets _ held read long c.in-Done.attr (header_of held).octets passed whole.0 whole.1)
 
-pub returns-clause-within : goal.returns-clause-within
-returns-clause-within g c =
-    let good : header_fault c.of-header.result ≡ None = sym c.fault.ensures.fault ∙ c.in_default.is in
-    let most = c.in_ok-fill-2.ensures.within in
-    let fewest : c.of-header.result.length ≤ min (length c.fill-2.new.held) c.args.room = omega (arith, c.if-min-length.false, c.min-4.ensures, c.len-2.ensures.len) in
-    let least = good_length c.of-header.result good in
-    let short = short_length c.of-header.result good in
-    (omega (arith, fewest, least), omega (arith, most, c.min-3.ensures, fewest, short))
+pub returns-in-Done-clause-within : goal.returns-in-Done-clause-within
+returns-in-Done-clause-within g c =
+    let room = c.args.room in
+    let held = c.fill.new.held in
+    let long : HEADER ≤ min (length held) room = omega (arith, c.if-min-lt-HEADER.false, c.min-2.ensures, c.len.ensures.len) in
+    let said : c.read_header-header.result ≡ header_of held = c.read_header-header.ensures.header ∙ ap header_of c.as_slice.ensures.items in
+    let takes = fresh_takes c.new-feed.result c.feed.new.self _ held _ c.new-feed.ensures.fresh c.as_slice-2.ensures.items c.in-Done.ensures.fed in
+    let size : length held ≡ HEADER = omega (arith, c.in_ok-fill.ensures.within, c.min.ensures, long) in
+    let whole = header_whole held c.in-Done.attr c.in-Done.field-1 c.feed.new.self size takes in
+    let count : c.read_header-header.result.octets ≡ (header_of held).octets = ap (λ (h : Header). h.octets) said in
+    (count ∙ whole.2, omega (arith, count, whole.1, long))
+
+pub returns-in-Fault-clause-front : goal.returns-in-Fault-clause-front
+returns-in-Fault-clause-front g c = λ octets told.
+    let room = c.args.room in
+    let held = c.fill.new.held in
+    let read = first_read (min 12 (room + 1)) _ octets _ held _ _ c.min.ensures c.new-start.ensures.empty told c.in_ok-fill.ensures.fills in
+    let long : HEADER ≤ min (length held) room = omega (arith, c.if-min-lt-HEADER.false, c.min-2.ensures, c.len.ensures.len) in
+    let said : c.read_header-header.result ≡ header_of held = c.read_header-header.ensures.header ∙ ap header_of c.as_slice.ensures.items in
+    let passed : is_refused REPORT_TYPES (header_of held) ≡ false = ap (is_refused REPORT_TYPES) (sym said) ∙ sym c.is_refused.ensures.refused ∙ c.if-is_refused.false in
+    let takes = fresh_takes c.new-feed.result c.feed.new.self _ held _ c.new-feed.ensures.fresh c.as_slice-2.ensures.items c.in-Fault.ensures.fed in
+    is_faulty room octets _ held read long c.in-Fault.fault passed takes.0
+
+pub returns-in-Fault-clause-within : goal.returns-in-Fault-clause-within
+returns-in-Fault-clause-within g c =
+    let takes = fresh_takes c.new-feed.result c.feed.new.self _ c.fill.new.held _ c.new-feed.ensures.fresh c.as_slice-2.ensures.items c.in-Fault.ensures.fed in
+    bad_near c.fill.new.held c.in-Fault.fault takes.0

@@ -1,6 +1,5 @@
 use Rattle.std.proofs.Common.{[], ◌+◌}
 use Rattle.std.specs.Prelude.{codes}
-use Rattle.swid_cli.specs.Header.{error_number}
 use Rattle.swid_cli.specs.Stream.{INPUT_OCTETS}
 use Rattle.swid_cli.specs.Text.{fault_line, refusal}
 use Rattle.swid_cli.proofs.Stepping.{first_step, ended, was_refused}
@@ -21,8 +20,8 @@ returns-in_ok-refuse-in-Limit-clause-step g c = λ octets told.
 pub returns-in_ok-fault_at-in-Faulty-clause-step : goal.returns-in_ok-fault_at-in-Faulty-clause-step
 returns-in_ok-fault_at-in-Faulty-clause-step g c = λ octets told.
     first_step _ _ octets _ _ _ _ (rw c.in-Faulty.is at (c.in_ok-first.ensures.front octets told))
-    (was_refused (fault_line (error_number c.in-Faulty.fault.code) (c.args.at + c.in-Faulty.fault.place)) [] _ c.args.mirror.now c.in_ok-fault_at-in-Faulty.ensures.refused)
+    (was_refused (fault_line c.in-Faulty.fault.code (c.args.at + c.in-Faulty.fault.at)) [] _ c.args.mirror.now c.in_ok-fault_at-in-Faulty.ensures.refused)
 
 pub returns-in_ok-take_attribute-in-Whole-clause-step : goal.returns-in_ok-take_attribute-in-Whole-clause-step
 returns-in_ok-take_attribute-in-Whole-clause-step g c = λ octets told.
-    first_step _ _ octets _ _ _ _ (rw c.in-Whole.is at (c.in_ok-first.ensures.front octets told)) (rw (← c.as_slice.ensures.items) (c.in_ok-take_attribute-in-Whole.ensures.step octets))
+    first_step _ _ octets _ _ _ _ (rw c.in-Whole.is at (c.in_ok-first.ensures.front octets told)) (c.in_ok-take_attribute-in-Whole.ensures.step octets)
