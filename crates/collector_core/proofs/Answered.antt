@@ -1,8 +1,8 @@
 -- Answers to requests without targets are answers of the history.
-use Rattle.std.proofs.Common.{◌≡◌, inl, inr, ℕ, zero, suc, ◌+◌, ◌-◌, ◌<◌, ◌≤◌, ◌&&◌, ◌||◌, eqb, leb, ltb, cond, Bool, true, false, List, [], ◌∷◌, ◌++◌, length, take, drop, refl, sym, ap, ◌∙◌, subst, arith, length-append}
-use Rattle.std.specs.Prelude.{Contains, filter}
+use Rattle.std.proofs.Common.{◌≡◌, inl, inr, ℕ, zero, suc, ◌+◌, ◌-◌, ◌≤◌, ◌&&◌, ◌||◌, eqb, leb, ltb, cond, Bool, true, false, List, [], ◌∷◌, length, take, drop, refl, sym, ap, ◌∙◌, subst, arith, length-append}
+use Rattle.std.specs.Prelude.{Contains}
 use Rattle.std.proofs.Math.Seq.{get_or-append_seam}
-use Rattle.std.proofs.lemmas.Bool.{cases_lt, cond-true, cond-false, le-leb, lt-leb}
+use Rattle.std.proofs.lemmas.Bool.{cases_lt, le-leb, lt-leb}
 use Rattle.std.proofs.lemmas.List.{length-drop, take_all}
 use Rattle.swima_model.specs.declared.event.Event.{Event}
 use Rattle.swima_model.specs.declared.record.Record.{Record}
@@ -13,11 +13,10 @@ use Rattle.swima_model.specs.Kinds.{events_of_kind}
 use Rattle.swima_model.specs.Size.{report_size}
 use Rattle.swima_request.specs.declared.request.Request.{Request}
 use Rattle.event_log.proofs.Pushing.{numbered_drop}
-use Rattle.collector_core.specs.declared.answer.Answer.{Answer}
 use Rattle.collector_core.specs.declared.answer.Answer.TheVariants as answer
 use Rattle.collector_core.specs.Chronicle.{Chronicle, current, history, last_eid, point_of, first_kept}
 use Rattle.collector_core.specs.Legal.{IsLegal}
-use Rattle.collector_core.specs.Answering.{is_wanted, wanted_records, wanted_events, if_fits, consulted_before, events_report, inventory_at, events_at, told_at, answer_at}
+use Rattle.collector_core.specs.Answering.{wanted_records, wanted_events, if_fits, consulted_before, events_report, inventory_at, events_at, told_at}
 use Rattle.collector_core.specs.Meaning.{AnswersAreOfTheHistory}
 use Rattle.collector_core.proofs.Chronicles.{past, history_is, current_honest}
 

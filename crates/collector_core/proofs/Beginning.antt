@@ -1,25 +1,23 @@
 -- The book of a start.
-use Rattle.std.proofs.Common.{◌≡◌, ◌≢◌, ℕ, zero, suc, ◌+◌, ◌-◌, ◌<◌, ◌≤◌, ◌^◌, false, List, [], ◌∷◌, ◌++◌, length, get_or, map, take, refl, sym, ap, ◌∙◌, subst, arith, length-append}
-use Rattle.std.specs.Prelude.{All}
+use Rattle.std.proofs.Common.{◌≡◌, ℕ, suc, ◌+◌, ◌<◌, ◌≤◌, List, [], ◌∷◌, ◌++◌, length, get_or, take, refl, sym, ap, ◌∙◌, subst, arith}
 use Rattle.std.specs.List.{sum_by}
 use Rattle.std.specs.List.Sorted.{IsStrictlyIncreasing}
 use Rattle.std.proofs.lemmas.List.{take_more, length-take}
 use Rattle.std.proofs.lemmas.List.Sums.{sum_by-append}
 use Rattle.std.proofs.lemmas.List.Elements.{All-cons, All-nil}
-use Rattle.std.proofs.lemmas.List.Quantifiers.{all_pairs_push}
 use Rattle.swima_model.specs.declared.event.Event.{Event}
 use Rattle.swima_model.specs.declared.record.Content.{Content}
 use Rattle.swima_model.specs.declared.record.Record.{Record}
-use Rattle.swima_model.specs.History.{Epoch, IsHonestEpoch}
+use Rattle.swima_model.specs.History.{IsHonestEpoch}
 use Rattle.swima_model.specs.InOrder.{ids}
-use Rattle.swima_model.specs.Size.{MOST_RECORDS, MOST_RECORDS_OCTETS, are_large, content_octets, records_octets}
+use Rattle.swima_model.specs.Size.{MOST_RECORDS, MOST_RECORDS_OCTETS, content_octets, records_octets}
 use Rattle.swima_model.proofs.Rises.{AllFrom, from_lower}
 use Rattle.swima_model.proofs.Living.{live_none}
 use Rattle.collector_core.specs.declared.chronicle.Entry.{Entry}
 use Rattle.collector_core.specs.Book.{IsBook}
 use Rattle.collector_core.specs.Chronicle.{Start, identified_from, first_epoch}
-use Rattle.collector_core.specs.Legal.{IsContent, IsStart, MayFollow}
-use Rattle.collector_core.specs.Standing.{BookView, Stands, book_of}
+use Rattle.collector_core.specs.Legal.{IsStart}
+use Rattle.collector_core.specs.Standing.{Stands, book_of}
 use Rattle.collector_core.proofs.Changing.{not_large}
 use Rattle.collector_core.proofs.Places.{Climbs, climbed, climbs_left, octets_append}
 

@@ -1,17 +1,15 @@
 -- What a book holds behind a change of one record.
-use Rattle.std.proofs.Common.{◌≡◌, ◌≢◌, inl, inr, ℕ, zero, suc, ◌+◌, ◌-◌, ◌<◌, ◌≤◌, ◌^◌, ◌||◌, eqb, leb, ltb, cond, not, Bool, true, false, Option, Some, None, List, [], ◌∷◌, ◌++◌, length, get_or, set, map, take, drop, refl, sym, ap, ◌∙◌, subst, append_assoc, arith, length-append, leb-false, ltb-false, leb-true, ltb-true, ne_eqb}
+use Rattle.std.proofs.Common.{◌≡◌, ℕ, ◌+◌, ◌-◌, ◌<◌, ◌≤◌, eqb, leb, ltb, cond, not, Bool, true, false, Option, Some, None, List, [], ◌∷◌, ◌++◌, length, get_or, set, take, drop, refl, sym, ap, ◌∙◌, subst, arith, length-append, leb-false, ltb-false, ne_eqb}
 use Rattle.std.specs.Prelude.{is_some, remove}
 use Rattle.std.specs.List.Sorted.{IsStrictlyIncreasing}
 use Rattle.std.proofs.Math.Seq.{get_or-append_seam}
-use Rattle.std.proofs.lemmas.Bool.{cases_lt, cond-false, le-ltb, or_from, or_parts, eqb-false}
+use Rattle.std.proofs.lemmas.Bool.{cond-false, le-ltb, or_from, or_parts, eqb-false}
 use Rattle.std.proofs.lemmas.List.{map-append, length-take}
 use Rattle.swima_model.specs.declared.event.Action.TheVariants.{Creation, Deletion, Alteration}
 use Rattle.swima_model.specs.declared.event.Event.{Event}
 use Rattle.swima_model.specs.declared.record.Content.{Content}
 use Rattle.swima_model.specs.declared.record.Record.{Record}
-use Rattle.swima_model.specs.declared.report.Kind.TheVariants.{Ids}
 use Rattle.swima_model.specs.InOrder.{ids}
-use Rattle.swima_model.specs.Kinds.{record_of_kind}
 use Rattle.swima_model.specs.Live.{live, record_of}
 use Rattle.swima_model.specs.Size.{MOST_RECORDS, MOST_RECORDS_OCTETS, are_large, content_octets, records_octets}
 use Rattle.event_log.specs.Log.{Log, pushed}

@@ -1,25 +1,22 @@
 -- What an entry behind a chronicle changes, and that legal chronicles stay honest.
-use Rattle.std.proofs.Common.{◌≡◌, ◌≢◌, ◌⊎◌, inl, inr, ℕ, zero, suc, ◌+◌, ◌-◌, ◌<◌, ◌≤◌, ◌^◌, leb, cond, ◌&&◌, Bool, true, false, List, [], ◌∷◌, ◌++◌, length, get_or, take, drop, refl, sym, ap, ◌∙◌, subst, append_assoc, arith, length-append, leb-true}
-use Rattle.std.specs.Prelude.{All, AllPairs, Contains, fold, filter, max}
-use Rattle.std.proofs.lemmas.Bool.{cases_lt, le-leb, lt-leb}
-use Rattle.std.proofs.lemmas.List.{take_more, take-append-drop, get_or_append_left, append-nil, take_all}
+use Rattle.std.proofs.Common.{◌≡◌, ◌≢◌, ◌⊎◌, inl, inr, ℕ, ◌+◌, ◌<◌, ◌≤◌, ◌^◌, false, List, [], ◌∷◌, ◌++◌, length, get_or, refl, sym, ap, ◌∙◌, subst, append_assoc, arith, length-append}
+use Rattle.std.specs.Prelude.{All, AllPairs, fold, max}
+use Rattle.std.proofs.lemmas.Bool.{cases_lt}
+use Rattle.std.proofs.lemmas.List.{get_or_append_left, append-nil, take_all}
 use Rattle.std.proofs.Math.Seq.{get_or-append_seam}
 use Rattle.std.proofs.lemmas.List.Sums.{fold-append}
-use Rattle.std.proofs.lemmas.List.Elements.{All-push, All-cons, All-nil, filter_agree, filter-append}
+use Rattle.std.proofs.lemmas.List.Elements.{All-push, All-cons, All-nil}
 use Rattle.std.proofs.lemmas.List.Quantifiers.{all_pairs_push}
-use Rattle.swima_model.specs.declared.event.Action.{Action}
-use Rattle.swima_model.specs.declared.event.Action.TheVariants.{Creation, Deletion, Alteration}
 use Rattle.swima_model.specs.declared.event.Event.{Event}
-use Rattle.swima_model.specs.declared.record.Record.{Record}
-use Rattle.swima_model.specs.History.{Epoch, History, IsHonest, IsHonestEpoch, FitsBehind, contradicts, AreNumberedFrom}
+use Rattle.swima_model.specs.History.{Epoch, History, IsHonest, IsHonestEpoch, FitsBehind, contradicts}
 use Rattle.swima_model.specs.Live.{live}
 use Rattle.swima_model.specs.Size.{are_large}
-use Rattle.swima_model.proofs.Living.{live_rises, live_more, live_none}
-use Rattle.event_log.specs.Log.{events_from}
+use Rattle.swima_model.proofs.Living.{live_rises}
+use Rattle.swima_model.proofs.Honest.{live_fits}
 use Rattle.event_log.proofs.Pushing.{numbered_push}
 use Rattle.collector_core.specs.declared.chronicle.Entry.{Entry}
 use Rattle.collector_core.specs.declared.chronicle.Entry.TheVariants as entry
-use Rattle.collector_core.specs.Chronicle.{Start, Chronicle, extended, first_epoch, epoch_after, current, epochs_from, history, live_now, last_eid, trim_after, first_kept, created, created_by, next_id}
+use Rattle.collector_core.specs.Chronicle.{Start, Chronicle, extended, first_epoch, epoch_after, current, epochs_from, history, live_now, last_eid, trim_after, created, created_by, next_id}
 use Rattle.collector_core.specs.Legal.{IsLegal, MayFollow}
 
 -- ---- lists with one item more
@@ -146,22 +143,6 @@ numbers_below chronicle legal = past_below (first_epoch chronicle.start) chronic
 
 -- ---- honest epochs
 
--- What is live behind all its events is not too much.
-pub live_fits : (epoch : Epoch) (count : ℕ) → IsHonestEpoch epoch → count ≤ length epoch.events → are_large (live epoch.base (take count epoch.events)) ≡ false
-live_fits epoch zero honest le = ap are_large (live_none epoch.base honest.rising) ∙ honest.begins
-live_fits epoch (suc count) honest le =
-    let f = found epoch.events count (omega (arith, le)) in
-    let split : epoch.events ≡ take count epoch.events ++ f.0 ∷ drop (count + 1) epoch.events =
-    sym (take-append-drop (count + 1) epoch.events) ∙ ap (λ (es : List Event). es ++ drop (count + 1) epoch.events) f.1
-    ∙ append_assoc (take count epoch.events) (f.0 ∷ []) (drop (count + 1) epoch.events) in
-    let one : suc count ≡ count + 1 = omega arith in
-    ap (λ (k : ℕ). are_large (live epoch.base (take k epoch.events))) one ∙ ap (λ (es : List Event). are_large (live epoch.base es)) f.1
-    ∙ (honest.fit (take count epoch.events) f.0 (drop (count + 1) epoch.events) split).fits
-  where
-    found : (events : List Event) (k : ℕ) → k < length events → (event : Event) × (take (k + 1) events ≡ take k events ++ event ∷ [])
-    found [] k lt = absurd (omega arith)
-    found (e ∷ later) k lt = (get_or (e ∷ later) k e, take_more (e ∷ later) k e lt)
-
 -- An event that fits makes an honest epoch of an honest one.
 pub grown_honest : (epoch : Epoch) (e : Event) → IsHonestEpoch epoch → e.eid ≡ length epoch.events + 1 → e.eid < 2 ^ 32
     → contradicts (live epoch.base epoch.events) e ≡ false → are_large (live epoch.base (epoch.events ++ e ∷ [])) ≡ false → IsHonestEpoch (epoch_after epoch (entry.Event e))
@@ -206,7 +187,7 @@ module _ (past : History) (epoch : Epoch) (honest : IsHonest (past ++ epoch ∷ 
   pub last_honest : IsHonestEpoch epoch
   last_honest = subst IsHonestEpoch (get_or-append_seam past epoch [] epoch) (honest.epochs (length past) epoch (omega (arith, length-append past (epoch ∷ []))))
 
-  front_distinct : AllPairs (λ (one other : Epoch). one.number ≢ other.number) past
+  pub front_distinct : AllPairs (λ (one other : Epoch). one.number ≢ other.number) past
   front_distinct i j d lt within same =
       honest.distinct i j d lt (omega (arith, within, length-append past (epoch ∷ [])))
       (ap (λ (e : Epoch). e.number) (at_front i d (omega (arith, lt, within))) ∙ same ∙ sym (ap (λ (e : Epoch). e.number) (at_front j d within)))

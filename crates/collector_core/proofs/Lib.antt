@@ -5,3 +5,13 @@ pub mod Places
 pub mod Changing
 pub mod Beginning
 pub mod Answered
+pub mod Wanting
+pub mod Fitting
+pub mod BookAnswers
+pub mod Choosing
+pub mod Moving
+pub mod Fronts
+pub mod Marks
+pub mod BookDesk
+pub mod InTurn
+pub mod Editing

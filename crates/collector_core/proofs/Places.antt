@@ -1,8 +1,7 @@
 -- Records of rising identifiers: the place of one, and what is live behind one event more.
-use Rattle.std.proofs.Common.{◌≡◌, ◌≢◌, inl, inr, ℕ, zero, suc, ◌+◌, ◌-◌, ◌<◌, ◌≤◌, eqb, cond, not, Bool, true, false, Option, Some, None, List, [], ◌∷◌, ◌++◌, length, get_or, map, take, drop, refl, sym, ap, ◌∙◌, subst, append_assoc, arith, length-append, eqb-true, eq-eqb, ne_eqb}
-use Rattle.std.specs.Prelude.{filter, find, is_some, Result, Ok, Err}
+use Rattle.std.proofs.Common.{◌≡◌, inl, inr, ℕ, zero, suc, ◌+◌, ◌<◌, ◌≤◌, eqb, cond, not, Bool, true, false, Option, Some, None, List, [], ◌∷◌, ◌++◌, length, get_or, take, drop, refl, sym, ap, ◌∙◌, subst, append_assoc, arith, eq-eqb, ne_eqb}
+use Rattle.std.specs.Prelude.{Result, Ok, Err}
 use Rattle.std.specs.Option.{option_or}
-use Rattle.std.specs.List.{sum_by}
 use Rattle.std.specs.List.Sorted.{IsStrictlyIncreasing, IsBinarySearchResult, IsSearchInRange}
 use Rattle.std.proofs.lemmas.Bool.{cases_eq, cases_lt, cond-true, cond-false}
 use Rattle.std.proofs.lemmas.List.{map-append, take-append-drop, drop_more, length-take, get_or-map, length-map}
@@ -12,9 +11,9 @@ use Rattle.std.proofs.lemmas.List.Elements.{filter-append}
 use Rattle.swima_model.specs.declared.event.Event.{Event}
 use Rattle.swima_model.specs.declared.record.Record.{Record}
 use Rattle.swima_model.specs.InOrder.{ids}
-use Rattle.swima_model.specs.Live.{live, record_of, is_deletion, by_mention, last_mention, IsLive}
+use Rattle.swima_model.specs.Live.{live, record_of, is_deletion, by_mention, last_mention}
 use Rattle.swima_model.specs.Size.{content_octets, records_octets}
-use Rattle.swima_model.proofs.Rises.{AllFrom, from_lower, does_not_fall}
+use Rattle.swima_model.proofs.Rises.{AllFrom, does_not_fall}
 use Rattle.swima_model.proofs.Living.{strict_rest, strict_from, strict_rises, only_live}
 use Rattle.std.specs.Cmp.{ranks}
 use Rattle.std.specs.Ordering.{MatchOrdering, nat_cmp, ordering_index}

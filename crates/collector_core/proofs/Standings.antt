@@ -1,9 +1,8 @@
 -- A book behind an entry stands for the chronicle with that entry.
-use Rattle.std.proofs.Common.{◌≡◌, ◌≢◌, inl, inr, ℕ, zero, suc, ◌+◌, ◌-◌, ◌<◌, ◌≤◌, ◌^◌, eqb, leb, ltb, cond, not, ◌&&◌, Bool, true, false, Option, Some, None, List, [], ◌∷◌, ◌++◌, length, refl, sym, ap, ◌∙◌, subst, arith, length-append, leb-true, eqb-true, leb-false, ltb-false}
-use Rattle.std.specs.Prelude.{All, fold, filter, max, Result, Ok, Err, OnOk, is_some}
+use Rattle.std.proofs.Common.{◌≡◌, inl, inr, ℕ, ◌+◌, ◌-◌, ◌<◌, ◌≤◌, ◌^◌, eqb, leb, ltb, cond, not, ◌&&◌, Bool, true, false, Option, Some, None, List, [], ◌∷◌, ◌++◌, length, refl, sym, ap, ◌∙◌, subst, arith, length-append, eqb-true, leb-false, ltb-false}
+use Rattle.std.specs.Prelude.{fold, max, Result, Ok, Err, OnOk, is_some}
 use Rattle.std.proofs.lemmas.Bool.{cases_lt, eqb-false, le-leb, lt-leb, cond-true}
-use Rattle.std.proofs.lemmas.List.{append-nil}
-use Rattle.std.proofs.lemmas.List.Elements.{filter_agree, filter-append}
+use Rattle.std.proofs.lemmas.List.Elements.{filter-append}
 use Rattle.swima_model.specs.declared.event.Action.{Action}
 use Rattle.swima_model.specs.declared.event.Action.TheVariants.{Creation, Deletion, Alteration}
 use Rattle.swima_model.specs.declared.event.Event.{Event}
@@ -12,11 +11,11 @@ use Rattle.swima_model.specs.History.{Epoch, contradicts}
 use Rattle.swima_model.specs.Live.{live, record_of}
 use Rattle.swima_model.specs.Size.{are_large}
 use Rattle.swima_model.proofs.Living.{live_rises, live_more, live_none}
-use Rattle.event_log.specs.Log.{Log, IsLog, events_from}
+use Rattle.event_log.specs.Log.{IsLog, events_from}
 use Rattle.collector_core.specs.declared.chronicle.Entry.{Entry}
 use Rattle.collector_core.specs.declared.chronicle.Entry.TheVariants as entry
-use Rattle.collector_core.specs.Chronicle.{Start, Chronicle, extended, epoch_after, current, live_now, last_eid, trim_after, first_kept, created, created_by, next_id}
-use Rattle.collector_core.specs.Legal.{IsLegal, MayFollow, IsContent}
+use Rattle.collector_core.specs.Chronicle.{Chronicle, extended, epoch_after, current, live_now, last_eid, trim_after, first_kept, created_by, next_id}
+use Rattle.collector_core.specs.Legal.{MayFollow, IsContent}
 use Rattle.collector_core.specs.Standing.{BookView, Stands, book_after, next_after, creation, alteration, deletion, IsCreation, IsAlteration, IsDeletion, Changes, ChangesExactly, Enters}
 use Rattle.collector_core.specs.Refusals.{LAST, create_refusal, alter_refusal, delete_refusal, trim_refusal, epoch_refusal}
 use Rattle.collector_core.specs.declared.error.BookError.{BookError}

@@ -3,9 +3,7 @@ use Rattle.std.specs.Prelude.{◌≡◌, ◌==◌, ◌||◌, ◌&&◌, ◌+◌, 
 use Rattle.std.specs.List.{list_any}
 use Rattle.std.specs.Str.{bytes_eq}
 use Rattle.swima_model.specs.declared.event.Event.{Event}
-use Rattle.swima_model.specs.declared.record.Content.{Content}
 use Rattle.swima_model.specs.declared.record.Record.{Record}
-use Rattle.swima_model.specs.declared.report.Kind.{Kind}
 use Rattle.swima_model.specs.declared.report.Point.{Point}
 use Rattle.swima_model.specs.declared.report.Report.{Report}
 use Rattle.swima_model.specs.declared.report.Report.TheVariants.{Inventory, Events}
@@ -53,7 +51,7 @@ abbrev pub events_report : Request → Point → List Event → ℕ → Report
 events_report request point events count =
     Events request.kind false request.id point (consulted_before (drop count events) point.eid) (events_of_kind request.kind (take count events))
 
--- How many events are told: as many from the front as fit. Where not even the first fits, its report is too large.
+-- The events that fit: the longest front whose report is not too large.
 abbrev pub fitting : Request → Point → List Event → ℕ → List Event
 fitting request point events most =
     longest_front (λ (some : List Event). nat_le (report_size (events_report request point some (length some))) most) events (length events)
@@ -65,6 +63,10 @@ at_least_one (suc count) = suc count
 
 -- ---- answers
 
+-- The report of as many of the events as fit, or of the first alone.
+abbrev pub told : Request → Point → List Event → ℕ → Report
+told request point events most = events_report request point events (at_least_one (length (fitting request point events most)))
+
 -- The matching records that are live, at the point.
 abbrev pub inventory_at : Chronicle → Request → Report
 inventory_at chronicle request =
@@ -74,10 +76,9 @@ inventory_at chronicle request =
 abbrev pub events_at : Chronicle → Request → List Event
 events_at chronicle request = wanted_events request.targets (from_to request.earliest (last_eid chronicle) (current chronicle).events)
 
--- The report of as many of them as fit, or of the first alone.
+-- What is told of them.
 abbrev pub told_at : Chronicle → Request → ℕ → Report
-told_at chronicle request most =
-    events_report request (point_of chronicle) (events_at chronicle request) (at_least_one (length (fitting request (point_of chronicle) (events_at chronicle request) most)))
+told_at chronicle request most = told request (point_of chronicle) (events_at chronicle request) most
 
 -- The answer: the inventory where it was asked for or the earliest event is no longer kept, else events.
 abbrev pub answer_at : Chronicle → Request → ℕ → Answer
@@ -93,9 +94,13 @@ AnswerIs answer.Memory wanted = Unit {0}
 
 -- ---- moves
 
+-- The event is behind an event identifier, and matches.
+abbrev pub is_later : ℕ → List (List ℕ) → Event → Bool
+is_later after targets event = nat_lt after event.eid && is_wanted targets event.subject.content.ident
+
 -- Something has changed since a point: the epoch is another, or events behind it are no longer kept, or a matching event
 -- is behind it.
 abbrev pub moved_at : Chronicle → Point → List (List ℕ) → Bool
 moved_at chronicle after targets =
     not (after.epoch == (current chronicle).number) || nat_lt (after.eid + 1) (first_kept chronicle)
-    || list_any (λ (e : Event). nat_lt after.eid e.eid && is_wanted targets e.subject.content.ident) (current chronicle).events
+    || list_any (is_later after.eid targets) (current chronicle).events

@@ -1,9 +1,8 @@
 -- The chronicle of a collector: how it began, and what was entered since. What it says of the inventory: the history of its
 -- epochs (RFC 8412, section 3.7.1), the records that are live, the point, and which events are still kept.
-use Rattle.std.specs.Prelude.{◌+◌, ◌-◌, ℕ, Bool, List, [], ◌∷◌, ◌++◌, length, take, fold, max}
+use Rattle.std.specs.Prelude.{◌+◌, ◌-◌, ℕ, List, [], ◌∷◌, ◌++◌, length, take, fold, max}
 use Rattle.swima_model.specs.declared.event.Action.{Action}
 use Rattle.swima_model.specs.declared.event.Action.TheVariants.{Creation, Deletion, Alteration}
-use Rattle.swima_model.specs.declared.event.Event.{Event}
 use Rattle.swima_model.specs.declared.record.Content.{Content}
 use Rattle.swima_model.specs.declared.record.Record.{Record}
 use Rattle.swima_model.specs.declared.report.Point.{Point}

@@ -4,4 +4,13 @@ pub mod Legal
 pub mod Answering
 pub mod Refusals
 pub mod Standing
+pub mod Borrowed
+pub mod Later
+pub mod Carried
+pub mod Wanted
+pub mod BookAnswer
+pub mod Desks
+pub mod BookDesk
+pub mod Edits
+pub mod InTurn
 pub mod Meaning

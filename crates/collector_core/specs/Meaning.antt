@@ -4,7 +4,7 @@ use Rattle.swima_model.specs.declared.report.Report.{Report}
 use Rattle.swima_model.specs.History.{Epoch, History, IsHonest, Answers}
 use Rattle.swima_request.specs.declared.request.Request.{Request}
 use Rattle.collector_core.specs.declared.answer.Answer.TheVariants as answer
-use Rattle.collector_core.specs.Chronicle.{Chronicle, history}
+use Rattle.collector_core.specs.Chronicle.{Chronicle, front, history}
 use Rattle.collector_core.specs.Legal.{IsLegal}
 use Rattle.collector_core.specs.Answering.{answer_at}
 
@@ -20,3 +20,7 @@ ChroniclesJoin = (chronicles : List Chronicle) → All IsLegal chronicles → Al
 -- An answer to a request without targets, if it is a report, answers from the history.
 abbrev pub AnswersAreOfTheHistory : Type 0
 AnswersAreOfTheHistory = (chronicle : Chronicle) (request : Request) (most : ℕ) (report : Report) → IsLegal chronicle → request.targets ≡ [] → answer_at chronicle request most ≡ answer.Report report → Answers (history chronicle) report
+
+-- What was legal was so at each earlier time.
+abbrev pub FrontsAreLegal : Type 0
+FrontsAreLegal = (chronicle : Chronicle) (count : ℕ) → IsLegal chronicle → IsLegal (front chronicle count)

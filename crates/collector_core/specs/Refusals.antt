@@ -1,5 +1,5 @@
 -- When a change is refused, and with which numbers: the first line that holds.
-use Rattle.std.specs.Prelude.{◌==◌, ◌+◌, ◌-◌, ◌^◌, ℕ, Bool, not, is_some, List, length, Option, Some, None, filter, nat_le, nat_lt, if◌then◌else◌}
+use Rattle.std.specs.Prelude.{◌==◌, ◌+◌, ◌-◌, ◌^◌, ℕ, not, is_some, List, length, Option, Some, None, filter, nat_le, nat_lt, if◌then◌else◌}
 use Rattle.std.specs.List.{sum_by}
 use Rattle.swima_model.specs.declared.record.Content.{Content}
 use Rattle.swima_model.specs.declared.record.Record.{Record}

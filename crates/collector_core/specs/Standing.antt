@@ -1,6 +1,6 @@
 -- What a book holds, for which chronicles it stands, and what a change does to it. One book stands for many chronicles, since
 -- its log forgets.
-use Rattle.std.specs.Prelude.{◌≡◌, ◌+◌, ℕ, Bool, List, [], ◌∷◌, Option, Some, None, Result, Ok, Err, length}
+use Rattle.std.specs.Prelude.{◌≡◌, ◌+◌, ℕ, List, [], ◌∷◌, Option, Some, None, Result, Ok, Err, length}
 use Rattle.swima_model.specs.declared.event.Action.{Action}
 use Rattle.swima_model.specs.declared.event.Action.TheVariants.{Creation, Deletion, Alteration}
 use Rattle.swima_model.specs.declared.event.Event.{Event}

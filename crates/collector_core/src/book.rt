@@ -6,9 +6,11 @@ ghost use Rattle.wire_base.specs.Stamp.{IsStamp};
 ghost use Rattle.swima_model.specs.declared.record.Record.{Record};
 ghost use Rattle.swima_model.specs.Live.{record_of};
 ghost use Rattle.swima_model.specs.Size.{are_large, records_octets};
-ghost use Rattle.event_log.specs.Log.{IsLog};
+ghost use Rattle.event_log.specs.Log.{IsLog, events_from};
 ghost use Rattle.collector_core.specs.declared.chronicle.Entry.{Entry};
 ghost use Rattle.collector_core.specs.declared.chronicle.Entry.TheVariants as entry;
+ghost use Rattle.collector_core.specs.Answering.{AnswerIs, answer_at, if_fits, moved_at, told, wanted_events, wanted_records};
+ghost use Rattle.collector_core.specs.BookAnswer.{book_answer, book_moved, book_point, inventory_of};
 ghost use Rattle.collector_core.specs.Book.{IsExchange, IsPlaceOf};
 ghost use Rattle.collector_core.specs.declared.error.BookError.TheVariants as refused;
 ghost use Rattle.collector_core.specs.Chronicle.{Chronicle, current, first_kept, last_eid, live_now, next_id, point_of};
@@ -16,12 +18,16 @@ ghost use Rattle.collector_core.specs.Legal.{IsContent};
 ghost use Rattle.collector_core.specs.Refusals.{alter_refusal, create_refusal, delete_refusal, epoch_refusal, new_refusal, others_than, trim_refusal};
 ghost use Rattle.collector_core.specs.Standing.{BookView, Changes, ChangesExactly, Enters, IsAlteration, IsCreation, IsDeletion, MakesBook, Stands, alteration, book_after, creation};
 
+use crate::answer::{Answer, inventory, told};
 use crate::error::BookError;
+use crate::moved::has_later;
 use crate::records::{identified, octets_of, place_of, within_limits};
+use crate::wanted::{Wanted, wanted_events, wanted_records};
 use event_log::EventLog;
 use std::alloc::Global;
 use std::marker::Model;
 use swima_model::{Action, Body, Content, Event, Point, Record};
+use swima_request::{Idents, Request};
 use wire_base::{Memory, TryCopy};
 
 /// The most records that are live at once.
@@ -119,6 +125,26 @@ impl Book {
         Some(&self.records[place])
     }
 
+    /// Whether the epoch of the point is not the current one, or an event behind the point is no longer kept, or one of the
+    /// targets has an event behind it; any event, where there are no targets. It takes no memory.
+    pub fn moved(&self, after: Point, targets: &Idents) -> bool
+        ensures moved { result ≡ book_moved self.now after targets.now }
+        ensures stands { (chronicle : Chronicle) → Stands self.now chronicle → result ≡ moved_at chronicle after targets.now }
+    {
+        self.has_moved(after, targets)
+    }
+
+    /// The answer to a request: a report of at most `max` octets, or the size of one that would have more; `Memory`.
+    pub fn answer(&self, request: &Request, max: u32) -> Answer
+        ensures answer { AnswerIs result (book_answer self.now request.now max) }
+        ensures stands { (chronicle : Chronicle) → Stands self.now chronicle → AnswerIs result (answer_at chronicle request.now max) }
+    {
+        match self.try_answer(request, max) {
+            Ok(answer) => answer,
+            Err(Memory) => Answer::Memory,
+        }
+    }
+
     /// Creates a record, and gives its identifier. Refusals: `EidsSpent`, `IdsSpent`, `RecordsFull`, `BytesFull`, `Memory`.
     pub fn create(&mut self, stamp: &[u8; 20], content: &Content) -> Result<u32, BookError>
         requires stamp { IsStamp stamp.now }
@@ -161,6 +187,46 @@ impl Book {
         ensures stands { (chronicle : Chronicle) → Stands self.old chronicle → Enters (λ made. made ≡ entry.Trim first) (trim_refusal (last_eid chronicle) first) chronicle result self.new }
     {
         self.try_trim(first)
+    }
+
+    /// The same.
+    fn has_moved(&self, after: Point, targets: &Idents) -> bool
+        ensures moved { result ≡ book_moved self.now after targets.now }
+    {
+        after.epoch != self.epoch
+            || after.eid as u64 + 1 < self.log.first() as u64
+            || has_later(&self.log, after.eid, targets)
+    }
+
+    /// The answer; an error is want of memory.
+    fn try_answer(&self, request: &Request, max: u32) -> Result<Answer, Memory>
+        ensures answer { IfOk result (λ answer. answer ≡ book_answer self.now request.now max) }
+    {
+        let wanted = Wanted::new(*self.records.allocator(), &request.targets)?;
+        // The first that is kept is at least 1, so 0 is below it.
+        if request.earliest < self.log.first() {
+            return self.inventory(request, &wanted, max);
+        }
+        self.told(request, &wanted, max)
+    }
+
+    /// The inventory of the records that are asked for.
+    fn inventory(&self, request: &Request, wanted: &Wanted, max: u32) -> Result<Answer, Memory>
+        ensures answer { IfOk result (λ answer. answer ≡ if_fits max (inventory_of request.now (book_point self.now) (wanted_records wanted.now self.now.records))) }
+    {
+        let alloc = *self.records.allocator();
+        let records = wanted_records(alloc, wanted, self.records.as_slice())?;
+        inventory(alloc, request, self.point(), records.as_slice(), max)
+    }
+
+    /// The events that are asked for, from the earliest on.
+    fn told(&self, request: &Request, wanted: &Wanted, max: u32) -> Result<Answer, Memory>
+        requires kept { self.now.log.first ≤ request.now.earliest }
+        ensures answer { IfOk result (λ answer. answer ≡ if_fits max (told request.now (book_point self.now) (wanted_events wanted.now (events_from request.now.earliest self.now.log.events)) max)) }
+    {
+        let alloc = *self.records.allocator();
+        let events = wanted_events(alloc, wanted, &self.log, request.earliest)?;
+        told(alloc, request, self.point(), events.as_slice(), max)
     }
 
     /// The same.

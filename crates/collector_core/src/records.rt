@@ -1,10 +1,10 @@
 //! Records in order of their identifiers.
 
-ghost use Rattle.std.specs.Prelude.{◌≡◌, ◌<◌, ◌≤◌, ◌+◌, ◌^◌, ℕ, All, IfOk, length};
+ghost use Rattle.std.specs.Prelude.{◌≡◌, ◌<◌, ◌≤◌, ◌+◌, All, IfOk, length};
 ghost use Rattle.std.specs.List.{sum_by};
 ghost use Rattle.std.specs.List.Sorted.{IsStrictlyIncreasing};
 ghost use Rattle.swima_model.specs.InOrder.{ids};
-ghost use Rattle.swima_model.specs.Size.{MOST_OCTETS, content_octets};
+ghost use Rattle.swima_model.specs.Size.{content_octets};
 ghost use Rattle.collector_core.specs.Book.{IsPlaceOf};
 ghost use Rattle.collector_core.specs.Chronicle.{identified_from};
 ghost use Rattle.collector_core.specs.Legal.{IsContent};

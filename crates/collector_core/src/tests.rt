@@ -7,10 +7,10 @@ use std::test::Fail;
 use swima_model::{Body, Content, Ident, Locator, Model, Point};
 use wire_base::{TryCopy, is_stamp};
 
-const STAMP: [u8; 20] = *b"2026-02-03T04:05:06Z";
+pub const STAMP: [u8; 20] = *b"2026-02-03T04:05:06Z";
 
 /// A content with so many octets of a body.
-fn content(alloc: Global, ident: &[u8], octets: usize) -> Result<Content, Fail> {
+pub fn content(alloc: Global, ident: &[u8], octets: usize) -> Result<Content, Fail> {
     let mut body = Vec::new(alloc);
     body.resize(octets, 0)?;
     Ok(Content {
@@ -33,7 +33,7 @@ fn contents(alloc: Global, count: usize, octets: usize) -> Result<Vec<Content>, 
 }
 
 /// Creates a record of this identifier.
-fn create(rt: &impl Abort, alloc: Global, book: &mut Book, ident: &[u8]) -> Result<u32, Fail> {
+pub fn create(rt: &impl Abort, alloc: Global, book: &mut Book, ident: &[u8]) -> Result<u32, Fail> {
     let content = content(alloc, ident, 5)?;
     assert!(rt; is_stamp(&STAMP));
     Ok(book.create(&STAMP, &content)?)
@@ -46,7 +46,7 @@ fn expect_at(rt: &impl Abort, book: &Book, epoch: u32, eid: u32, first: u32, cou
 }
 
 /// A book at epoch 1 that keeps four events, with six records that were created.
-fn six_created(rt: &impl Abort, alloc: Global) -> Result<Book, Fail> {
+pub fn six_created(rt: &impl Abort, alloc: Global) -> Result<Book, Fail> {
     let mut book = Book::new(alloc, 1, 4, &[])?;
     for (id, ident) in [(1, "a"), (2, "b"), (3, "c"), (4, "d"), (5, "e"), (6, "f")] {
         assert_eq!(rt; create(rt, alloc, &mut book, ident.as_bytes())?, id);
@@ -111,5 +111,27 @@ fn a_book_has_so_many_records(rt: HostRuntime) -> Result<(), Fail> {
     expect_at(&rt, &book, 1, 0, 1, 65_536);
     base.push(one)?;
     assert_eq!(rt; Book::new(alloc, 1, 4, base.as_slice()).err(), Some(full));
+    Ok(())
+}
+
+#[test]
+fn a_book_has_so_many_octets(rt: HostRuntime) -> Result<(), Fail> {
+    let alloc = rt.alloc();
+    let mut base = contents(alloc, 256, 1_048_576)?;
+    let mut book = Book::new(alloc, 1, 4, base.as_slice())?;
+    let one = content(alloc, b"a", 0)?;
+    let one_more = BookError::BytesFull {
+        held: 268_435_456,
+        given: 1,
+    };
+    assert!(rt; is_stamp(&STAMP));
+    assert_eq!(rt; book.create(&STAMP, &one), Err(one_more));
+    expect_at(&rt, &book, 1, 0, 1, 256);
+    base.push(one)?;
+    let whole = BookError::BytesFull {
+        held: 0,
+        given: 268_435_457,
+    };
+    assert_eq!(rt; Book::new(alloc, 1, 4, base.as_slice()).err(), Some(whole));
     Ok(())
 }

@@ -1,9 +1,8 @@
-use Rattle.std.proofs.Common.{rules, ◌≡◌, ◌+◌, ◌∙◌, ◌∷◌, [], ◌++◌, List, get_or, take, ap, sym, subst, arith}
+use Rattle.std.proofs.Common.{rules, ◌≡◌, ◌+◌, ◌∙◌, ◌∷◌, [], get_or, take, ap, subst, arith}
 use Rattle.std.specs.List.{sum_by}
 use Rattle.std.proofs.lemmas.List.{take_more}
 use Rattle.std.proofs.lemmas.List.Sums.{sum_by-append}
 use Rattle.std.proofs.lemmas.List.Elements.{All-more}
-use Rattle.swima_model.specs.declared.record.Content.{Content}
 use Rattle.swima_model.specs.Size.{content_octets}
 use Rattle.collector_core.specs.Legal.{IsContent}
 use Rattle.collector_core.proofs.records.octets_of.Goals as goal

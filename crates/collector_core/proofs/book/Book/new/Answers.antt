@@ -1,4 +1,4 @@
-use Rattle.std.proofs.Common.{rules, ◌≡◌, ◌+◌, ◌∙◌, [], List, length, refl, ap, sym, subst}
+use Rattle.std.proofs.Common.{rules, ◌+◌, ◌∙◌, [], List, length, refl, ap, sym, subst}
 use Rattle.swima_model.specs.declared.record.Record.{Record}
 use Rattle.event_log.specs.Log.{Log, empty_log}
 use Rattle.collector_core.specs.Standing.{BookView, Stands}

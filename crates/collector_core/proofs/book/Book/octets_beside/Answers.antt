@@ -1,5 +1,4 @@
-use Rattle.std.proofs.Common.{◌≡◌, ◌-◌, ◌∙◌, ℕ, List, Some, ap, sym, subst}
-use Rattle.swima_model.specs.declared.record.Record.{Record}
+use Rattle.std.proofs.Common.{◌-◌, ◌∙◌, ℕ, Some, ap, sym, subst}
 use Rattle.swima_model.specs.Size.{records_octets}
 use Rattle.collector_core.specs.Book.{IsPlaceOf}
 use Rattle.collector_core.specs.Refusals.{others_than}

@@ -1,4 +1,4 @@
-use Rattle.std.proofs.Common.{rules, ◌≡◌, Some, None, ap, sym, subst, List, ℕ}
+use Rattle.std.proofs.Common.{rules, ◌≡◌, Some, None, subst, List}
 use Rattle.swima_model.specs.declared.record.Record.{Record}
 use Rattle.collector_core.specs.Book.{IsPlaceOf}
 use Rattle.collector_core.specs.Refusals.{delete_refusal}

@@ -1,4 +1,4 @@
-use Rattle.std.proofs.Common.{◌≡◌, ◌∙◌, Some, ap, subst, List}
+use Rattle.std.proofs.Common.{◌∙◌, Some, ap, subst, List}
 use Rattle.swima_model.specs.declared.record.Record.{Record}
 use Rattle.swima_model.specs.Live.{record_of}
 use Rattle.collector_core.specs.Book.{IsPlaceOf}

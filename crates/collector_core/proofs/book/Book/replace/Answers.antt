@@ -1,4 +1,4 @@
-use Rattle.std.proofs.Common.{◌≡◌, ◌+◌, ◌<◌, ◌∙◌, Some, length, sym, ap, subst}
+use Rattle.std.proofs.Common.{◌+◌, ◌<◌, ◌∙◌, Some, length, sym, ap, subst}
 use Rattle.collector_core.specs.declared.chronicle.Entry.TheVariants as entry
 use Rattle.collector_core.specs.Book.{IsExchange, IsPlaceOf}
 use Rattle.collector_core.specs.Standing.{BookView, book_after, alteration}

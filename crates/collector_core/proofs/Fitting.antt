@@ -1,0 +1,155 @@
+-- How many events fit into a report, and what is told of them.
+use Rattle.std.proofs.Common.{◌≡◌, inl, inr, ℕ, zero, suc, ◌+◌, ◌<◌, ◌≤◌, leb, Bool, true, false, List, [], ◌∷◌, length, get_or, take, drop, refl, sym, ap, ◌∙◌, subst, arith, length-take-le, take_all, take-take}
+use Rattle.std.specs.Prelude.{max, min}
+use Rattle.std.specs.List.{sum_by}
+use Rattle.std.proofs.lemmas.Bool.{cases_lt, cond-true, cond-false, le-leb, lt-leb}
+use Rattle.std.proofs.lemmas.List.{take_min, drop_min, take-map, get_or-map, length-map}
+use Rattle.std.proofs.lemmas.List.Sums.{sum_by-cons, sum_by_more, sum_by-take-le}
+use denote.Ref.{Bor}
+use Rattle.swima_model.specs.declared.event.Event.{Event}
+use Rattle.swima_model.specs.declared.record.Record.{Record}
+use Rattle.swima_model.specs.declared.report.Kind.{Kind}
+use Rattle.swima_model.specs.declared.report.Kind.TheVariants.{Ids, Full}
+use Rattle.swima_model.specs.declared.report.Point.{Point}
+use Rattle.swima_model.specs.declared.report.Report.TheVariants.{Events}
+use Rattle.swima_model.specs.Kinds.{events_of_kind, record_of_kind, records_of_kind}
+use Rattle.swima_model.specs.Size.{event_size, record_size, report_size}
+use Rattle.swima_request.specs.declared.request.Request.{Request}
+use Rattle.collector_core.specs.declared.answer.Answer.TheVariants as answer
+use Rattle.collector_core.specs.Answering.{at_least_one, consulted_before, events_report, fitting, if_fits, longest_front, told}
+use Rattle.collector_core.specs.BookAnswer.{inventory_of}
+use Rattle.collector_core.specs.Borrowed.{values}
+use Rattle.collector_core.specs.Carried.{event_of_kind}
+
+-- ---- sizes
+
+record_same : (kind : Kind) (r : Record) → record_size kind (record_of_kind kind r) ≡ record_size kind r
+record_same Ids r = refl
+record_same Full r = refl
+
+event_same : (kind : Kind) (e : Event) → event_size kind (event_of_kind kind e) ≡ event_size kind e
+event_same kind e = ap (λ (n : ℕ). 24 + n) (record_same kind e.subject)
+
+records_same : (kind : Kind) (rs : List Record) → sum_by (record_size kind) (records_of_kind kind rs) ≡ sum_by (record_size kind) rs
+records_same kind [] = refl
+records_same kind (r ∷ rs) =
+    sum_by-cons (record_size kind) (record_of_kind kind r) (records_of_kind kind rs)
+    ∙ ap (λ (n : ℕ). n + sum_by (record_size kind) (records_of_kind kind rs)) (record_same kind r)
+    ∙ ap (λ (n : ℕ). record_size kind r + n) (records_same kind rs)
+    ∙ sym (sum_by-cons (record_size kind) r rs)
+
+events_same : (kind : Kind) (es : List Event) → sum_by (event_size kind) (events_of_kind kind es) ≡ sum_by (event_size kind) es
+events_same kind [] = refl
+events_same kind (e ∷ es) =
+    sum_by-cons (event_size kind) (event_of_kind kind e) (events_of_kind kind es)
+    ∙ ap (λ (n : ℕ). n + sum_by (event_size kind) (events_of_kind kind es)) (event_same kind e)
+    ∙ ap (λ (n : ℕ). event_size kind e + n) (events_same kind es)
+    ∙ sym (sum_by-cons (event_size kind) e es)
+
+-- The size of an inventory and of a report of events, by the records and events as they are held.
+pub inventory_size : (request : Request) (point : Point) (rs : List Record) → report_size (inventory_of request point rs) ≡ 16 + sum_by (record_size request.kind) rs
+inventory_size request point rs = ap (λ (n : ℕ). 16 + n) (records_same request.kind rs)
+
+pub events_report_size : (request : Request) (point : Point) (es : List Event) (count : ℕ) → report_size (events_report request point es count) ≡ 20 + sum_by (event_size request.kind) (take count es)
+events_report_size request point es count = ap (λ (n : ℕ). 20 + n) (events_same request.kind (take count es))
+
+-- ---- the longest front
+
+longest_is : {X : Type 0} (test : List X → Bool) (xs : List X) (count n : ℕ) → count ≤ n → (0 < count → test (take count xs) ≡ true) → ((k : ℕ) → count < k → k ≤ n → test (take k xs) ≡ false) → longest_front test xs n ≡ take count xs
+longest_is test xs count zero within fits more = let none : 0 ≡ count = omega (arith, within) in ap (λ (k : ℕ). take k xs) none
+longest_is test xs count (suc n) within fits more = elim (cases_lt count (suc n)) [
+  | inl below ↦
+      cond-false (test (take (suc n) xs)) (take (suc n) xs) (longest_front test xs n) (more (suc n) below (omega arith))
+      ∙ longest_is test xs count n (omega (arith, below)) fits (λ k above under. more k above (omega (arith, under)))
+  | inr from ↦
+      let is : count ≡ suc n = omega (arith, within, from) in
+      let here : test (take (suc n) xs) ≡ true = subst (λ (k : ℕ). test (take k xs) ≡ true) is (fits (omega (arith, is))) in
+      cond-true (test (take (suc n) xs)) (take (suc n) xs) (longest_front test xs n) here ∙ ap (λ (k : ℕ). take k xs) (sym is)
+]
+
+module _ (request : Request) (point : Point) (es : List Event) (most : ℕ) where
+  size_of_front : (k : ℕ) → k ≤ length es → report_size (events_report request point (take k es) (length (take k es))) ≡ 20 + sum_by (event_size request.kind) (take k es)
+  size_of_front k within =
+      events_report_size request point (take k es) (length (take k es))
+      ∙ ap (λ (xs : List Event). 20 + sum_by (event_size request.kind) xs) (take_all (length (take k es)) (take k es) (omega arith))
+
+  -- As many fit as the sizes say: with these it is not too large, with one more it is.
+  pub fitting_is : (count : ℕ) → count ≤ length es → (0 < count → 20 + sum_by (event_size request.kind) (take count es) ≤ most)
+      → (count < length es → most < 20 + sum_by (event_size request.kind) (take (count + 1) es)) → length (fitting request point es most) ≡ count
+  fitting_is count within fits more =
+      ap length (longest_is (λ (some : List Event). leb (report_size (events_report request point some (length some))) most) es count (length es) within
+      (λ some. le-leb (report_size (events_report request point (take count es) (length (take count es)))) most (omega (arith, size_of_front count within, fits some)))
+      (λ k above under.
+      let grows : sum_by (event_size request.kind) (take (count + 1) (take k es)) ≤ sum_by (event_size request.kind) (take k es) = sum_by-take-le (event_size request.kind) (take k es) (count + 1) in
+      let same : sum_by (event_size request.kind) (take (count + 1) (take k es)) ≡ sum_by (event_size request.kind) (take (count + 1) es) = ap (sum_by (event_size request.kind)) (take-take (count + 1) k es (omega (arith, above))) in
+      lt-leb (report_size (events_report request point (take k es) (length (take k es)))) most (omega (arith, size_of_front k under, more (omega (arith, above, under)), grows, same))))
+      ∙ length-take-le count es within
+
+  at_least : (n : ℕ) → max n 1 ≡ at_least_one n
+  at_least zero = refl
+  at_least (suc n) = omega arith
+
+  -- What is told, by the events from the front and those that are left out.
+  pub told_is : (count : ℕ) → count ≡ min (max (length (fitting request point es most)) 1) (length es)
+      → told request point es most ≡ Events request.kind false request.id point (consulted_before (drop count es) point.eid) (events_of_kind request.kind (take count es))
+  told_is count is =
+      let n : ℕ = at_least_one (length (fitting request point es most)) in
+      let same : count ≡ min (at_least_one (length (fitting request point es most))) (length es) = is ∙ ap (λ (k : ℕ). min k (length es)) (at_least (length (fitting request point es most))) in
+      let front : take count es ≡ take (at_least_one (length (fitting request point es most))) es = ap (λ (k : ℕ). take k es) same ∙ take_min (at_least_one (length (fitting request point es most))) es in
+      let behind : drop count es ≡ drop (at_least_one (length (fitting request point es most))) es = ap (λ (k : ℕ). drop k es) same ∙ drop_min (at_least_one (length (fitting request point es most))) es in
+      ap (λ (xs : List Event). Events request.kind false request.id point (consulted_before xs point.eid) (events_of_kind request.kind (take (at_least_one (length (fitting request point es most))) es))) (sym behind)
+      ∙ ap (λ (xs : List Event). Events request.kind false request.id point (consulted_before (drop count es) point.eid) (events_of_kind request.kind xs)) (sym front)
+
+  told_size : (count : ℕ) → count ≡ min (max (length (fitting request point es most)) 1) (length es) → report_size (told request point es most) ≡ 20 + sum_by (event_size request.kind) (take count es)
+  told_size count is = ap report_size (told_is count is) ∙ ap (λ (n : ℕ). 20 + n) (events_same request.kind (take count es))
+
+  -- The answer, where the size passes the most octets and where it does not.
+  pub told_too_large : (count size : ℕ) → count ≡ min (max (length (fitting request point es most)) 1) (length es) → size ≡ 20 + sum_by (event_size request.kind) (take count es) → most < size
+      → answer.TooLarge size most ≡ if_fits most (told request point es most)
+  told_too_large count size is sized above =
+      let same : size ≡ report_size (told request point es most) = sized ∙ sym (told_size count is) in
+      ap (λ (n : ℕ). answer.TooLarge n most) same
+      ∙ sym (cond-false (leb (report_size (told request point es most)) most) _ _ (lt-leb (report_size (told request point es most)) most (omega (arith, same, above))))
+
+  pub told_fits : (count size : ℕ) → count ≡ min (max (length (fitting request point es most)) 1) (length es) → size ≡ 20 + sum_by (event_size request.kind) (take count es) → size ≤ most
+      → answer.Report (Events request.kind false request.id point (consulted_before (drop count es) point.eid) (events_of_kind request.kind (take count es))) ≡ if_fits most (told request point es most)
+  told_fits count size is sized within =
+      let same : size ≡ report_size (told request point es most) = sized ∙ sym (told_size count is) in
+      ap answer.Report (sym (told_is count is))
+      ∙ sym (cond-true (leb (report_size (told request point es most)) most) _ _ (le-leb (report_size (told request point es most)) most (omega (arith, same, within))))
+
+-- The same of an inventory.
+module _ (request : Request) (point : Point) (rs : List Record) (most size : ℕ) (sized : size ≡ 16 + sum_by (record_size request.kind) rs) where
+  same_size : size ≡ report_size (inventory_of request point rs)
+  same_size = sized ∙ sym (inventory_size request point rs)
+
+  pub inventory_too_large : most < size → answer.TooLarge size most ≡ if_fits most (inventory_of request point rs)
+  inventory_too_large above =
+      ap (λ (n : ℕ). answer.TooLarge n most) same_size
+      ∙ sym (cond-false (leb (report_size (inventory_of request point rs)) most) _ _ (lt-leb (report_size (inventory_of request point rs)) most (omega (arith, same_size, above))))
+
+  pub inventory_fits : size ≤ most → answer.Report (inventory_of request point rs) ≡ if_fits most (inventory_of request point rs)
+  inventory_fits within = sym (cond-true (leb (report_size (inventory_of request point rs)) most) _ _ (le-leb (report_size (inventory_of request point rs)) most (omega (arith, same_size, within))))
+
+-- ---- the loop over borrowed events
+
+module _ (request : Request) (point : Point) (events : List (Bor Event)) (most count size place : ℕ) (sized : size ≡ 20 + sum_by (event_size request.kind) (values (take place events))) (is : count ≡ place)
+    (fits : 0 < place → size ≤ most) where
+  so_far : 20 + sum_by (event_size request.kind) (take count (values events)) ≡ size
+  so_far = ap (λ (k : ℕ). 20 + sum_by (event_size request.kind) (take k (values events))) is ∙ ap (λ (es : List Event). 20 + sum_by (event_size request.kind) es) (take-map (λ b. b.now) place events) ∙ sym sized
+
+  pub fitting_stops : (one : ℕ) (event : Bor Event) → place < length events → event ≡ get_or events place event → one ≡ event_size request.kind event.now → most < size + one → count ≡ length (fitting request point (values events) most)
+  fitting_stops one event within here takes above =
+      let more : sum_by (event_size request.kind) (take (count + 1) (values events)) ≡ sum_by (event_size request.kind) (take count (values events)) + event_size request.kind (get_or (values events) count event.now) =
+      sum_by_more (event_size request.kind) (values events) count event.now (omega (arith, is, within, length-map events (λ b. b.now))) in
+      let item : event_size request.kind (get_or (values events) count event.now) ≡ event_size request.kind event.now =
+      ap (λ (k : ℕ). event_size request.kind (get_or (values events) k event.now)) is
+      ∙ ap (event_size request.kind) (get_or-map (λ b. b.now) events place event event.now within)
+      ∙ ap (λ (b : Bor Event). event_size request.kind b.now) (sym here) in
+      sym (fitting_is request point (values events) most count (omega (arith, is, within, length-map events (λ b. b.now))) (λ some. omega (arith, so_far, fits (omega (arith, some, is))))
+      (λ room. omega (arith, so_far, more, item, takes, above)))
+
+  pub fitting_ends : place ≡ length events → count ≡ length (fitting request point (values events) most)
+  fitting_ends end =
+      sym (fitting_is request point (values events) most count (omega (arith, is, end, length-map events (λ b. b.now))) (λ some. omega (arith, so_far, fits (omega (arith, some, is))))
+      (λ room. absurd (omega (arith, room, is, end, length-map events (λ b. b.now)))))
