@@ -1,0 +1,140 @@
+#!/usr/bin/env python3
+"""Writes items of CBOR (RFC 8949) to measure with. The same words give the same file.
+
+usage: cbor_items.py SHAPE MIB FILE
+
+One item of at most MIB times 1048576 octets, and the shapes are
+
+    keys      a map from integers of 32 bits, in no order, to 0
+    rising    the same, with the keys in order
+    fronts    a map from strings of 256 octets, of which all but the last four are the same in all keys, in no order, to 0
+    maps      a map from maps of one pair, whose keys are 32 bits in no order, to 0
+    array     an array of zeros
+    chunks    a byte string of empty chunks
+    deep      an array of arrays, maps, keys and tags in each other down to the depth of 64, in a mixture
+    keyed     an array of zeros as the key of a map that is the key of a map, and so on, down to the depth of 64
+
+or, for the shape `tags`, software identification tags (RFC 9393) one after another, each with 60 files, of as many octets in all
+that no tag more finds room.
+"""
+
+import random
+import struct
+import sys
+
+DEEPEST = 64
+
+
+def head(major, argument):
+    """The shortest head."""
+    first = major << 5
+    if argument < 24:
+        return bytes([first | argument])
+    for information, form, above in ((24, ">B", 8), (25, ">H", 16), (26, ">I", 32), (27, ">Q", 64)):
+        if argument < 1 << above:
+            return bytes([first | information]) + struct.pack(form, argument)
+    raise ValueError(argument)
+
+
+def scattered(index):
+    """32 bits, each once, since the factor is odd."""
+    return struct.pack(">I", index * 2654435761 % (1 << 32))
+
+
+def map_of(room, keys):
+    """A map of as many of the keys as find room, each with 0 as its value; the keys have one length."""
+    size = len(keys(0)) + 1
+    count = (room - 5) // size
+    return head(5, count) + b"".join(keys(index) + b"\0" for index in range(count))
+
+
+def deep(room):
+    """Items of the depth 63 in an array."""
+    chance = random.Random(1)
+    parts, used = [], 2
+    while True:
+        front, back = b"", b""
+        for _ in range(DEEPEST - 2):
+            before, behind = chance.choice(
+                ((b"\x81", b""), (b"\x9f", b"\xff"), (b"\xc0", b""), (b"\xa1\0", b""), (b"\xa1", b"\0"), (b"\xbf\0", b"\xff"))
+            )
+            front, back = front + before, behind + back
+        part = front + b"\0" + back
+        if used + len(part) > room:
+            return b"\x9f" + b"".join(parts) + b"\xff"
+        parts.append(part)
+        used += len(part)
+
+
+def keyed(room):
+    levels = DEEPEST - 2
+    count = room - 2 * levels - 5
+    return b"\xa1" * levels + head(4, count) + bytes(count) + bytes(levels)
+
+
+SHAPES = {
+    "keys": lambda room: map_of(room, lambda index: b"\x1a" + scattered(index)),
+    "rising": lambda room: map_of(room, lambda index: b"\x1a" + struct.pack(">I", index + (1 << 20))),
+    "fronts": lambda room: map_of(room, lambda index: b"\x59\1\0" + bytes(252) + scattered(index)),
+    "maps": lambda room: map_of(room, lambda index: b"\xa1\x44" + scattered(index) + b"\0"),
+    "array": lambda room: head(4, room - 5) + bytes(room - 5),
+    "chunks": lambda room: b"\x5f" + b"\x40" * (room - 2) + b"\xff",
+    "deep": deep,
+    "keyed": keyed,
+}
+
+
+def text(string):
+    octets = string.encode()
+    return head(3, len(octets)) + octets
+
+
+def file_of(chance, index):
+    """A file with its name, size, and SHA-256."""
+    digest = head(4, 2) + head(0, 1) + head(2, 32) + chance.randbytes(32)
+    name = text(f"{chance.choice(('lib', 'bin', 'share', 'etc'))}-{index:05d}.{chance.choice(('so.6', 'py', 'conf', 'h'))}")
+    return head(5, 3) + head(0, 7) + digest + head(0, 20) + head(0, chance.randrange(1 << 24)) + head(0, 24) + name
+
+
+def tag(chance, index):
+    """A primary tag with its creator, two links, and its files (RFC 9393, section 2)."""
+    entity = head(5, 3) + head(0, 31) + text("Example Software Limited") + head(0, 32) + head(6, 32) + text("example.com")
+    entity += head(0, 33) + head(4, 2) + b"\1\2"
+    links = b"".join(
+        head(5, 2) + head(0, 38) + head(6, 32) + text(f"swid:example.com/component-{chance.randrange(9999)}") + head(0, 40) + b"\7" for _ in range(2)
+    )
+    files = head(4, 60) + b"".join(file_of(chance, place) for place in range(60))
+    fields = [
+        (0, head(2, 16) + chance.randbytes(16)),
+        (1, text(f"Example Package {index}")),
+        (2, entity),
+        (4, head(4, 2) + links),
+        (6, head(5, 1) + head(0, 17) + files),
+        (12, b"\0"),
+        (13, text(f"{index % 7}.{index % 13}.{index % 101}")),
+    ]
+    return head(6, 1398229316) + head(5, len(fields)) + b"".join(head(0, key) + value for key, value in fields)
+
+
+def tags(room):
+    chance = random.Random(1)
+    parts, used, index = [], 0, 0
+    while True:
+        part = tag(chance, index)
+        if used + len(part) > room:
+            return b"".join(parts)
+        parts.append(part)
+        used += len(part)
+        index += 1
+
+
+def main():
+    if len(sys.argv) != 4 or not sys.argv[2].isdigit() or sys.argv[1] not in (*SHAPES, "tags"):
+        sys.exit(__doc__)
+    shape, room = sys.argv[1], int(sys.argv[2]) << 20
+    octets = tags(room) if shape == "tags" else SHAPES[shape](room)
+    with open(sys.argv[3], "wb") as file:
+        file.write(octets)
+
+
+main()

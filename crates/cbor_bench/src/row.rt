@@ -1,0 +1,86 @@
+//! A table of worked rows: limits, octets, and the answer that is wanted.
+
+ghost use Rattle.std.specs.Prelude.{◌≤◌, ◌^◌, IfSome};
+
+use crate::answer::{fed_text, read_text};
+use cbor_det::{LARGEST, Limits, is_canonical};
+use std::alloc::Global;
+use std::str::from_utf8;
+
+/// A line of the table.
+#[derive(Drop)]
+struct Row<'a> {
+    limits: Limits,
+    octets: Vec<u8>,
+    /// `item LENGTH CANONICAL`, with the canonical spelling of the item in hexadecimal, or `fault KIND PLACE`.
+    answer: &'a str,
+    /// Whether the octets are a canonical spelling, in rows with the largest limits.
+    canonical: bool,
+    ghost small: { limits.octets ≤ 2 ^ 24 },
+    ghost shallow: { limits.depth ≤ 64 },
+}
+
+/// How many rows hold, or the first that does not; `None` where the table is no text, or memory is wanting. A line that
+/// begins with `#` is no row.
+pub(crate) fn rows_text(alloc: Global, table: &[u8]) -> Option<String> {
+    let mut rows: u64 = 0;
+    for line in from_utf8(table).ok()?.lines() {
+        if !line.starts_with('#') {
+            if !holds(alloc, line)? {
+                return format!(in alloc; "not so: {line}").ok();
+            }
+            rows = rows.saturating_add(1);
+        }
+    }
+    format!(in alloc; "{rows} rows hold").ok()
+}
+
+/// Whether the row holds of a whole reader, of a feed in pieces of 1, 2 and 3 octets, and of the canonical test; `None` where
+/// memory is wanting.
+fn holds(alloc: Global, line: &str) -> Option<bool> {
+    let Some(row) = row_of(alloc, line) else {
+        return Some(false);
+    };
+    let octets = row.octets.as_slice();
+    if read_text(alloc, row.limits, octets)?.as_str() != row.answer {
+        return Some(false);
+    }
+    for size in 1..4 {
+        if fed_text(alloc, row.limits, octets, size)?.as_str() != row.answer {
+            return Some(false);
+        }
+    }
+    Some(row.limits != LARGEST || is_canonical(alloc, octets).ok()? == row.canonical)
+}
+
+/// The row of a line `OCTETS DEPTH HEX ANSWER`, with `-` for no octets, and ` canonical` behind the answer where the limits
+/// are the largest and the octets a canonical spelling; `None` where the line is none.
+fn row_of<'a>(alloc: Global, line: &'a str) -> Option<Row<'a>> {
+    let (most, rest) = line.split_once(' ')?;
+    let (deep, rest) = rest.split_once(' ')?;
+    let (hex, answer) = rest.split_once(' ')?;
+    let limits = limits_of(most.parse().ok()?, deep.parse().ok()?)?;
+    let octets = if hex == "-" {
+        Vec::new(alloc)
+    } else {
+        hex::decode(alloc, hex).ok()?
+    };
+    let bare = answer.strip_suffix(" canonical");
+    Some(Row {
+        limits,
+        octets,
+        answer: bare.unwrap_or(answer),
+        canonical: bare.is_some(),
+    })
+}
+
+/// The limits; `None` where they are above the largest.
+fn limits_of(octets: u64, depth: u32) -> Option<Limits>
+    ensures small { IfSome result (λ limits. limits.octets ≤ 2 ^ 24) }
+    ensures shallow { IfSome result (λ limits. limits.depth ≤ 64) }
+{
+    if octets > LARGEST.octets || depth > LARGEST.depth {
+        return None;
+    }
+    Some(Limits { octets, depth })
+}

@@ -1,0 +1,129 @@
+-- Runs of the code over pieces, as the machine's.
+use Rattle.std.proofs.Common.{◌≡◌, ℕ, zero, suc, ◌+◌, ◌-◌, ◌*◌, ◌^◌, ◌<◌, ◌≤◌, List, [], ◌∷◌, ◌++◌, length, get_or, take, drop, refl, sym, ap, ◌∙◌, arith, subst, true, false, append_assoc}
+use Rattle.std.proofs.lemmas.List.{append-nil, take-append-drop, drop-drop, drop_all}
+use Rattle.cbor_det.specs.declared.kind.Kind.{Kind}
+use Rattle.cbor_det.specs.declared.limits.Limits.{Limits}
+use Rattle.cbor_det.specs.declared.initial.Major.{Major}
+use Rattle.cbor_det.specs.declared.initial.Initial.{Initial}
+use Rattle.cbor_det.specs.Initial.{initial_of}
+use Rattle.cbor_det.specs.Faults.{Place}
+use Rattle.cbor_det.specs.Machine.{State, due, argument, content, string_ended, argued, begun, step, run, is_over}
+use Rattle.cbor_det.specs.Frames.{ArgumentFits}
+use Rattle.std.proofs.lemmas.Bool.{cond-true, cond-false}
+use Rattle.cbor_det.proofs.Completes.{content_reads}
+use Rattle.cbor_det.proofs.Outcome.{Same}
+
+-- One octet of a piece.
+pub one_step : (limits : Limits) (i : ℕ) (σ τ : State) (b : ℕ) (piece : List ℕ) → 0 < length piece → b ≡ get_or piece 0 0 → is_over σ ≡ false → τ ≡ step limits i σ b
+    → run limits i σ piece ≡ run limits (i + 1) τ (drop 1 piece)
+one_step limits i σ τ b [] some at going is = absurd (omega arith)
+one_step limits i σ τ b (x ∷ xs) some at going is =
+    cond-false _ _ _ going ∙ ap (λ (y : ℕ). run limits (i + 1) (step limits i σ y) xs) (sym at) ∙ ap (λ (s : State). run limits (i + 1) s xs) (sym is)
+
+pub due_step : (limits : Limits) (i : ℕ) (p : Place) (τ : State) (x : Initial) (b : ℕ) (piece : List ℕ) → 0 < length piece → b ≡ get_or piece 0 0 → τ ≡ begun limits i p x → x ≡ initial_of b
+    → run limits i (due p) piece ≡ run limits (i + 1) τ (drop 1 piece)
+unfolding step
+due_step limits i p τ x b piece some at is byte =
+    one_step limits i (due p) τ b piece some at refl (is ∙ ap (λ (y : Initial). begun limits i p y) byte)
+
+pub head_step : (limits : Limits) (i : ℕ) (p : Place) (at : ℕ) (m : Major) (left n : ℕ) (τ : State) (b : ℕ) (piece : List ℕ) → 0 < length piece → b ≡ get_or piece 0 0
+    → τ ≡ step limits i (argument p at m left n) b → run limits i (argument p at m left n) piece ≡ run limits (i + 1) τ (drop 1 piece)
+head_step limits i p at m left n τ b piece some is stepped = one_step limits i (argument p at m left n) τ b piece some is refl stepped
+
+above_one : (left : ℕ) → 1 ≤ left → (left ≡ 1 → ⊥) → 1 ≤ left - 1
+above_one left some ne = omega (arith, ne)
+
+-- arguments
+
+pub argue_ends : (limits : Limits) (i : ℕ) (p : Place) (at : ℕ) (m : Major) (left n b : ℕ) (σ : State) → left ≡ 1 → σ ≡ argued limits (i + 1) p at m (256 * n + b)
+    → σ ≡ step limits i (argument p at m left n) b
+unfolding step
+argue_ends limits i p at m left n b σ one is = is ∙ ap (λ (k : ℕ). step limits i (argument p at m k n) b) (sym one)
+
+pub argue_goes : (limits : Limits) (i : ℕ) (p : Place) (at : ℕ) (m : Major) (left n b : ℕ) → 1 ≤ left → (left ≡ 1 → ⊥) → argument p at m (left - 1) (256 * n + b) ≡ step limits i (argument p at m left n) b
+unfolding step
+argue_goes limits i p at m zero n b some ne = absurd (omega arith)
+argue_goes limits i p at m (suc zero) n b some ne = absurd (ne refl)
+argue_goes limits i p at m (suc (suc k)) n b some ne = let e : suc (suc k) - 1 ≡ suc k = omega arith in ap (λ (j : ℕ). argument p at m j (256 * n + b)) e
+
+pub argue_fits : (left n b : ℕ) → ArgumentFits left n → b < 256 → (256 * n + b < 2 ^ 64) × (256 * n + b < 256 ^ (8 - (left - 1)))
+argue_fits zero n b f small = let g = f.some in absurd (omega (arith, g))
+argue_fits (suc zero) n b f small = let g = f.fits in (omega (arith, g), omega (arith, g))
+argue_fits (suc (suc zero)) n b f small = let g = f.fits in (omega (arith, g), omega (arith, g))
+argue_fits (suc (suc (suc zero))) n b f small = let g = f.fits in (omega (arith, g), omega (arith, g))
+argue_fits (suc (suc (suc (suc zero)))) n b f small = let g = f.fits in (omega (arith, g), omega (arith, g))
+argue_fits (suc (suc (suc (suc (suc zero))))) n b f small = let g = f.fits in (omega (arith, g), omega (arith, g))
+argue_fits (suc (suc (suc (suc (suc (suc zero)))))) n b f small = let g = f.fits in (omega (arith, g), omega (arith, g))
+argue_fits (suc (suc (suc (suc (suc (suc (suc zero))))))) n b f small = let g = f.fits in (omega (arith, g), omega (arith, g))
+argue_fits (suc (suc (suc (suc (suc (suc (suc (suc zero)))))))) n b f small = let g = f.fits in (omega (arith, g), omega (arith, g))
+argue_fits (suc (suc (suc (suc (suc (suc (suc (suc (suc k))))))))) n b f small = let g = f.most in absurd (omega (arith, g))
+
+pub argue_next : (left n b : ℕ) → ArgumentFits left n → b < 256 → (left ≡ 1 → ⊥) → ArgumentFits (left - 1) (256 * n + b)
+argue_next left n b f small ne =
+    let some = f.some in
+    let most = f.most in
+    record { some = above_one left some ne; most = omega (arith, most); fits = (argue_fits left n b f small).1 }
+
+-- strings
+
+content_part : (limits : Limits) (p : Place) (at : ℕ) (kind : Kind) (left i : ℕ) (came front rest : List ℕ) → length front < left
+    → run limits i (content p at kind left came) (front ++ rest) ≡ run limits (i + length front) (content p at kind (left - length front) (came ++ front)) rest
+unfolding step
+content_part limits p at kind left i came [] rest lt =
+    let e : i ≡ i + 0 = omega arith in
+    let f : left ≡ left - 0 = omega arith in
+    ap (λ (k : ℕ). run limits k (content p at kind left came) rest) e ∙ ap (λ (k : ℕ). run limits (i + 0) (content p at kind k came) rest) f
+    ∙ ap (λ (s : List ℕ). run limits (i + 0) (content p at kind (left - 0) s) rest) (sym (append-nil came))
+content_part limits p at kind zero i came (b ∷ bs) rest lt = absurd (omega arith)
+content_part limits p at kind (suc zero) i came (b ∷ bs) rest lt = absurd (omega arith)
+content_part limits p at kind (suc (suc k)) i came (b ∷ bs) rest lt =
+    let e : i + 1 + length bs ≡ i + suc (length bs) = omega arith in
+    let f : suc k - length bs ≡ suc (suc k) - suc (length bs) = omega arith in
+    content_part limits p at kind (suc k) (i + 1) (came ++ b ∷ []) bs rest (omega arith)
+    ∙ ap (λ (j : ℕ). run limits j (content p at kind (suc k - length bs) ((came ++ b ∷ []) ++ bs)) rest) e
+    ∙ ap (λ (j : ℕ). run limits (i + suc (length bs)) (content p at kind j ((came ++ b ∷ []) ++ bs)) rest) f
+    ∙ ap (λ (s : List ℕ). run limits (i + suc (length bs)) (content p at kind (suc (suc k) - suc (length bs)) s) rest) (append_assoc came (b ∷ []) bs)
+
+content_all : (limits : Limits) (p : Place) (at : ℕ) (kind : Kind) (left i : ℕ) (came front rest : List ℕ) → 1 ≤ left → length front ≡ left
+    → run limits i (content p at kind left came) (front ++ rest) ≡ run limits (i + length front) (string_ended p at kind (came ++ front)) rest
+content_all limits p at kind zero i came front rest some len = absurd (omega arith)
+content_all limits p at kind (suc k) i came front rest some len = content_reads limits p at kind k i came front rest len
+
+pub string_goes : (limits : Limits) (i : ℕ) (p : Place) (at : ℕ) (kind : Kind) (left count : ℕ) (came front after piece : List ℕ) → front ≡ take count piece → length front ≡ count
+    → after ≡ came ++ front → count < left → run limits i (content p at kind left came) piece ≡ run limits (i + count) (content p at kind (left - count) after) (drop count piece)
+string_goes limits i p at kind left count came front after piece is len joined lt =
+    ap (λ (x : List ℕ). run limits i (content p at kind left came) x) (sym (take-append-drop count piece))
+    ∙ ap (λ (x : List ℕ). run limits i (content p at kind left came) (x ++ drop count piece)) (sym is)
+    ∙ content_part limits p at kind left i came front (drop count piece) (omega arith)
+    ∙ ap (λ (k : ℕ). run limits (i + k) (content p at kind (left - k) (came ++ front)) (drop count piece)) len
+    ∙ ap (λ (s : List ℕ). run limits (i + count) (content p at kind (left - count) s) (drop count piece)) (sym joined)
+
+pub string_stops : (limits : Limits) (i : ℕ) (p : Place) (at : ℕ) (kind : Kind) (left count : ℕ) (came front after piece : List ℕ) (σ : State) → front ≡ take count piece → length front ≡ count
+    → after ≡ came ++ front → count ≡ left → 1 ≤ left → σ ≡ string_ended p at kind after → run limits i (content p at kind left came) piece ≡ run limits (i + count) σ (drop count piece)
+string_stops limits i p at kind left count came front after piece σ is len joined all some ends =
+    ap (λ (x : List ℕ). run limits i (content p at kind left came) x) (sym (take-append-drop count piece))
+    ∙ ap (λ (x : List ℕ). run limits i (content p at kind left came) (x ++ drop count piece)) (sym is)
+    ∙ content_all limits p at kind left i came front (drop count piece) some (omega arith)
+    ∙ ap (λ (k : ℕ). run limits (i + k) (string_ended p at kind (came ++ front)) (drop count piece)) len
+    ∙ ap (λ (s : List ℕ). run limits (i + count) (string_ended p at kind s) (drop count piece)) (sym joined)
+    ∙ ap (λ (s : State). run limits (i + count) s (drop count piece)) (sym ends)
+
+-- the loop over a piece
+
+pub run_goes : (limits : Limits) (taken used count : ℕ) (start σ τ : State) (piece rest : List ℕ) → rest ≡ drop used piece → run limits taken start piece ≡ run limits (taken + used) σ (drop used piece)
+    → run limits (taken + used) σ rest ≡ run limits (taken + used + count) τ (drop count rest)
+    → run limits taken start piece ≡ run limits (taken + (used + count)) τ (drop (used + count) piece)
+run_goes limits taken used count start σ τ piece rest is was step =
+    let e : taken + used + count ≡ taken + (used + count) = omega arith in
+    was ∙ ap (λ (x : List ℕ). run limits (taken + used) σ x) (sym is) ∙ step
+    ∙ ap (λ (x : List ℕ). run limits (taken + used + count) τ (drop count x)) is
+    ∙ ap (λ (k : ℕ). run limits k τ (drop count (drop used piece))) e
+    ∙ ap (λ (x : List ℕ). run limits (taken + (used + count)) τ x) (drop-drop count used piece)
+
+pub run_over : (limits : Limits) (i : ℕ) (σ : State) (rest : List ℕ) → is_over σ ≡ true → run limits i σ rest ≡ (σ, rest)
+run_over limits i σ [] over = refl
+run_over limits i σ (b ∷ bs) over = cond-true _ _ _ over
+
+pub run_all : (limits : Limits) (i used : ℕ) (σ : State) (piece : List ℕ) → length piece ≤ used → run limits i σ (drop used piece) ≡ (σ, drop used piece)
+run_all limits i used σ piece all =
+    ap (λ (x : List ℕ). run limits i σ x) (drop_all used piece all) ∙ let P : List ℕ → Type 0 = λ x. Same (σ, []) (σ, x) in subst P (sym (drop_all used piece all)) refl

@@ -1,0 +1,121 @@
+-- Strings and heads as the code takes them, as the machine does.
+use Rattle.std.proofs.Common.{◌≡◌, ℕ, List, [], ◌∷◌, ◌++◌, refl, sym, ap, ◌∙◌, subst, Bool, true, false, Some, None, map}
+use Rattle.std.specs.Str.{IsUtf8, is_utf8}
+use Rattle.std.specs.String.{string_bytes, string_vec}
+use Rattle.std.specs.declared.string.String.{String}
+use Rattle.std.specs.declared.vec.Vec.{Vec}
+use Rattle.std.specs.declared.alloc.Global.{Global}
+use Rattle.std.proofs.Common.{rules}
+use Rattle.std.proofs.lemmas.Str.{IsUtf8-from_is_utf8, is_utf8-from_IsUtf8, IsUtf8-string_bytes}
+use Rattle.std.proofs.lemmas.Bool.{cond-true, cond-false, ne_eqb, false_from_ne_true, false≢true}
+use Rattle.cbor_det.specs.declared.kind.Kind.{Kind}
+use Rattle.cbor_det.specs.declared.kind.Kind.TheVariants.{ByteString, TextString}
+use Rattle.cbor_det.specs.declared.limits.Limits.{Limits}
+use Rattle.cbor_det.specs.declared.initial.Major.{Major}
+use Rattle.cbor_det.specs.declared.initial.Major.TheVariants as major
+use Rattle.cbor_det.specs.declared.item.Item.{Item, the_lemmas}
+use Rattle.cbor_det.specs.declared.item.Item.TheVariants as code
+use Rattle.cbor_det.specs.declared.frame.Frame.{Frame}
+use Rattle.cbor_det.specs.declared.frame.Frame.TheVariants as frame
+use Rattle.cbor_det.specs.declared.members.Members.{Members}
+use Rattle.cbor_det.specs.Term.{Term, Pairs, octets, text, no_terms, no_pairs}
+use Rattle.cbor_det.specs.View.{view, terms_of}
+use Rattle.cbor_det.specs.Spelling.{string}
+use Rattle.cbor_det.specs.Held.{members_view}
+use Rattle.cbor_det.specs.Faults.{Place, top, at_chunk, at_element, at_key, at_value, at_content}
+use Rattle.cbor_det.specs.Machine.{State, due, faulty, give, is_part, string_given, string_ended, argued, filled_array, filled_map}
+use Rattle.cbor_det.specs.Frames.{inside, place, chunk_kind}
+use Rattle.cbor_det.proofs.Gives.{within_last, pushed_due}
+
+view_bytes : (s : List ℕ) → view (code.Bytes s) ≡ octets s
+view_bytes s = search (rules, the_lemmas)
+
+view_text : (s : List ℕ) → view (code.Text s) ≡ text s
+view_text s = search (rules, the_lemmas)
+
+pub no_chunk : (k : Kind) → Some k ≡ None → ⊥
+no_chunk k e = cc
+
+given_item : (p : Place) (at : ℕ) (kind : Kind) (s : List ℕ) → chunk_kind p ≡ None → string_given p at kind s ≡ give p at (string kind s)
+given_item (at_chunk a k t p) at kind s none = absurd (no_chunk k none)
+given_item top at kind s none = refl
+given_item (at_element a all ts p) at kind s none = refl
+given_item (at_key a all ps p) at kind s none = refl
+given_item (at_value a all ps k p) at kind s none = refl
+given_item (at_content a n p) at kind s none = refl
+
+good : (p : Place) (at : ℕ) (kind : Kind) (s : List ℕ) → is_part kind s ≡ true → string_ended p at kind s ≡ string_given p at kind s
+unfolding string_ended
+good p at kind s part = cond-true _ _ _ part
+
+pub bad : (p : Place) (at : ℕ) (kind : Kind) (s x : List ℕ) (r : Bool) → r ≡ is_part kind x → x ≡ s → r ≡ false → faulty 7 at ≡ string_ended p at kind s
+unfolding string_ended
+bad p at kind s x r part is lie = sym (cond-false _ _ _ (ap (λ (o : List ℕ). is_part kind o) (sym is) ∙ sym part ∙ lie))
+
+pub bytes_item : (p : Place) (at : ℕ) (kind : Kind) (s : List ℕ) (σ : State) → chunk_kind p ≡ None → kind ≡ ByteString → σ ≡ give p at (view (code.Bytes s)) → σ ≡ string_ended p at kind s
+bytes_item p at kind s σ none is given =
+    given ∙ ap (λ (t : Term). give p at t) (view_bytes s) ∙ sym (given_item p at ByteString s none) ∙ sym (good p at ByteString s refl) ∙ ap (λ (k : Kind). string_ended p at k s) (sym is)
+
+pub text_item : (p : Place) (at : ℕ) (kind : Kind) (s made : List ℕ) (σ : State) → chunk_kind p ≡ None → kind ≡ TextString → (made ≡ s) × (is_utf8 s ≡ true)
+    → σ ≡ give p at (view (code.Text made)) → σ ≡ string_ended p at kind s
+text_item p at kind s made σ none is utf8 given =
+    given ∙ ap (λ (t : Term). give p at t) (view_text made) ∙ ap (λ (o : List ℕ). give p at (text o)) utf8.0
+    ∙ sym (given_item p at TextString s none) ∙ sym (good p at TextString s utf8.1) ∙ ap (λ (k : Kind). string_ended p at k s) (sym is)
+
+pub text_bad : (p : Place) (at : ℕ) (kind : Kind) (s : List ℕ) → kind ≡ TextString → is_utf8 s ≡ false → faulty 7 at ≡ string_ended p at kind s
+text_bad p at kind s is lie = bad p at TextString s s (is_utf8 s) refl refl lie ∙ ap (λ (k : Kind). string_ended p at k s) (sym is)
+
+pub part_true : (kind : Kind) (s : List ℕ) → kind ≡ TextString → IsUtf8 s → true ≡ is_part kind s
+part_true kind s is utf8 = sym (ap (λ (k : Kind). is_part k s) is ∙ is_utf8-from_IsUtf8 s utf8)
+
+pub part_false : (kind : Kind) (s : List ℕ) → kind ≡ TextString → (IsUtf8 s → ⊥) → false ≡ is_part kind s
+part_false kind s is not = sym (ap (λ (k : Kind). is_part k s) is ∙ false_from_ne_true (is_utf8 s) (λ e. not (IsUtf8-from_is_utf8 s e)))
+
+pub text_is : (t : String Global) (v : Vec ℕ Global) (s made : List ℕ) → string_vec t ≡ v → v.items ≡ s → made ≡ string_bytes t → (made ≡ s) × (is_utf8 s ≡ true)
+text_is t v s made same items is =
+    let e : string_bytes t ≡ s = ap (λ (x : Vec ℕ Global). x.items) same ∙ items in
+    let P : List ℕ → Type 0 = λ o. IsUtf8 o in
+    (is ∙ e, is_utf8-from_IsUtf8 s (subst P e (IsUtf8-string_bytes t)))
+
+pub text_not : (v : Vec ℕ Global) (s : List ℕ) → (IsUtf8 v.items → false ≡ true) → v.items ≡ s → is_utf8 s ≡ false
+text_not v s not items =
+    let P : List ℕ → Type 0 = λ o. IsUtf8 o in
+    false_from_ne_true (is_utf8 s) (λ e. false≢true (not (subst P (sym items) (IsUtf8-from_is_utf8 s e))))
+
+pub chunk_put : (gs hs : List Frame) (a at : ℕ) (k kind : Kind) (t more x y s : List ℕ) (f : Frame) (r : Bool) → hs ≡ gs ++ frame.Chunks a k more ∷ [] → more ≡ t ++ x → x ≡ s
+    → r ≡ is_part kind y → y ≡ s → r ≡ true → f ≡ frame.Chunks a k t → due (place hs) ≡ string_ended (inside (place gs) f) at kind s
+chunk_put gs hs a at k kind t more x y s f r is joined same part here so which =
+    pushed_due gs hs (frame.Chunks a k more) is
+    ∙ ap (λ (o : List ℕ). due (at_chunk a k o (place gs))) (joined ∙ ap (λ (o : List ℕ). t ++ o) same)
+    ∙ sym (good (at_chunk a k t (place gs)) at kind s (ap (λ (o : List ℕ). is_part kind o) (sym here) ∙ sym part ∙ so))
+    ∙ ap (λ (g : Frame). string_ended (inside (place gs) g) at kind s) (sym which)
+
+pub other_frame : (f : Frame) (p : Place) → ((a : ℕ) (k : Kind) (j : List ℕ) → f ≡ frame.Chunks a k j → ⊥) → chunk_kind (inside p f) ≡ None
+other_frame (frame.Chunks a k j) p not = absurd (not a k j refl)
+other_frame (frame.Elements a all items) p not = refl
+other_frame (frame.Keys a all members) p not = refl
+other_frame (frame.Value a all members key) p not = refl
+other_frame (frame.Content a n) p not = refl
+
+pub pushed_place : (gs hs : List Frame) (f : Frame) → hs ≡ gs ++ f ∷ [] → place hs ≡ inside (place gs) f
+pushed_place gs hs f is = ap (λ (fs : List Frame). place fs) is ∙ within_last top gs f
+
+pub array_begun : (gs hs : List Frame) (at n : ℕ) (items : List Item) → hs ≡ gs ++ frame.Elements at (Some n) items ∷ [] → items ≡ [] → (n ≡ 0 → ⊥)
+    → due (place hs) ≡ filled_array (place gs) at (Some n) no_terms
+array_begun gs hs at n items is none some =
+    pushed_due gs hs (frame.Elements at (Some n) items) is
+    ∙ ap (λ (xs : List Item). due (at_element at (Some n) (terms_of (map view xs)) (place gs))) none
+    ∙ sym (cond-false _ _ _ (ne_eqb 0 n (λ e. some (sym e))))
+
+pub map_begun : (gs hs : List Frame) (at n : ℕ) (members : Members) → hs ≡ gs ++ frame.Keys at (Some n) members ∷ [] → members_view members ≡ no_pairs → (n ≡ 0 → ⊥)
+    → due (place hs) ≡ filled_map (place gs) at (Some n) no_pairs
+map_begun gs hs at n members is none some =
+    pushed_due gs hs (frame.Keys at (Some n) members) is
+    ∙ ap (λ (ps : Pairs). due (at_key at (Some n) ps (place gs))) none
+    ∙ sym (cond-false _ _ _ (ne_eqb 0 n (λ e. some (sym e))))
+
+pub tag_begun : (limits : Limits) (i : ℕ) (gs hs : List Frame) (at n : ℕ) (m : Major) → hs ≡ gs ++ frame.Content at n ∷ [] → m ≡ major.Tag
+    → due (place hs) ≡ argued limits i (place gs) at m n
+unfolding argued
+tag_begun limits i gs hs at n m is which =
+    pushed_due gs hs (frame.Content at n) is ∙ ap (λ (x : Major). argued limits i (place gs) at x n) (sym which)

@@ -1,0 +1,12 @@
+-- What is still to be done stays the same.
+use Rattle.std.proofs.Common.{◌≡◌, length}
+use Rattle.cbor_det.specs.Machine.{give}
+use Rattle.cbor_det.specs.View.{view}
+use Rattle.cbor_det.specs.Frames.{place}
+use Rattle.cbor_det.proofs.give.give.Given as goal
+
+abbrev pub invariant-loop-frame : goal.invariant-loop-frame
+invariant-loop-frame l = give (place l.stack.items) l.began (view l.item) ≡ give (place l.initial.stack.items) l.fn.at (view l.fn.item)
+
+abbrev pub decreases-loop-frame : goal.decreases-loop-frame
+decreases-loop-frame l = length l.stack.items

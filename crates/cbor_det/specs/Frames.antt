@@ -1,0 +1,87 @@
+-- The state of the machine as the code has it: frames, of which the last is the innermost, and what is read there.
+use Rattle.std.specs.Prelude.{◌<◌, ◌≤◌, ◌-◌, ◌^◌, ℕ, List, [], ◌∷◌, map, Option, Some, None}
+use Rattle.cbor_det.specs.declared.frame.Frame.{Frame}
+use Rattle.cbor_det.specs.declared.frame.Frame.TheVariants as frame
+use Rattle.cbor_det.specs.declared.frame.Phase.{Phase}
+use Rattle.cbor_det.specs.declared.frame.Phase.TheVariants as phase
+use Rattle.cbor_det.specs.declared.frame.Stepped.{Stepped}
+use Rattle.cbor_det.specs.declared.frame.Stepped.TheVariants as stepped
+use Rattle.cbor_det.specs.declared.kind.Kind.{Kind}
+use Rattle.cbor_det.specs.View.{view, terms_of}
+use Rattle.cbor_det.specs.Held.{members_view}
+use Rattle.cbor_det.specs.Faults.{Place, top, at_chunk, at_element, at_key, at_value, at_content}
+use Rattle.cbor_det.specs.declared.initial.Beginning.{Beginning}
+use Rattle.cbor_det.specs.declared.initial.Beginning.TheVariants as beginning
+use Rattle.cbor_det.specs.declared.initial.Initial.{Initial}
+use Rattle.cbor_det.specs.declared.initial.Initial.TheVariants as initial
+use Rattle.cbor_det.specs.Machine.{State, due, argument, content, whole, faulty, string_ended, broken}
+
+abbrev pub inside : Place → Frame → Place
+inside p (frame.Chunks at kind joined) = at_chunk at kind joined p
+inside p (frame.Elements at all items) = at_element at all (terms_of (map view items)) p
+inside p (frame.Keys at all members) = at_key at all (members_view members) p
+inside p (frame.Value at all members key) = at_value at all (members_view members) (view key.item) p
+inside p (frame.Content at number) = at_content at number p
+
+abbrev pub within : Place → List Frame → Place
+within p [] = p
+within p (f ∷ fs) = within (inside p f) fs
+
+abbrev pub place : List Frame → Place
+place fs = within top fs
+
+abbrev pub phase_state : Place → Phase → State
+phase_state p phase.Due = due p
+phase_state p (phase.Head head) = argument p head.at head.major head.left head.number
+phase_state p (phase.String string) = content p string.at string.kind string.left string.came
+
+abbrev pub state_of : Place → Stepped → State
+state_of p (stepped.Goes phase) = phase_state p phase
+state_of p (stepped.Whole item) = whole (view item)
+state_of p (stepped.Fault fault) = faulty fault.kind fault.at
+
+-- An argument has 8 octets at most, so it fits 64 bits.
+pub record ArgumentFits (left number : ℕ) : Type 0 where
+  pub some : 1 ≤ left
+  pub most : left ≤ 8
+  pub fits : number < 256 ^ (8 - left)
+
+abbrev pub Fits : Phase → Type 0
+Fits phase.Due = Unit {0}
+Fits (phase.Head head) = ArgumentFits head.left head.number
+Fits (phase.String string) = 1 ≤ string.left
+
+abbrev pub StepFits : Stepped → Type 0
+StepFits (stepped.Goes phase) = Fits phase
+StepFits (stepped.Whole item) = Unit {0}
+StepFits (stepped.Fault fault) = Unit {0}
+
+-- An item ends behind an octet.
+abbrev pub EndsBehindSome : Stepped → ℕ → Type 0
+EndsBehindSome (stepped.Goes phase) used = Unit {0}
+EndsBehindSome (stepped.Whole item) used = 0 < used
+EndsBehindSome (stepped.Fault fault) used = Unit {0}
+
+-- the kind of the string of which a chunk is due
+abbrev pub chunk_kind : Place → Option Kind
+chunk_kind (at_chunk at kind joined round) = Some kind
+chunk_kind p = None
+
+-- the kind of the fault that a low octet is, where a chunk is due or an item
+abbrev pub low_kind : Place → ℕ → ℕ
+low_kind (at_chunk at kind joined round) k = 2
+low_kind p k = k
+
+-- what a break makes
+abbrev pub end_state : ℕ → Place → State
+end_state i (at_chunk at kind joined round) = string_ended round at kind joined
+end_state i p = broken i p
+
+-- a head's argument has 1 to 8 octets
+abbrev pub BeginFits : Beginning → Type 0
+BeginFits (beginning.Argument major left) = (1 ≤ left) × (left ≤ 8)
+BeginFits b = Unit {0}
+
+abbrev pub InitialFits : Initial → Type 0
+InitialFits (initial.Item b) = BeginFits b
+InitialFits x = Unit {0}

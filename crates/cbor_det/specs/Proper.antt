@@ -1,0 +1,43 @@
+-- Proper items, and the octets that are the canonical spelling of one.
+use Rattle.std.specs.Prelude.{◌≡◌, ◌<◌, ℕ, ◌^◌, pos, negsuc, List, length}
+use Rattle.std.specs.Str.{IsUtf8}
+use Rattle.cbor_det.specs.Term.{Term, Terms, Pairs, integer, octets, text, array, map, tagged, boolean, no_terms, term, no_pairs, pair}
+use Rattle.cbor_det.specs.Canonical.{canon}
+use Rattle.cbor_det.specs.Spelling.{Rises}
+use Rattle.cbor_det.specs.Faults.{Begins}
+use Rattle.cbor_det.specs.declared.limits.Limits.{Limits}
+
+-- Integers of 64 bits with a sign, texts of UTF-8, tag numbers of 64 bits, and maps whose keys rise strictly in bytewise
+-- order of their canonical spellings, so that no two keys are one.
+abbrev mutual
+  pub IsProper : Term → Type 0
+  IsProper (integer (pos n)) = n < 2 ^ 63
+  IsProper (integer (negsuc n)) = n < 2 ^ 63
+  IsProper (octets s) = Unit {0}
+  IsProper (text s) = IsUtf8 s
+  IsProper (array ts) = AreProper ts
+  IsProper (map ps) = Rises ps × ArePairsProper ps
+  IsProper (tagged n t) = (n < 2 ^ 64) × IsProper t
+  IsProper (boolean b) = Unit {0}
+
+  pub AreProper : Terms → Type 0
+  AreProper no_terms = Unit {0}
+  AreProper (term t ts) = IsProper t × AreProper ts
+
+  pub ArePairsProper : Pairs → Type 0
+  ArePairsProper no_pairs = Unit {0}
+  ArePairsProper (pair k v ps) = IsProper k × IsProper v × ArePairsProper ps
+
+-- A map with these pairs is proper.
+abbrev pub IsProperMap : Pairs → Type 0
+IsProperMap ps = IsProper (map ps)
+
+-- These octets are one item and nothing more, spelled as it is written.
+pub record IsCanonical (limits : Limits) (input : List ℕ) : Type 0 where
+  pub item : Term
+  pub whole : Begins limits input item (length input)
+  pub is : input ≡ canon item
+
+-- the largest limits
+abbrev pub largest : Limits
+largest = record { octets = 16777216; depth = 64 }

@@ -1,0 +1,278 @@
+//! What begins or ends at an initial byte.
+
+ghost use Rattle.std.specs.Prelude.{◌≡◌, ◌<◌, ℕ, IfOk};
+ghost use Rattle.cbor_det.specs.Faults.{Place};
+ghost use Rattle.cbor_det.specs.Frames.{inside, place, state_of, StepFits, chunk_kind, low_kind, end_state, BeginFits, InitialFits};
+ghost use Rattle.cbor_det.specs.Machine.{begun, opened, string_head, same_kind};
+ghost use Rattle.cbor_det.specs.declared.initial.Initial.TheVariants as initial;
+ghost use Rattle.cbor_det.specs.declared.initial.Beginning.TheVariants as beginning;
+ghost use Rattle.cbor_det.specs.declared.initial.Major.TheVariants as major;
+ghost use Rattle.cbor_det.specs.declared.frame.Stepped.TheVariants as stepped;
+
+use crate::fault::{CborFault, DEPTH, FLOAT, MALFORMED, SIMPLE};
+use crate::frame::{Frame, PartialHead, Phase, Stepped};
+use crate::give::give;
+use crate::head::argued;
+use crate::initial::{Beginning, Initial, Major};
+use crate::item::Item;
+use crate::kind::Kind;
+use crate::limits::Limits;
+use crate::members::Members;
+use crate::string::string_ended;
+use std::alloc::Global;
+use wire_base::{List, Memory};
+
+/// Begins or ends what the initial byte says, after `taken` octets of the item.
+pub(crate) fn begun(
+    alloc: Global,
+    limits: Limits,
+    taken: u64,
+    stack: &mut Vec<Frame>,
+    initial: Initial,
+) -> Result<Stepped, Memory>
+    requires room { taken < limits.octets }
+    requires head { InitialFits initial }
+    ensures begun { IfOk result (λ came. state_of (place stack.new.items) came ≡ begun limits taken (place stack.old.items) initial) }
+    ensures fits { IfOk result StepFits }
+{
+    match initial {
+        Initial::Item(beginning) => Ok(begin(alloc, limits, taken, stack, beginning)?),
+        Initial::Break => Ok(end(alloc, taken, stack)?),
+        Initial::Float => Ok(refused(stack.as_slice(), taken, FLOAT)),
+        Initial::Simple => Ok(refused(stack.as_slice(), taken, SIMPLE)),
+        Initial::Malformed => Ok(refused(stack.as_slice(), taken, MALFORMED)),
+    }
+}
+
+/// A fault of this kind, or a malformed chunk where a chunk is due.
+fn refused(stack: &[Frame], at: u64, kind: u8) -> Stepped
+    ensures fault { result ≡ stepped.Fault (record { kind = low_kind (place stack.now) kind; at = at }) }
+{
+    match chunk_due(stack) {
+        None => Stepped::Fault(CborFault { kind, at }),
+        Some(_) => Stepped::Fault(CborFault {
+            kind: MALFORMED,
+            at,
+        }),
+    }
+}
+
+/// The kind of the string of which a chunk is due; `None` where an item is.
+fn chunk_due(stack: &[Frame]) -> Option<Kind>
+    ensures kind { result ≡ chunk_kind (place stack.now) }
+{
+    match stack.last() {
+        None => None,
+        Some(frame) => kind_of(frame),
+    }
+}
+
+/// The kind of the string that is open.
+fn kind_of(frame: &Frame) -> Option<Kind>
+    ensures kind { (p : Place) → result ≡ chunk_kind (inside p frame.now) }
+{
+    match frame {
+        Frame::Chunks { kind, .. } => Some(*kind),
+        Frame::Elements { .. } => None,
+        Frame::Keys { .. } => None,
+        Frame::Value { .. } => None,
+        Frame::Content { .. } => None,
+    }
+}
+
+/// Begins an item, or a chunk where one is due.
+fn begin(
+    alloc: Global,
+    limits: Limits,
+    taken: u64,
+    stack: &mut Vec<Frame>,
+    beginning: Beginning,
+) -> Result<Stepped, Memory>
+    requires room { taken < limits.octets }
+    requires head { BeginFits beginning }
+    ensures begun { IfOk result
+        (λ came. state_of (place stack.new.items) came ≡ begun limits taken (place stack.old.items) (initial.Item beginning)) }
+    ensures fits { IfOk result StepFits }
+{
+    let due = chunk_due(stack.as_slice());
+    match due {
+        Some(kind) => {
+            if !is_chunk(kind, beginning) {
+                return Ok(Stepped::Fault(CborFault {
+                    kind: MALFORMED,
+                    at: taken,
+                }));
+            }
+            Ok(opened(alloc, limits, taken, stack, beginning)?)
+        }
+        None => {
+            if stack.len() as u64 >= u64::from(limits.depth) {
+                return Ok(Stepped::Fault(CborFault {
+                    kind: DEPTH,
+                    at: taken,
+                }));
+            }
+            Ok(opened(alloc, limits, taken, stack, beginning)?)
+        }
+    }
+}
+
+/// Whether this is the head of a chunk of the kind.
+fn is_chunk(kind: Kind, beginning: Beginning) -> bool
+    ensures chunk { result ≡ string_head kind (initial.Item beginning) }
+{
+    match beginning {
+        Beginning::Argued(major, _) => is_string(kind, major),
+        Beginning::Argument(major, _) => is_string(kind, major),
+        Beginning::Chunks(_) => false,
+        Beginning::Elements => false,
+        Beginning::Members => false,
+        Beginning::Bool(_) => false,
+    }
+}
+
+/// Whether the major type is that of strings of the kind.
+fn is_string(kind: Kind, major: Major) -> bool
+    ensures argued { (n : ℕ) → result ≡ string_head kind (initial.Item (beginning.Argued major n)) }
+    ensures argument { (left : ℕ) → result ≡ string_head kind (initial.Item (beginning.Argument major left)) }
+{
+    match major {
+        Major::String(of) => is_same(kind, of),
+        Major::Unsigned => false,
+        Major::Negative => false,
+        Major::Array => false,
+        Major::Map => false,
+        Major::Tag => false,
+    }
+}
+
+/// Whether the kinds are one.
+fn is_same(kind: Kind, of: Kind) -> bool
+    ensures same { result ≡ same_kind kind of }
+{
+    match kind {
+        Kind::ByteString => match of {
+            Kind::ByteString => true,
+            Kind::TextString => false,
+        },
+        Kind::TextString => match of {
+            Kind::ByteString => false,
+            Kind::TextString => true,
+        },
+    }
+}
+
+/// Begins what may stand here.
+#[tactic(auto, unfolding(crate::specs::Machine::opened))]
+fn opened(
+    alloc: Global,
+    limits: Limits,
+    taken: u64,
+    stack: &mut Vec<Frame>,
+    beginning: Beginning,
+) -> Result<Stepped, Memory>
+    requires room { taken < limits.octets }
+    requires head { BeginFits beginning }
+    ensures opened { IfOk result (λ came. state_of (place stack.new.items) came ≡ opened limits taken (place stack.old.items) beginning) }
+    ensures fits { IfOk result StepFits }
+{
+    match beginning {
+        Beginning::Argued(major, argument) => Ok(argued(
+            alloc,
+            limits,
+            taken + 1,
+            stack,
+            taken,
+            major,
+            argument,
+        )?),
+        Beginning::Argument(major, left) => Ok(Stepped::Goes(Phase::Head(PartialHead {
+            at: taken,
+            major,
+            left,
+            number: 0,
+        }))),
+        Beginning::Chunks(kind) => {
+            let joined = List::new(alloc);
+            stack.push(Frame::Chunks {
+                at: taken,
+                kind,
+                joined,
+            })?;
+            Ok(Stepped::Goes(Phase::Due))
+        }
+        Beginning::Elements => {
+            let items = List::new(alloc);
+            stack.push(Frame::Elements {
+                at: taken,
+                all: None,
+                items,
+            })?;
+            Ok(Stepped::Goes(Phase::Due))
+        }
+        Beginning::Members => {
+            let members = Members::new(alloc);
+            stack.push(Frame::Keys {
+                at: taken,
+                all: None,
+                members,
+            })?;
+            Ok(Stepped::Goes(Phase::Due))
+        }
+        Beginning::Bool(value) => Ok(give(alloc, stack, taken, Item::Bool(value))?),
+    }
+}
+
+/// Ends the innermost construct by a break at the offset `taken`; a fault where a break ends nothing.
+fn end(alloc: Global, taken: u64, stack: &mut Vec<Frame>) -> Result<Stepped, Memory>
+    ensures ended { IfOk result (λ came. state_of (place stack.new.items) came ≡ end_state taken (place stack.old.items)) }
+    ensures fits { IfOk result StepFits }
+{
+    match stack.pop() {
+        None => Ok(Stepped::Fault(CborFault {
+            kind: MALFORMED,
+            at: taken,
+        })),
+        Some(frame) => Ok(end_of(alloc, taken, stack, frame)?),
+    }
+}
+
+/// Ends `frame`, inside of what is open.
+#[tactic(auto, unfolding(crate::specs::Machine::broken))]
+fn end_of(
+    alloc: Global,
+    taken: u64,
+    stack: &mut Vec<Frame>,
+    frame: Frame,
+) -> Result<Stepped, Memory>
+    ensures ended { IfOk result (λ came. state_of (place stack.new.items) came ≡ end_state taken (inside (place stack.old.items) frame)) }
+    ensures fits { IfOk result StepFits }
+{
+    match frame {
+        Frame::Chunks { at, kind, joined } => Ok(string_ended(alloc, stack, at, kind, joined)?),
+        Frame::Elements { at, all, items } => {
+            if all.is_some() {
+                return Ok(unended(taken));
+            }
+            Ok(give(alloc, stack, at, Item::Array(items))?)
+        }
+        Frame::Keys { at, all, members } => {
+            if all.is_some() {
+                return Ok(unended(taken));
+            }
+            Ok(give(alloc, stack, at, Item::Map(members.into_pairs(alloc)?))?)
+        }
+        Frame::Value { .. } => Ok(unended(taken)),
+        Frame::Content { .. } => Ok(unended(taken)),
+    }
+}
+
+/// A break that ends nothing.
+fn unended(at: u64) -> Stepped
+    ensures fault { result ≡ stepped.Fault (record { kind = 2; at = at }) }
+{
+    Stepped::Fault(CborFault {
+        kind: MALFORMED,
+        at,
+    })
+}

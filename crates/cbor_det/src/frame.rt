@@ -1,0 +1,84 @@
+//! What is open round the place at which a reader stands, and what it reads there.
+
+use crate::fault::CborFault;
+use crate::initial::Major;
+use crate::item::{Item, Items};
+use crate::kind::Kind;
+use crate::members::{Key, Members};
+use wire_base::Octets;
+
+/// A construct that is open, with what stands in it whole. `at` is the offset of its initial byte, and `all` is how many
+/// items or pairs its head counts, or `None` where a break ends it.
+#[derive(Drop)]
+pub(crate) enum Frame {
+    /// A string of indefinite length, with its chunks so far.
+    Chunks {
+        at: u64,
+        kind: Kind,
+        joined: Octets,
+    },
+    /// An array.
+    Elements {
+        at: u64,
+        all: Option<u64>,
+        items: Items,
+    },
+    /// A map whose next key is due.
+    Keys {
+        at: u64,
+        all: Option<u64>,
+        members: Members,
+    },
+    /// A map in which the value of a key is due.
+    Value {
+        at: u64,
+        all: Option<u64>,
+        members: Members,
+        key: Key,
+    },
+    /// A tag whose content is due.
+    Content {
+        at: u64,
+        number: u64,
+    },
+}
+
+/// A head, begun at the offset `at`, of whose argument `left` more octets are due; those that came stand for `number`.
+#[derive(Drop)]
+pub(crate) struct PartialHead {
+    pub(crate) at: u64,
+    pub(crate) major: Major,
+    pub(crate) left: u8,
+    pub(crate) number: u64,
+}
+
+/// A definite string, begun at the offset `at`, of which `left` more octets are due behind those that came.
+#[derive(Drop)]
+pub(crate) struct PartialString {
+    pub(crate) at: u64,
+    pub(crate) kind: Kind,
+    pub(crate) left: u64,
+    pub(crate) came: Octets,
+}
+
+/// What is read at the place.
+#[derive(Drop)]
+pub(crate) enum Phase {
+    /// An initial byte is due.
+    Due,
+    /// The rest of an argument is due.
+    Head(PartialHead),
+    /// The rest of a definite string is due.
+    String(PartialString),
+}
+
+/// What came of some octets.
+#[derive(Drop)]
+pub(crate) enum Stepped {
+    /// Neither an item nor a fault.
+    Goes(Phase),
+    /// An item ended, and all round it.
+    Whole(Item),
+    /// A fault showed.
+    Fault(CborFault),
+}

@@ -1,0 +1,134 @@
+//! Heads with their arguments.
+
+ghost use Rattle.std.specs.Prelude.{◌≡◌, ◌≤◌, IfOk};
+ghost use Rattle.cbor_det.specs.Frames.{place, state_of, StepFits};
+ghost use Rattle.cbor_det.specs.Machine.{argued, filled_array, filled_map};
+ghost use Rattle.cbor_det.specs.Term.{no_terms, no_pairs};
+ghost use Rattle.cbor_det.specs.declared.initial.Major.TheVariants as major;
+ghost use Rattle.std.specs.Prelude.{Some};
+
+use crate::fault::{CborFault, RANGE, TOO_LONG};
+use crate::frame::{Frame, PartialString, Phase, Stepped};
+use crate::give::give;
+use crate::initial::Major;
+use crate::item::Item;
+use crate::kind::Kind;
+use crate::limits::Limits;
+use crate::members::Members;
+use crate::string::string_ended;
+use std::alloc::Global;
+use wire_base::{List, Memory};
+
+/// Begins what the head says, after `taken` octets of the item.
+#[tactic(auto, unfolding(crate::specs::Machine::argued))]
+pub(crate) fn argued(
+    alloc: Global,
+    limits: Limits,
+    taken: u64,
+    stack: &mut Vec<Frame>,
+    at: u64,
+    major: Major,
+    argument: u64,
+) -> Result<Stepped, Memory>
+    requires { taken ≤ limits.octets }
+    ensures argued { IfOk result
+        (λ came. state_of (place stack.new.items) came ≡ argued limits taken (place stack.old.items) at major argument) }
+    ensures fits { IfOk result StepFits }
+{
+    match major {
+        Major::Unsigned => {
+            if argument >= 1 << 63 {
+                return Ok(Stepped::Fault(CborFault { kind: RANGE, at }));
+            }
+            Ok(give(alloc, stack, at, Item::Int(argument as i64))?)
+        }
+        Major::Negative => {
+            if argument >= 1 << 63 {
+                return Ok(Stepped::Fault(CborFault { kind: RANGE, at }));
+            }
+            Ok(give(alloc, stack, at, Item::Int(-1 - argument as i64))?)
+        }
+        Major::String(kind) => Ok(begin_string(alloc, limits, taken, stack, at, kind, argument)?),
+        Major::Array => Ok(begin_array(alloc, stack, at, argument)?),
+        Major::Map => Ok(begin_map(alloc, stack, at, argument)?),
+        Major::Tag => {
+            stack.push(Frame::Content {
+                at,
+                number: argument,
+            })?;
+            Ok(Stepped::Goes(Phase::Due))
+        }
+    }
+}
+
+/// A definite string of `len` octets.
+#[tactic(auto, unfolding(crate::specs::Machine::argued))]
+fn begin_string(
+    alloc: Global,
+    limits: Limits,
+    taken: u64,
+    stack: &mut Vec<Frame>,
+    at: u64,
+    kind: Kind,
+    len: u64,
+) -> Result<Stepped, Memory>
+    requires { taken ≤ limits.octets }
+    ensures argued { IfOk result
+        (λ came. state_of (place stack.new.items) came ≡ argued limits taken (place stack.old.items) at (major.String kind) len) }
+    ensures fits { IfOk result StepFits }
+{
+    if len > limits.octets - taken {
+        return Ok(Stepped::Fault(CborFault { kind: TOO_LONG, at }));
+    }
+    let came = List::new(alloc);
+    if len == 0 {
+        return Ok(string_ended(alloc, stack, at, kind, came)?);
+    }
+    Ok(Stepped::Goes(Phase::String(PartialString {
+        at,
+        kind,
+        left: len,
+        came,
+    })))
+}
+
+/// An array of `count` items.
+fn begin_array(
+    alloc: Global,
+    stack: &mut Vec<Frame>,
+    at: u64,
+    count: u64,
+) -> Result<Stepped, Memory>
+    ensures filled { IfOk result
+        (λ came. state_of (place stack.new.items) came ≡ filled_array (place stack.old.items) at (Some count) no_terms) }
+    ensures fits { IfOk result StepFits }
+{
+    let items = List::new(alloc);
+    if count == 0 {
+        return Ok(give(alloc, stack, at, Item::Array(items))?);
+    }
+    stack.push(Frame::Elements {
+        at,
+        all: Some(count),
+        items,
+    })?;
+    Ok(Stepped::Goes(Phase::Due))
+}
+
+/// A map of `count` pairs.
+fn begin_map(alloc: Global, stack: &mut Vec<Frame>, at: u64, count: u64) -> Result<Stepped, Memory>
+    ensures filled { IfOk result
+        (λ came. state_of (place stack.new.items) came ≡ filled_map (place stack.old.items) at (Some count) no_pairs) }
+    ensures fits { IfOk result StepFits }
+{
+    let members = Members::new(alloc);
+    if count == 0 {
+        return Ok(give(alloc, stack, at, Item::Map(members.into_pairs(alloc)?))?);
+    }
+    stack.push(Frame::Keys {
+        at,
+        all: Some(count),
+        members,
+    })?;
+    Ok(Stepped::Goes(Phase::Due))
+}

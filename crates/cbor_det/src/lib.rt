@@ -1,0 +1,40 @@
+//! Items of the Concise Binary Object Representation (CBOR, RFC 8949): a reader and a feed that take any spelling of an
+//! item within limits, and a writer of the one canonical spelling (core deterministic encoding, section 4.2.1).
+//!
+//! It stands on `wire_base`, and on `thiserror` for the texts of errors. The crates above rest on `found`, `refused`,
+//! `only` and `fault` of `read_item`, on `fed` of `CborFeed::feed`, on `canonical` of `write_item`, on `added` and `proper` of
+//! `Pairs::add`, on `equal` of the copies of items and pairs, and on `laws`. The words of these clauses are in `specs/`:
+//! `Term`, `Canonical`, `Spelling`, `Faults`, `Proper`, `Adding`, `View`. `Machine` and `Frames` are the private means of proof.
+#![tactic(auto)]
+
+mod begin;
+mod canonical;
+mod fault;
+mod feed;
+mod frame;
+mod give;
+mod head;
+mod initial;
+mod item;
+mod kind;
+pub mod laws;
+mod limits;
+mod members;
+mod pairs;
+mod piece;
+mod read;
+mod step;
+mod string;
+mod write;
+
+pub use canonical::{LARGEST, is_canonical};
+pub use fault::{CborFault, CborRefused};
+pub use feed::{CborFed, CborFeed};
+pub use item::{Item, Items, Pairs};
+pub use limits::Limits;
+pub use pairs::PairRefused;
+pub use read::read_item;
+pub use write::write_item;
+
+#[cfg(test)]
+mod tests;

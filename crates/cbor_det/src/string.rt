@@ -1,0 +1,118 @@
+//! Definite strings that ended: items, and chunks of indefinite strings.
+
+ghost use Rattle.std.specs.Prelude.{◌≡◌, IfOk, OnOk, MatchOption, false, true, None};
+ghost use Rattle.std.specs.Str.{is_utf8};
+ghost use Rattle.cbor_det.specs.Faults.{at_chunk};
+ghost use Rattle.cbor_det.specs.Frames.{inside, place, state_of, StepFits, chunk_kind};
+ghost use Rattle.cbor_det.specs.Machine.{string_ended, is_part};
+
+use crate::fault::{CborFault, NOT_UTF8};
+use crate::frame::{Frame, Phase, Stepped};
+use crate::give::give;
+use crate::item::Item;
+use crate::kind::Kind;
+use std::alloc::Global;
+use std::str::from_utf8;
+use wire_base::{Memory, Octets, Text};
+
+/// Takes a definite string, whose initial byte stands at `at`, as an item or as a chunk.
+pub(crate) fn string_ended(
+    alloc: Global,
+    stack: &mut Vec<Frame>,
+    at: u64,
+    kind: Kind,
+    octets: Octets,
+) -> Result<Stepped, Memory>
+    ensures ended { IfOk result (λ came. state_of (place stack.new.items) came ≡ string_ended (place stack.old.items) at kind octets) }
+    ensures fits { IfOk result StepFits }
+{
+    match stack.pop() {
+        None => Ok(string_item(alloc, stack, at, kind, octets)?),
+        Some(frame) => Ok(string_in(alloc, stack, frame, at, kind, octets)?),
+    }
+}
+
+/// Takes a definite string where `frame` is the innermost construct that is open.
+fn string_in(
+    alloc: Global,
+    stack: &mut Vec<Frame>,
+    frame: Frame,
+    at: u64,
+    kind: Kind,
+    octets: Octets,
+) -> Result<Stepped, Memory>
+    ensures ended { IfOk result
+        (λ came. state_of (place stack.new.items) came ≡ string_ended (inside (place stack.old.items) frame) at kind octets) }
+    ensures fits { IfOk result StepFits }
+{
+    match frame {
+        Frame::Chunks {
+            at: began,
+            kind: of,
+            joined,
+        } => {
+            if !is_part(kind, octets.as_slice()) {
+                return Ok(Stepped::Fault(CborFault { kind: NOT_UTF8, at }));
+            }
+            let mut joined = joined;
+            joined.extend(octets.as_slice())?;
+            stack.push(Frame::Chunks {
+                at: began,
+                kind: of,
+                joined,
+            })?;
+            Ok(Stepped::Goes(Phase::Due))
+        }
+        other => {
+            stack.push(other)?;
+            Ok(string_item(alloc, stack, at, kind, octets)?)
+        }
+    }
+}
+
+/// Takes a definite string as an item.
+fn string_item(
+    alloc: Global,
+    stack: &mut Vec<Frame>,
+    at: u64,
+    kind: Kind,
+    octets: Octets,
+) -> Result<Stepped, Memory>
+    requires item { chunk_kind (place stack.old.items) ≡ None }
+    ensures ended { IfOk result (λ came. state_of (place stack.new.items) came ≡ string_ended (place stack.old.items) at kind octets) }
+    ensures fits { IfOk result StepFits }
+{
+    match kind {
+        Kind::ByteString => Ok(give(alloc, stack, at, Item::Bytes(octets))?),
+        Kind::TextString => {
+            let text = text_of(octets);
+            match text {
+                Some(text) => Ok(give(alloc, stack, at, Item::Text(text))?),
+                None => Ok(Stepped::Fault(CborFault { kind: NOT_UTF8, at })),
+            }
+        }
+    }
+}
+
+/// The octets as a text; `None` exactly where they are not UTF-8. It takes no memory.
+fn text_of(octets: Octets) -> Option<Text>
+    ensures text { MatchOption result (is_utf8 octets ≡ false) (λ text. (text ≡ octets) × (is_utf8 octets ≡ true)) }
+{
+    match String::from_utf8(octets.into_vec()) {
+        Ok(text) => Some(Text::from_string(text)),
+        Err(_) => None,
+    }
+}
+
+/// Whether the octets may be a string of this kind.
+fn is_part(kind: Kind, octets: &[u8]) -> bool
+    ensures part { result ≡ is_part kind octets.now }
+{
+    match kind {
+        Kind::ByteString => true,
+        Kind::TextString => match from_utf8(octets) {
+            Ok(_) => true,
+            Err(_) => false,
+        },
+    }
+}

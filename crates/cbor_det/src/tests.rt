@@ -1,0 +1,104 @@
+//! Each public call with ample memory. The worked rows are a table that the program `cbor_bench` tries.
+
+use crate::{
+    CborFault, CborFed, CborFeed, CborRefused, Item, LARGEST, PairRefused, Pairs, is_canonical,
+    read_item, write_item,
+};
+use std::alloc::Global;
+use std::test::Fail;
+use wire_base::TryCopy;
+
+/// The fault that a reader tells, if it tells one.
+fn fault_of(alloc: Global, octets: &[u8]) -> Option<CborFault> {
+    match read_item(alloc, octets, LARGEST) {
+        Ok(_) => None,
+        Err(refused) => match refused {
+            CborRefused::Fault(fault) => Some(fault),
+            CborRefused::Memory => None,
+        },
+    }
+}
+
+#[test]
+fn tells_a_fault(rt: HostRuntime) -> Result<(), Fail> {
+    let octets = b"\xa2\x01\x00\x01\x00";
+    assert_eq!(rt;
+        fault_of(rt.alloc(), octets),
+        Some(CborFault { kind: 8, at: 3 })
+    );
+    Ok(())
+}
+
+/// Whether the octets are written again as these, from a copy.
+fn is_written(alloc: Global, octets: &[u8], canonical: &[u8]) -> Result<bool, Fail> {
+    let (item, _) = read_item(alloc, octets, LARGEST)?;
+    let copy: Item = item.copy()?;
+    let written = write_item(alloc, &copy)?;
+    Ok(written.as_slice() == canonical)
+}
+
+#[test]
+fn reads_and_writes(rt: HostRuntime) -> Result<(), Fail> {
+    let alloc = rt.alloc();
+    assert!(rt;
+        is_written(
+            alloc,
+            b"\xbf\x02\xf4\x01\x81\xc1\x61a\xff",
+            b"\xa2\x01\x81\xc1\x61a\x02\xf4"
+        )?
+    );
+    assert!(rt; is_written(alloc, b"\x5f\xff", b"\x40")?);
+    assert!(rt; is_canonical(alloc, b"\x17")?);
+    assert!(rt; !is_canonical(alloc, b"\x18\x17")?);
+    Ok(())
+}
+
+#[test]
+fn feeds_pieces(rt: HostRuntime) -> Result<(), Fail> {
+    let mut feed = CborFeed::new(rt.alloc(), LARGEST);
+    assert!(rt; matches!(feed.feed(b"\xa1\x00"), CborFed::More));
+    assert!(rt; matches!(feed.feed(b"\x61"), CborFed::More));
+    assert!(rt; matches!(feed.feed(b"a\x00"), CborFed::Done(_, 1)));
+    assert!(rt; matches!(feed.feed(b"\x82\x00"), CborFed::More));
+    assert!(rt; is_float(&feed.feed(b"\xf9"), 2));
+    assert!(rt; is_float(&feed.feed(b"\x00"), 2));
+    Ok(())
+}
+
+/// Whether the answer is a float at this place.
+fn is_float(fed: &CborFed, at: u64) -> bool {
+    match fed {
+        CborFed::Fault(fault) => *fault == CborFault { kind: 3, at },
+        _ => false,
+    }
+}
+
+#[test]
+fn adds_pairs(rt: HostRuntime) -> Result<(), Fail> {
+    let mut pairs = Pairs::new(rt.alloc());
+    pairs.add(Item::Int(24), Item::Int(-1))?;
+    pairs.add(Item::Int(0), Item::Int(7))?;
+    assert_eq!(rt;
+        pairs.add(Item::Int(0), Item::Int(8)),
+        Err(PairRefused::Doubled)
+    );
+    let copy = pairs.copy()?;
+    assert_eq!(rt; copy.len(), 2);
+    assert!(rt; is_int(copy.key(0), 0));
+    assert!(rt; is_int(copy.value(0), 7));
+    assert!(rt; is_int(copy.key(1), 24));
+    assert!(rt; is_int(copy.under(24), -1));
+    assert!(rt; copy.under(1).is_none());
+    Ok(())
+}
+
+/// Whether it is this integer.
+fn is_int(item: Option<&Item>, number: i64) -> bool {
+    match item {
+        None => false,
+        Some(item) => match item {
+            Item::Int(found) => *found == number,
+            _ => false,
+        },
+    }
+}

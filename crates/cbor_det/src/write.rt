@@ -1,0 +1,122 @@
+//! Writing items: the canonical spelling (RFC 8949, section 4.2.1).
+
+ghost use Rattle.std.specs.Prelude.{◌≡◌, ◌∷◌, ◌++◌, ◌<◌, ◌≤◌, ◌^◌, IfOk, OnOk, length};
+ghost use Rattle.cbor_det.specs.Canonical.{canon, canon_terms, canon_pairs, short_head};
+ghost use Rattle.cbor_det.specs.Term.{depth, integer};
+ghost use Rattle.cbor_det.specs.View.{view, terms_of, pairs_view};
+ghost use Rattle.std.specs.Prelude.{map};
+
+use crate::item::{Item, Pairs};
+use std::alloc::Global;
+use wire_base::{List, Memory, Octets};
+
+/// The canonical spelling of the item: shortest arguments, definite lengths, and the pairs of maps in bytewise order of
+/// their keys' spellings, in which a proper item holds them. `Memory` where there is no room for it.
+pub fn write_item(alloc: Global, item: &Item) -> Result<Octets, Memory>
+    requires depth { depth (view item.now) ≤ 64 }
+    ensures canonical { IfOk result (λ written. written ≡ canon (view item.now)) }
+{
+    spell(alloc, item)
+}
+
+/// The canonical spelling of an item that is no deeper than a reader's limit.
+pub(crate) fn spell(alloc: Global, item: &Item) -> Result<Octets, Memory>
+    ensures canonical { IfOk result (λ written. written ≡ canon (view item.now)) }
+{
+    let mut out = List::new(alloc);
+    put_item(&mut out, item)?;
+    Ok(out)
+}
+
+/// Puts the item behind what was written. It calls itself as deep as the item is.
+#[cycle(put)]
+fn put_item(out: &mut Octets, item: &Item) -> Result<(), Memory>
+    ensures puts { OnOk result (out.new ≡ out.old ++ canon (view item.now)) }
+{
+    match item {
+        Item::Int(number) => put_integer(out, *number),
+        Item::Bytes(octets) => put_string(out, 2, octets.as_slice()),
+        Item::Text(text) => put_string(out, 3, text.as_str().as_bytes()),
+        Item::Array(items) => {
+            put_head(out, 4, items.len() as u64)?;
+            Ok(put_items(out, items)?)
+        }
+        Item::Map(pairs) => {
+            put_head(out, 5, pairs.pairs.len() as u64)?;
+            Ok(put_pairs(out, pairs)?)
+        }
+        Item::Tag(number, content) => {
+            put_head(out, 6, *number)?;
+            Ok(put_item(out, content.get())?)
+        }
+        Item::Bool(value) => out.push(if *value { 0xf5 } else { 0xf4 }),
+    }
+}
+
+#[cycle(put)]
+fn put_items(out: &mut Octets, items: &List<Item>) -> Result<(), Memory>
+    ensures puts { OnOk result (out.new ≡ out.old ++ canon_terms (terms_of (map view items.now))) }
+{
+    for item in items.as_slice() {
+        put_item(out, item)?;
+    }
+    Ok(())
+}
+
+#[cycle(put)]
+fn put_pairs(out: &mut Octets, pairs: &Pairs) -> Result<(), Memory>
+    ensures puts { OnOk result (out.new ≡ out.old ++ canon_pairs (pairs_view pairs.now)) }
+{
+    for pair in pairs.pairs.as_slice() {
+        put_item(out, &pair.key)?;
+        put_item(out, &pair.value)?;
+    }
+    Ok(())
+}
+
+fn put_integer(out: &mut Octets, number: i64) -> Result<(), Memory>
+    ensures puts { OnOk result (out.new ≡ out.old ++ canon (integer number)) }
+{
+    if number >= 0 {
+        put_head(out, 0, number as u64)
+    } else {
+        put_head(out, 1, (-(number + 1)) as u64)
+    }
+}
+
+fn put_string(out: &mut Octets, major: u8, octets: &[u8]) -> Result<(), Memory>
+    requires { major < 8 }
+    ensures puts { OnOk result (out.new ≡ out.old ++ (short_head major (length octets.now) ++ octets.now)) }
+{
+    put_head(out, major, octets.len() as u64)?;
+    out.extend(octets)
+}
+
+/// Puts a head with its argument in the shortest form.
+#[tactic(auto, using(crate::proofs::BigEndian::be_one, crate::proofs::BigEndian::be_two, crate::proofs::BigEndian::be_four, crate::proofs::BigEndian::be_eight))]
+fn put_head(out: &mut Octets, major: u8, argument: u64) -> Result<(), Memory>
+    requires { major < 8 }
+    ensures puts { OnOk result (out.new ≡ out.old ++ short_head major argument) }
+{
+    let high = 32 * major;
+    if argument < 24 {
+        return out.push(high + argument as u8);
+    }
+    if argument < 1 << 8 {
+        return out.extend(&[high + 24, argument as u8]);
+    }
+    if argument < 1 << 16 {
+        return put_argument(out, high + 25, &(argument as u16).to_be_bytes());
+    }
+    if argument < 1 << 32 {
+        return put_argument(out, high + 26, &(argument as u32).to_be_bytes());
+    }
+    put_argument(out, high + 27, &argument.to_be_bytes())
+}
+
+fn put_argument(out: &mut Octets, initial: u8, argument: &[u8]) -> Result<(), Memory>
+    ensures puts { OnOk result (out.new ≡ out.old ++ initial ∷ argument.now) }
+{
+    out.push(initial)?;
+    out.extend(argument)
+}
