@@ -31,7 +31,7 @@ not_low : (p q : Bool) (x : Event) (rest : List Event) → p ≡ false → cond 
 not_low true q x rest a = absurd cc
 not_low false q x rest a = refl
 
-not_high : (p q : Bool) (x : Event) (rest : List Event) → q ≡ false → cond (p && q) (x ∷ rest) rest ≡ rest
+pub not_high : (p q : Bool) (x : Event) (rest : List Event) → q ≡ false → cond (p && q) (x ∷ rest) rest ≡ rest
 not_high true true x rest a = absurd cc
 not_high true false x rest a = refl
 not_high false q x rest a = refl
@@ -150,7 +150,7 @@ module _ (epoch : Epoch) (earliest count : ℕ) (numbered : AreNumberedFrom 1 ep
 
 -- ---- the answer
 
-fits_is : (most : ℕ) (one report : Report) → if_fits most one ≡ answer.Report report → one ≡ report
+pub fits_is : (most : ℕ) (one report : Report) → if_fits most one ≡ answer.Report report → one ≡ report
 fits_is most one report e = by_test (leb (report_size one) most) e
   where
     by_test : (test : Bool) → cond test (answer.Report one) (answer.TooLarge (report_size one) most) ≡ answer.Report report → one ≡ report

@@ -10,12 +10,13 @@ use Rattle.collector_core.specs.declared.error.BookError.TheVariants as refused
 use Rattle.collector_core.specs.BookDesk.{BookWent, book_state, extended_none, stays_book}
 use Rattle.collector_core.specs.Chronicle.{Chronicle, current, extended, last_eid, next_id}
 use Rattle.collector_core.specs.Desks.{Creates, Does, Edits, Reads, State, state_of}
-use Rattle.collector_core.specs.Standing.{BookView, Changes, ChangesExactly, Enters, IsCreation, IsDeletion, Stands, deletion}
+use Rattle.collector_core.specs.Standing.{BookView, Changes, ChangesExactly, Enters, IsCreation, IsDeletion, Stands, StandsForSome, deletion}
 
 -- ---- reads
 
-pub book_reads : (book : BookView) (answered : Chronicle → Type 0) → ((chronicle : Chronicle) → Stands book chronicle → answered chronicle) → Reads Stands BookWent book book answered
-book_reads book answered answers = record {
+pub book_reads : (book : BookView) (answered : Chronicle → Type 0) → StandsForSome book → ((chronicle : Chronicle) → Stands book chronicle → answered chronicle) → Reads Stands BookWent book book answered
+book_reads book answered some answers = record {
+  some = some;
   others = [];
   theirs = tt;
   grows = stays_book book;
@@ -53,12 +54,13 @@ module _ (T : Type 0) (says : T → State → Entry → Type 0) (at : State → 
 
   -- An entry that is as it says is the only one.
   module _ (one : (state : State) (x y : Entry) → at state x → at state y → x ≡ y) where
-    pub book_edits : (result : Result T BookError) → IfOk result (λ told. (made : Entry) → at (book_state old) made → says told (book_state old) made)
+    pub book_edits : (result : Result T BookError) → StandsForSome old → IfOk result (λ told. (made : Entry) → at (book_state old) made → says told (book_state old) made)
         → Changes (at (book_state old)) (refusal (book_state old)) old result new
         → ((chronicle : Chronicle) → Stands old chronicle → Enters (at (state_of chronicle)) (refusal (state_of chronicle)) chronicle result new)
         → Edits Stands BookWent says refusal old new result
-    book_edits (Err error) told done enters = record { others = []; theirs = tt; done = refused_so error done }
-    book_edits (Ok answer) told done enters = record {
+    book_edits (Err error) some told done enters = record { some = some; others = []; theirs = tt; done = refused_so error done }
+    book_edits (Ok answer) some told done enters = record {
+      some = some;
       others = [];
       theirs = tt;
       done = (

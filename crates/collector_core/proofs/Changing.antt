@@ -224,12 +224,17 @@ place_allowed last next octets id place rs is more at =
 pub fresh : (next octets : ℕ) (rs : List Record) → IsBook next octets rs → record_of next rs ≡ None
 fresh next octets rs is = none_before next rs [] (climbs (ids rs ++ next ∷ []) is.rising)
 
+-- The other records are those before and behind its place.
+pub others_at : (next octets id place : ℕ) (rs : List Record) → IsBook next octets rs → (at : IsPlaceOf rs id (Some place)) → others_than id rs ≡ at.0 ++ at.2
+others_at next octets id place rs is at =
+    let up : Climbs (ids (at.0 ++ at.1 ∷ at.2) ++ next ∷ []) = climbs (ids (at.0 ++ at.1 ∷ at.2) ++ next ∷ []) (subst (λ (l : List Record). IsStrictlyIncreasing (ids l ++ next ∷ [])) at.3 is.rising) in
+    ap (others_than id) at.3 ∙ ap (λ (n : ℕ). others_than n (at.0 ++ at.1 ∷ at.2)) (sym at.5) ∙ others_are at.0 at.1 at.2 next up
+
 -- The octets of the other records.
 pub beside : (next octets id place : ℕ) (rs : List Record) (item : Record) → IsBook next octets rs → IsPlaceOf rs id (Some place) → item ≡ get_or rs place item
     → octets - content_octets item.content ≡ records_octets (others_than id rs)
 beside next octets id place rs item is at got =
-    let up : Climbs (ids (at.0 ++ at.1 ∷ at.2) ++ next ∷ []) = climbs (ids (at.0 ++ at.1 ∷ at.2) ++ next ∷ []) (subst (λ (l : List Record). IsStrictlyIncreasing (ids l ++ next ∷ [])) at.3 is.rising) in
-    let others : others_than id rs ≡ at.0 ++ at.2 = ap (others_than id) at.3 ∙ ap (λ (n : ℕ). others_than n (at.0 ++ at.1 ∷ at.2)) (sym at.5) ∙ others_are at.0 at.1 at.2 next up in
+    let others : others_than id rs ≡ at.0 ++ at.2 = others_at next octets id place rs is at in
     let whole : records_octets rs ≡ records_octets (at.0 ++ at.2) + content_octets at.1.content = ap records_octets at.3 ∙ octets_seam at.0 at.1 at.2 in
     let same : content_octets item.content ≡ content_octets at.1.content = ap (λ (r : Record). content_octets r.content) (item_at rs place item at.0 at.1 at.2 at.3 at.4 got) in
     omega (arith, is.counted, whole, same, ap records_octets others)

@@ -98,19 +98,19 @@ history_more chronicle x =
 
 -- ---- numbers of epochs rise
 
-abbrev Rising : Epoch → List Entry → Type 0
+abbrev pub Rising : Epoch → List Entry → Type 0
 Rising epoch [] = Unit {0}
 Rising epoch (entry.Event event ∷ later) = Rising (epoch_after epoch (entry.Event event)) later
 Rising epoch (entry.Epoch number ∷ later) = (epoch.number < number) × Rising (epoch_after epoch (entry.Epoch number)) later
 Rising epoch (entry.Trim first ∷ later) = Rising epoch later
 
-abbrev AllFollow : Start → List Entry → List Entry → Type 0
+abbrev pub AllFollow : Start → List Entry → List Entry → Type 0
 AllFollow start front rest = (before : List Entry) (x : Entry) (after : List Entry) → front ++ rest ≡ before ++ x ∷ after → MayFollow (record { start = start; entries = before }) x
 
-follow_on : (start : Start) (front : List Entry) (x : Entry) (xs : List Entry) → AllFollow start front (x ∷ xs) → AllFollow start (front ++ x ∷ []) xs
+pub follow_on : (start : Start) (front : List Entry) (x : Entry) (xs : List Entry) → AllFollow start front (x ∷ xs) → AllFollow start (front ++ x ∷ []) xs
 follow_on start front x xs follow before y after e = follow before y after (sym (append_assoc front (x ∷ []) xs) ∙ e)
 
-rising : (start : Start) (front xs : List Entry) → AllFollow start front xs → Rising (fold epoch_after (first_epoch start) front) xs
+pub rising : (start : Start) (front xs : List Entry) → AllFollow start front xs → Rising (fold epoch_after (first_epoch start) front) xs
 rising start front [] follow = tt
 rising start front (entry.Event e ∷ xs) follow =
     subst (λ (epoch : Epoch). Rising epoch xs) (fold-append epoch_after (first_epoch start) front (entry.Event e ∷ []))
@@ -124,7 +124,7 @@ rising start front (entry.Trim k ∷ xs) follow =
     subst (λ (epoch : Epoch). Rising epoch xs) (fold-append epoch_after (first_epoch start) front (entry.Trim k ∷ []))
     (rising start (front ++ entry.Trim k ∷ []) xs (follow_on start front (entry.Trim k) xs follow))
 
-number_rises : (epoch : Epoch) (xs : List Entry) → Rising epoch xs → epoch.number ≤ (fold epoch_after epoch xs).number
+pub number_rises : (epoch : Epoch) (xs : List Entry) → Rising epoch xs → epoch.number ≤ (fold epoch_after epoch xs).number
 number_rises epoch [] up = omega arith
 number_rises epoch (entry.Event e ∷ xs) up = number_rises (epoch_after epoch (entry.Event e)) xs up
 number_rises epoch (entry.Epoch n ∷ xs) up = omega (arith, up.0, number_rises (epoch_after epoch (entry.Epoch n)) xs up.1)

@@ -17,6 +17,7 @@ pub in_turn : {D : Type 0} (stands : D → Chronicle → Type 0) (went : D → L
     → Reads stands went before between (λ chronicle. AnswerIs first (answer_at chronicle one most)) → Reads stands went between after (λ chronicle. AnswerIs second (answer_at chronicle two most))
     → AnswersInTurn stands went before after one two most first second
 in_turn stands went follows carries before between after one two most first second a b = record {
+  some = a.some;
   others = a.others ++ b.others;
   theirs = others_append a.others b.others a.theirs b.theirs;
   grows = follows before between after a.others b.others a.grows b.grows;

@@ -15,3 +15,7 @@ pub mod Marks
 pub mod BookDesk
 pub mod InTurn
 pub mod Editing
+pub mod Keeping
+pub mod Along
+pub mod Telling
+pub mod Growing

@@ -1,5 +1,5 @@
 -- Whether one of the later events is asked for, by their software identifiers in order.
-use Rattle.std.proofs.Common.{◌≡◌, inl, inr, ℕ, suc, ◌+◌, ◌-◌, ◌<◌, ◌≤◌, ◌&&◌, ◌||◌, leb, Bool, true, false, not, List, [], ◌∷◌, ◌++◌, length, take, drop, refl, sym, ap, ◌∙◌, arith, take_all, length-drop, length-take}
+use Rattle.std.proofs.Common.{◌≡◌, inl, inr, ℕ, suc, ◌+◌, ◌-◌, ◌<◌, ◌≤◌, ◌&&◌, ◌||◌, leb, Bool, true, false, List, [], ◌∷◌, ◌++◌, length, take, drop, refl, sym, ap, ◌∙◌, arith, take_all, length-drop, length-take}
 use Rattle.std.specs.Prelude.{Option, max, option_to_list, slice_get}
 use Rattle.std.specs.List.{list_any}
 use Rattle.std.specs.List.Sorted.{IsPermutation}
@@ -35,16 +35,6 @@ later_is after targets (e ∷ es) = elim (cases_lt after e.eid) [
 any_at_all : (is : List (List ℕ)) → (length is ≡ 0 → list_any (is_wanted []) is ≡ false) × ((length is ≡ 0 → ⊥) → list_any (is_wanted []) is ≡ true)
 any_at_all [] = (λ none. refl, λ some. absurd (some refl))
 any_at_all (x ∷ xs) = (λ none. absurd (omega (arith, none)), λ some. refl)
-
--- Without targets each is asked for.
-pub all_later : (after : ℕ) (targets : List (List ℕ)) (es : List Event) (later : List (Bor (List ℕ))) (empty : Bool) → targets ≡ [] → values later ≡ later_idents after es
-    → (empty ≡ true → length later ≡ 0) → (empty ≡ false → length later ≡ 0 → ⊥) → not empty ≡ list_any (is_later after targets) es
-all_later after targets es later true none are is_empty is_not =
-    sym (later_is after targets es ∙ ap (λ (ts : List (List ℕ)). list_any (is_wanted ts) (later_idents after es)) none
-    ∙ (any_at_all (later_idents after es)).0 (omega (arith, is_empty refl, ap length are, length-map later (λ b. b.now))))
-all_later after targets es later false none are is_empty is_not =
-    sym (later_is after targets es ∙ ap (λ (ts : List (List ℕ)). list_any (is_wanted ts) (later_idents after es)) none
-    ∙ (any_at_all (later_idents after es)).1 (λ zero. is_not refl (omega (arith, zero, ap length are, length-map later (λ b. b.now)))))
 
 -- ---- in either order
 
@@ -93,6 +83,16 @@ module _ (log : Log) (is : IsLog log) (after first : ℕ) (begins : first ≡ ma
   same_from =
       let k : after + 1 - log.first ≡ first - log.first = omega (arith, begins) in
       from_is_drop (after + 1) log.first log.events is.numbered ∙ ap (λ (n : ℕ). drop n log.events) k
+
+  -- Without targets each is asked for.
+  pub any_kept : leb first log.last ≡ list_any (is_later after []) log.events
+  any_kept =
+      let count : length (later_idents after log.events) ≡ length log.events - (first - log.first) =
+      length-map (events_from (after + 1) log.events) (λ (e : Event). e.subject.content.ident) ∙ ap length same_from ∙ length-drop (first - log.first) log.events in
+      elim (cases_lt log.last first) [
+        | inl none ↦ lt-leb first log.last none ∙ sym (later_is after [] log.events ∙ (any_at_all (later_idents after log.events)).0 (omega (arith, count, none, is.count, begins)))
+        | inr some ↦ le-leb first log.last some ∙ sym (later_is after [] log.events ∙ (any_at_all (later_idents after log.events)).1 (λ zero. omega (arith, zero, count, some, is.count, begins)))
+      ]
 
   there : (eid : ℕ) → first ≤ eid → event_at log eid ≡ slice_get (events_from (after + 1) log.events) (eid - first)
   there eid above =

@@ -1,8 +1,7 @@
 -- A book behind an entry stands for the chronicle with that entry.
-use Rattle.std.proofs.Common.{◌≡◌, inl, inr, ℕ, ◌+◌, ◌-◌, ◌<◌, ◌≤◌, ◌^◌, eqb, leb, ltb, cond, not, ◌&&◌, Bool, true, false, Option, Some, None, List, [], ◌∷◌, ◌++◌, length, refl, sym, ap, ◌∙◌, subst, arith, length-append, eqb-true, leb-false, ltb-false}
+use Rattle.std.proofs.Common.{◌≡◌, ℕ, ◌+◌, ◌-◌, ◌<◌, ◌≤◌, ◌^◌, eqb, leb, ltb, cond, not, Bool, true, false, Option, Some, None, List, [], ◌∷◌, ◌++◌, length, refl, sym, ap, ◌∙◌, subst, arith, length-append, eqb-true, leb-false, ltb-false}
 use Rattle.std.specs.Prelude.{fold, max, Result, Ok, Err, OnOk, is_some}
-use Rattle.std.proofs.lemmas.Bool.{cases_lt, eqb-false, le-leb, lt-leb, cond-true}
-use Rattle.std.proofs.lemmas.List.Elements.{filter-append}
+use Rattle.std.proofs.lemmas.Bool.{eqb-false}
 use Rattle.swima_model.specs.declared.event.Action.{Action}
 use Rattle.swima_model.specs.declared.event.Action.TheVariants.{Creation, Deletion, Alteration}
 use Rattle.swima_model.specs.declared.event.Event.{Event}
@@ -12,6 +11,7 @@ use Rattle.swima_model.specs.Live.{live, record_of}
 use Rattle.swima_model.specs.Size.{are_large}
 use Rattle.swima_model.proofs.Living.{live_rises, live_more, live_none}
 use Rattle.event_log.specs.Log.{IsLog, events_from}
+use Rattle.event_log.proofs.Keeping.{from_from, pushed_events}
 use Rattle.collector_core.specs.declared.chronicle.Entry.{Entry}
 use Rattle.collector_core.specs.declared.chronicle.Entry.TheVariants as entry
 use Rattle.collector_core.specs.Chronicle.{Chronicle, extended, epoch_after, current, live_now, last_eid, trim_after, first_kept, created_by, next_id}
@@ -27,49 +27,7 @@ use Rattle.wire_base.specs.Stamp.{IsStamp}
 use Rattle.collector_core.proofs.Changing.{passes, create_allowed, unknown_false, more_eids}
 use Rattle.collector_core.proofs.Chronicles.{current_more, trims_more, next_more, current_honest, legal_event, legal_epoch, legal_trim}
 
--- ---- events from one identifier on, and of these from another
-
-both_step : {X : Type 0} (p q both : Bool) (x : X) (ps qs bs : List X) → (p && q) ≡ both → qs ≡ bs → cond p (cond q (x ∷ qs) qs) qs ≡ cond both (x ∷ bs) bs
-both_step true true true x ps qs bs is e = ap (λ (l : List _). x ∷ l) e
-both_step true true false x ps qs bs is e = absurd cc
-both_step true false true x ps qs bs is e = absurd cc
-both_step true false false x ps qs bs is e = e
-both_step false q true x ps qs bs is e = absurd cc
-both_step false q false x ps qs bs is e = e
-
-from_of_cond : (a : ℕ) (p : Bool) (x : Event) (xs : List Event) → events_from a (cond p (x ∷ xs) xs) ≡ cond p (events_from a (x ∷ xs)) (events_from a xs)
-from_of_cond a true x xs = refl
-from_of_cond a false x xs = refl
-
-both_from : (a b n : ℕ) → (leb b n && leb a n) ≡ leb (max b a) n
-both_from a b n = elim (cases_lt n b) [
-  | inl below ↦ ap (λ (t : Bool). t && leb a n) (lt-leb b n below) ∙ sym (lt-leb (max b a) n (omega (arith, below)))
-  | inr from ↦ elim (cases_lt n a) [
-    | inl below ↦ ap (λ (t : Bool). leb b n && t) (lt-leb a n below) ∙ none (leb b n) ∙ sym (lt-leb (max b a) n (omega (arith, below)))
-    | inr too ↦ ap (λ (t : Bool). t && leb a n) (le-leb b n from) ∙ le-leb a n too ∙ sym (le-leb (max b a) n (omega (arith, from, too)))
-  ]
-]
-  where
-    none : (t : Bool) → (t && false) ≡ false
-    none true = refl
-    none false = refl
-
-pub from_from : (a b : ℕ) (xs : List Event) → events_from a (events_from b xs) ≡ events_from (max b a) xs
-from_from a b [] = refl
-from_from a b (x ∷ xs) =
-    from_of_cond a (leb b x.eid) x (events_from b xs)
-    ∙ both_step (leb b x.eid) (leb a x.eid) (leb (max b a) x.eid) x (events_from b xs) (events_from a (events_from b xs)) (events_from (max b a) xs)
-    (both_from a b x.eid) (from_from a b xs)
-
 -- ---- events
-
--- The log's events behind one more.
-pushed_events : (a b : ℕ) (xs : List Event) (e : Event) → b ≤ e.eid → events_from a (events_from b xs ++ e ∷ []) ≡ events_from (max b a) (xs ++ e ∷ [])
-pushed_events a b xs e le =
-    let one : events_from b (e ∷ []) ≡ e ∷ [] = cond-true (leb b e.eid) (e ∷ []) [] (le-leb b e.eid le) in
-    ap (λ (l : List Event). events_from a (events_from b xs ++ l)) (sym one)
-    ∙ ap (events_from a) (sym (filter-append (λ (x : Event). leb b x.eid) xs (e ∷ [])))
-    ∙ from_from a b (xs ++ e ∷ [])
 
 -- The next identifier behind an event.
 next_step : (m next id : ℕ) (action : Action) → next ≡ m + 1 → (action ≡ Creation → id ≡ next) → next_after action next ≡ fold max m (created_by action id ++ []) + 1
@@ -280,7 +238,7 @@ alter_enters T old new chronicle stamp id content (Ok told) stands log stamped w
 
 -- The parts of a content without its body are within their limits.
 no_body : (held : Record) → IsContent held.content → IsContent (record_of_kind Ids held).content
-no_body held is = record { pen = is.pen; kind = is.kind; source = is.source; ident = is.ident; locator = is.locator; body = omega arith }
+no_body held is = record { pen = is.pen; kind = is.kind; source = is.source; ident = is.ident; locator = is.locator; body = omega arith; octets = (is.octets.0, is.octets.1, λ i. omega arith) }
 
 pub delete_enters : (T : Type 0) (old new : BookView) (chronicle : Chronicle) (stamp : List ℕ) (id : ℕ) (result : Result T BookError) → Stands old chronicle → IsLog old.log → IsStamp stamp
     → OnOk result ((held : Record) → record_of id old.records ≡ Some held → IsContent held.content) → OnOk result (are_large new.records ≡ false)

@@ -1,5 +1,5 @@
 -- What a collector answers at a chronicle (RFC 8412, sections 3.5, 3.7 and 5.6 to 5.10).
-use Rattle.std.specs.Prelude.{◌≡◌, ◌==◌, ◌||◌, ◌&&◌, ◌+◌, ◌-◌, ℕ, zero, suc, Bool, true, false, not, List, [], ◌∷◌, length, take, drop, filter, nat_le, nat_lt, if◌then◌else◌}
+use Rattle.std.specs.Prelude.{◌≡◌, ◌==◌, ◌||◌, ◌&&◌, ◌+◌, ◌-◌, ℕ, zero, suc, Bool, true, false, not, List, [], ◌∷◌, length, take, drop, filter, max, nat_le, nat_lt, if◌then◌else◌}
 use Rattle.std.specs.List.{list_any}
 use Rattle.std.specs.Str.{bytes_eq}
 use Rattle.swima_model.specs.declared.event.Event.{Event}
@@ -36,11 +36,6 @@ wanted_events targets events = filter (λ (e : Event). is_wanted targets e.subje
 abbrev pub if_fits : ℕ → Report → Answer
 if_fits most report = if nat_le (report_size report) most then answer.Report report else answer.TooLarge (report_size report) most
 
--- Of a list's fronts with at most so many items, the longest that passes a test; the empty one where none does.
-abbrev pub longest_front : {X : Type 0} → (List X → Bool) → List X → ℕ → List X
-longest_front test items zero = []
-longest_front test items (suc count) = if test (take (suc count) items) then take (suc count) items else longest_front test items count
-
 -- The event identifier before the first event that is left out, or the last where none is.
 abbrev pub consulted_before : List Event → ℕ → ℕ
 consulted_before [] last = last
@@ -49,28 +44,30 @@ consulted_before (event ∷ later) last = event.eid - 1
 -- The report of so many of the events from the front.
 abbrev pub events_report : Request → Point → List Event → ℕ → Report
 events_report request point events count =
-    Events request.kind false request.id point (consulted_before (drop count events) point.eid) (events_of_kind request.kind (take count events))
+    Events request.kind false request.id point (consulted_before (drop count events) point.eid)
+    (events_of_kind request.kind (take count events))
 
--- The events that fit: the longest front whose report is not too large.
-abbrev pub fitting : Request → Point → List Event → ℕ → List Event
-fitting request point events most =
-    longest_front (λ (some : List Event). nat_le (report_size (events_report request point some (length some))) most) events (length events)
+-- With so many of the events from the front the report fits.
+abbrev pub front_fits : Request → Point → List Event → ℕ → ℕ → Bool
+front_fits request point events most count = nat_le (report_size (events_report request point events count)) most
 
--- At least one, where there is one.
-abbrev pub at_least_one : ℕ → ℕ
-at_least_one zero = 1
-at_least_one (suc count) = suc count
+-- The greatest number that passes a test and is at most so large; 0 where none does.
+abbrev pub longest : (ℕ → Bool) → ℕ → ℕ
+longest test zero = 0
+longest test (suc count) = if test (suc count) then suc count else longest test count
 
 -- ---- answers
 
--- The report of as many of the events as fit, or of the first alone.
+-- The report of as many of the events from the front as fit (section 3.7.5). Where not even the first fits, it is that of the
+-- first alone, which is too large.
 abbrev pub told : Request → Point → List Event → ℕ → Report
-told request point events most = events_report request point events (at_least_one (length (fitting request point events most)))
+told request point events most = events_report request point events (max 1 (longest (front_fits request point events most) (length events)))
 
 -- The matching records that are live, at the point.
 abbrev pub inventory_at : Chronicle → Request → Report
 inventory_at chronicle request =
-    Inventory request.kind false request.id (point_of chronicle) (wanted_records request.targets (live_at (current chronicle) (last_eid chronicle) request.kind))
+    Inventory request.kind false request.id (point_of chronicle)
+    (wanted_records request.targets (live_at (current chronicle) (last_eid chronicle) request.kind))
 
 -- The matching events of the epoch from the earliest that was asked for.
 abbrev pub events_at : Chronicle → Request → List Event

@@ -17,10 +17,12 @@ pub record IsBook (next octets : ℕ) (records : List Record) : Type 0 where
 abbrev pub IsPlaceOf : List Record → ℕ → Option ℕ → Type 0
 IsPlaceOf records id None = record_of id records ≡ None
 IsPlaceOf records id (Some place) =
-    (before : List Record) × (held : Record) × (after : List Record) × (records ≡ before ++ held ∷ after) × (place ≡ length before) × (held.id ≡ id)
+    (before : List Record) × (held : Record) × (after : List Record) × (records ≡ before ++ held ∷ after) × (place ≡ length before)
+    × (held.id ≡ id)
 
 -- With this content in place of that of the record at the place, the records have so many octets, and not too many.
 abbrev pub IsExchange : List Record → ℕ → Content → ℕ → Type 0
 IsExchange records place content octets =
-    (octets ≤ MOST_RECORDS_OCTETS) × ((before : List Record) (held : Record) (after : List Record) → records ≡ before ++ held ∷ after → place ≡ length before
+    (octets ≤ MOST_RECORDS_OCTETS) × ((before : List Record) (held : Record) (after : List Record) → records ≡ before ++ held ∷ after
+    → place ≡ length before
     → octets ≡ records_octets (before ++ after) + content_octets content)

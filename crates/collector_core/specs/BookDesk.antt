@@ -30,22 +30,26 @@ pub extended_none : (chronicle : Chronicle) → extended chronicle [] ≡ chroni
 extended_none chronicle = ap (λ (xs : List Entry). record { start = chronicle.start; entries = xs }) (append-nil chronicle.entries)
 
 pub extended_more : (chronicle : Chronicle) (xs ys : List Entry) → extended (extended chronicle xs) ys ≡ extended chronicle (xs ++ ys)
-extended_more chronicle xs ys = ap (λ (zs : List Entry). record { start = chronicle.start; entries = zs }) (append_assoc chronicle.entries xs ys)
+extended_more chronicle xs ys = ap (λ (zs : List Entry). record { start = chronicle.start; entries = zs })
+    (append_assoc chronicle.entries xs ys)
 
 -- ---- the laws of a desk
 
 pub stays_book : (book : BookView) → BookWent book [] book
 stays_book book = record { own = tt; stood = λ chronicle stands. subst (Stands book) (sym (extended_none chronicle)) stands }
 
-pub went_on : (one two three : BookView) (first second : List Mark) → BookWent one first two → BookWent two second three → BookWent one (first ++ second) three
+pub went_on : (one two three : BookView) (first second : List Mark) → BookWent one first two → BookWent two second three
+    → BookWent one (first ++ second) three
 went_on one two three first second a b = record {
   own = own_append first second a.own b.own;
   stood = λ chronicle stands.
-      subst (Stands three) (extended_more chronicle (entries first) (entries second) ∙ ap (extended chronicle) (sym (entries_append first second)))
+      subst (Stands three) (extended_more chronicle (entries first) (entries second)
+      ∙ ap (extended chronicle) (sym (entries_append first second)))
       (b.stood (extended chronicle (entries first)) (a.stood chronicle stands));
 }
 
-pub went_with : (before after : BookView) (marks : List Mark) (chronicle : Chronicle) → BookWent before marks after → Stands before chronicle → Stands after (extended chronicle (entries marks))
+pub went_with : (before after : BookView) (marks : List Mark) (chronicle : Chronicle) → BookWent before marks after
+    → Stands before chronicle → Stands after (extended chronicle (entries marks))
 went_with before after marks chronicle went stands = went.stood chronicle stands
 
 pub takes_still : (before after : BookView) (marks : List Mark) → BookWent before marks after → true ≡ true

@@ -30,7 +30,7 @@ extended chronicle further = record chronicle { entries = chronicle.entries ++ f
 abbrev pub front : Chronicle → ℕ → Chronicle
 front chronicle count = record chronicle { entries = take count chronicle.entries }
 
--- ---- epochs
+-- ---- epochs (section 3.7.6)
 
 -- Records of these contents, with this identifier and those after it.
 abbrev pub identified_from : ℕ → List Content → List Record

@@ -71,25 +71,34 @@ deletes_not id state = delete_refusal state.last state.records id
 -- Of any desk: `stands desk chronicle` where it stands for the chronicle, and `went before marks after` where these entries
 -- came from the one to the other.
 module _ {D : Type 0} (stands : D → Chronicle → Type 0) (went : D → List Mark → D → Type 0) where
-  -- It was asked. Others' entries may have come first; behind them, at each chronicle that it stood for, this was answered.
+  -- It was asked. There is a chronicle that it stood for. Others' entries may have come first; behind them, at each
+  -- chronicle that it stood for, this was answered.
   pub record Reads (before after : D) (answered : Chronicle → Type 0) : Type 0 where
+    pub some : (chronicle : Chronicle) × stands before chronicle
     pub others : List Mark
     pub theirs : AreOthers others
     pub grows : went before others after
     pub answers : (chronicle : Chronicle) → stands before chronicle → answered (extended chronicle (entries others))
 
-  -- It was told to change. Behind others' entries the change was done, with an entry that is as it says, exactly where
+  -- Behind others' entries the change was done, with an entry that is as it says, exactly where
   -- nothing refuses it there. Memory is the last refusal.
-  abbrev pub Does : {T : Type 0} → (T → State → Entry → Type 0) → (State → Option BookError) → D → List Mark → D → Result T BookError → Type 0
+  abbrev pub Does : {T : Type 0} → (T → State → Entry → Type 0) → (State → Option BookError) → D → List Mark → D → Result T BookError
+      → Type 0
   Does says refusal before others after (Ok told) =
       (made : Entry) × went before (others ++ own_mark made ∷ []) after × ((state : State) × says told state made)
-      × ((chronicle : Chronicle) → stands before chronicle → (refusal (state_of (extended chronicle (entries others))) ≡ None) × says told (state_of (extended chronicle (entries others))) made)
+      × ((chronicle : Chronicle) → stands before chronicle → (refusal (state_of (extended chronicle (entries others))) ≡ None)
+      × says told (state_of (extended chronicle (entries others))) made)
   Does says refusal before others after (Err refused.Memory) =
-      went before others after × ((chronicle : Chronicle) → stands before chronicle → refusal (state_of (extended chronicle (entries others))) ≡ None)
+      went before others after × ((chronicle : Chronicle) → stands before chronicle
+      → refusal (state_of (extended chronicle (entries others))) ≡ None)
   Does says refusal before others after (Err error) =
-      went before others after × ((chronicle : Chronicle) → stands before chronicle → refusal (state_of (extended chronicle (entries others))) ≡ Some error)
+      went before others after × ((chronicle : Chronicle) → stands before chronicle
+      → refusal (state_of (extended chronicle (entries others))) ≡ Some error)
 
-  pub record Edits {T : Type 0} (says : T → State → Entry → Type 0) (refusal : State → Option BookError) (before after : D) (result : Result T BookError) : Type 0 where
+  -- It was told to change. There is a chronicle that it stood for. Others' entries may have come first.
+  pub record Edits {T : Type 0} (says : T → State → Entry → Type 0) (refusal : State → Option BookError) (before after : D)
+      (result : Result T BookError) : Type 0 where
+    pub some : (chronicle : Chronicle) × stands before chronicle
     pub others : List Mark
     pub theirs : AreOthers others
     pub done : Does says refusal before others after result

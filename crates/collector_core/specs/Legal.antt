@@ -1,5 +1,6 @@
 -- Which chronicles are legal: those that a collector can come to.
 use Rattle.std.specs.Prelude.{◌≡◌, ◌<◌, ◌≤◌, ◌+◌, ◌-◌, ◌^◌, List, ◌∷◌, ◌++◌, Some, All, length}
+use Rattle.wire_base.specs.Layout.{AreOctets}
 use Rattle.wire_base.specs.Stamp.{IsStamp}
 use Rattle.swima_model.specs.declared.event.Action.{Action}
 use Rattle.swima_model.specs.declared.event.Action.TheVariants.{Creation, Deletion, Alteration}
@@ -14,7 +15,7 @@ use Rattle.collector_core.specs.declared.chronicle.Entry.{Entry}
 use Rattle.collector_core.specs.declared.chronicle.Entry.TheVariants as entry
 use Rattle.collector_core.specs.Chronicle.{Start, Chronicle, current, history, live_now, last_eid, next_id}
 
--- A content whose parts are within their limits.
+-- A content whose parts are octets and within their limits (RFC 8412, section 5.7).
 pub record IsContent (content : Content) : Type 0 where
   pub pen : content.model.pen < 2 ^ 24
   pub kind : content.model.kind < 2 ^ 8
@@ -22,6 +23,7 @@ pub record IsContent (content : Content) : Type 0 where
   pub ident : length content.ident ≤ 65535
   pub locator : length content.locator ≤ 65535
   pub body : length content.body ≤ 1048576
+  pub octets : AreOctets content.ident × AreOctets content.locator × AreOctets content.body
 
 -- A start whose numbers are within their limits.
 pub record IsStart (start : Start) : Type 0 where
@@ -33,7 +35,8 @@ pub record IsStart (start : Start) : Type 0 where
 -- deleted the one that was live, without its body.
 abbrev pub IsSubject : Chronicle → Action → Record → Type 0
 IsSubject chronicle Creation subject = (subject.id ≡ next_id chronicle) × (subject.id < 2 ^ 32 - 1)
-IsSubject chronicle Deletion subject = (held : Record) × (record_of subject.id (live_now chronicle) ≡ Some held) × (subject ≡ record_of_kind Ids held)
+IsSubject chronicle Deletion subject = (held : Record) × (record_of subject.id (live_now chronicle) ≡ Some held)
+    × (subject ≡ record_of_kind Ids held)
 IsSubject chronicle Alteration subject = Unit {0}
 
 -- The event may follow on the chronicle, if it agrees with what is live.
@@ -52,4 +55,5 @@ MayFollow chronicle (entry.Trim first) = first ≤ last_eid chronicle + 1
 pub record IsLegal (chronicle : Chronicle) : Type 0 where
   pub start : IsStart chronicle.start
   pub honest : IsHonest (history chronicle)
-  pub follow : (before : List Entry) (entry : Entry) (after : List Entry) → chronicle.entries ≡ before ++ entry ∷ after → MayFollow (record chronicle { entries = before }) entry
+  pub follow : (before : List Entry) (entry : Entry) (after : List Entry) → chronicle.entries ≡ before ++ entry ∷ after
+      → MayFollow (record chronicle { entries = before }) entry

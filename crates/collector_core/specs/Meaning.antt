@@ -1,12 +1,18 @@
 -- What the definitions of chronicles mean.
-use Rattle.std.specs.Prelude.{◌≡◌, ◌≢◌, ℕ, List, [], ◌∷◌, ◌++◌, All, AllPairs}
+use Rattle.std.specs.Prelude.{◌≡◌, ◌≢◌, ◌<◌, ◌≤◌, ℕ, true, List, [], ◌∷◌, ◌++◌, All, AllPairs, length}
+use Rattle.wire_base.specs.Stamp.{IsStamp}
+use Rattle.swima_model.specs.declared.event.Event.{Event as EventValue}
+use Rattle.swima_model.specs.declared.report.Point.{Point}
 use Rattle.swima_model.specs.declared.report.Report.{Report}
+use Rattle.swima_model.specs.declared.report.Report.TheVariants.{Inventory, Events}
 use Rattle.swima_model.specs.History.{Epoch, History, IsHonest, Answers}
+use Rattle.swima_model.specs.Size.{MOST_RECORDS, report_count, report_size}
 use Rattle.swima_request.specs.declared.request.Request.{Request}
+use Rattle.collector_core.specs.declared.chronicle.Entry.{Entry}
 use Rattle.collector_core.specs.declared.answer.Answer.TheVariants as answer
-use Rattle.collector_core.specs.Chronicle.{Chronicle, front, history}
+use Rattle.collector_core.specs.Chronicle.{Chronicle, current, extended, front, history, last_eid}
 use Rattle.collector_core.specs.Legal.{IsLegal}
-use Rattle.collector_core.specs.Answering.{answer_at}
+use Rattle.collector_core.specs.Answering.{answer_at, events_report, moved_at, told}
 
 -- The histories of chronicles, one after another.
 abbrev pub histories : List Chronicle → History
@@ -15,12 +21,73 @@ histories (chronicle ∷ later) = history chronicle ++ histories later
 
 -- The histories of legal chronicles one after another are honest where no number of an epoch is used twice.
 abbrev pub ChroniclesJoin : Type 0
-ChroniclesJoin = (chronicles : List Chronicle) → All IsLegal chronicles → AllPairs (λ (one other : Epoch). one.number ≢ other.number) (histories chronicles) → IsHonest (histories chronicles)
+ChroniclesJoin = (chronicles : List Chronicle) → All IsLegal chronicles
+    → AllPairs (λ (one other : Epoch). one.number ≢ other.number) (histories chronicles) → IsHonest (histories chronicles)
 
 -- An answer to a request without targets, if it is a report, answers from the history.
 abbrev pub AnswersAreOfTheHistory : Type 0
-AnswersAreOfTheHistory = (chronicle : Chronicle) (request : Request) (most : ℕ) (report : Report) → IsLegal chronicle → request.targets ≡ [] → answer_at chronicle request most ≡ answer.Report report → Answers (history chronicle) report
+AnswersAreOfTheHistory = (chronicle : Chronicle) (request : Request) (most : ℕ) (report : Report) → IsLegal chronicle
+    → request.targets ≡ [] → answer_at chronicle request most ≡ answer.Report report → Answers (history chronicle) report
 
 -- What was legal was so at each earlier time.
 abbrev pub FrontsAreLegal : Type 0
 FrontsAreLegal = (chronicle : Chronicle) (count : ℕ) → IsLegal chronicle → IsLegal (front chronicle count)
+
+-- ---- what answers tell
+
+-- The moment of each event that is told is a stamp (section 5.8, "Timestamp").
+abbrev pub TellsStamps : Report → Type 0
+TellsStamps (Inventory kind fulfil id point records) = Unit {0}
+TellsStamps (Events kind fulfil id point consulted events) = All (λ (e : EventValue). IsStamp e.stamp) events
+
+-- The last event that was consulted is not behind the point (section 5.8, "Last Consulted EID").
+abbrev pub ConsultsWithin : Report → Type 0
+ConsultsWithin (Inventory kind fulfil id point records) = Unit {0}
+ConsultsWithin (Events kind fulfil id point consulted events) = consulted ≤ point.eid
+
+-- The report has at most so many octets, and no more than 65,536 records or events; and it may be written.
+pub record CanBeTold (most : ℕ) (report : Report) : Type 0 where
+  pub size : report_size report ≤ most
+  pub count : report_count report ≤ MOST_RECORDS
+  pub stamps : TellsStamps report
+  pub consulted : ConsultsWithin report
+
+-- At a legal chronicle, each report that is an answer can be told.
+abbrev pub AnswersCanBeTold : Type 0
+AnswersCanBeTold = (chronicle : Chronicle) (request : Request) (most : ℕ) (report : Report) → IsLegal chronicle
+    → answer_at chronicle request most ≡ answer.Report report → CanBeTold most report
+
+-- ---- the longest front of events
+
+-- Of the events a front is told that fits, or the first alone, or none where there is none; and no longer front fits
+-- (section 3.7.5).
+pub record TellsLongest (request : Request) (point : Point) (events : List EventValue) (most : ℕ) : Type 0 where
+  pub count : ℕ
+  pub within : count ≤ length events
+  pub some : 0 < length events → 0 < count
+  pub is : told request point events most ≡ events_report request point events count
+  pub fits : 1 < count → report_size (events_report request point events count) ≤ most
+  pub longer : (more : ℕ) → count < more → more ≤ length events → most < report_size (events_report request point events more)
+
+abbrev pub LongestFrontIsTold : Type 0
+LongestFrontIsTold = (request : Request) (point : Point) (events : List EventValue) (most : ℕ) → TellsLongest request point events most
+
+-- ---- points of one epoch
+
+-- Where something has moved since a point of the current epoch, the point is below the last event identifier.
+abbrev pub MovedIsLater : Type 0
+MovedIsLater = (chronicle : Chronicle) (after : Point) (targets : List (List ℕ)) → IsLegal chronicle
+    → after.epoch ≡ (current chronicle).number → moved_at chronicle after targets ≡ true → after.eid < last_eid chronicle
+
+-- While an epoch lasts, its last event identifier does not fall.
+abbrev pub LastRises : Type 0
+LastRises = (chronicle : Chronicle) (further : List Entry) → IsLegal (extended chronicle further)
+    → (current (extended chronicle further)).number ≡ (current chronicle).number
+    → last_eid chronicle ≤ last_eid (extended chronicle further)
+
+-- ---- growth
+
+-- A report that answered from a chronicle's history still does so behind further entries.
+abbrev pub AnswersStay : Type 0
+AnswersStay = (chronicle : Chronicle) (further : List Entry) (report : Report) → IsLegal (extended chronicle further)
+    → Answers (history chronicle) report → Answers (history (extended chronicle further)) report

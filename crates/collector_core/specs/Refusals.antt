@@ -25,7 +25,8 @@ create_refusal last next records content =
     if last == LAST then Some (refused.EidsSpent last)
     else if next == LAST then Some (refused.IdsSpent next)
     else if nat_le MOST_RECORDS (length records) then Some (refused.RecordsFull MOST_RECORDS)
-    else if nat_lt MOST_RECORDS_OCTETS (records_octets records + content_octets content) then Some (refused.BytesFull (records_octets records) (content_octets content))
+    else if nat_lt MOST_RECORDS_OCTETS (records_octets records + content_octets content)
+    then Some (refused.BytesFull (records_octets records) (content_octets content))
     else None
 
 -- The records but that of an identifier.
@@ -37,7 +38,8 @@ abbrev pub alter_refusal : ℕ → List Record → ℕ → Content → Option Bo
 alter_refusal last records id content =
     if last == LAST then Some (refused.EidsSpent last)
     else if not (is_some (record_of id records)) then Some (refused.UnknownRecord id)
-    else if nat_lt MOST_RECORDS_OCTETS (records_octets (others_than id records) + content_octets content) then Some (refused.BytesFull (records_octets (others_than id records)) (content_octets content))
+    else if nat_lt MOST_RECORDS_OCTETS (records_octets (others_than id records) + content_octets content)
+    then Some (refused.BytesFull (records_octets (others_than id records)) (content_octets content))
     else None
 
 -- The end of the record of this identifier.

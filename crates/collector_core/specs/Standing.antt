@@ -36,6 +36,10 @@ pub record Stands (book : BookView) (chronicle : Chronicle) : Type 0 where
   pub last : book.log.last ≡ last_eid chronicle
   pub events : book.log.events ≡ events_from (first_kept chronicle) (current chronicle).events
 
+-- The book stands for some chronicle.
+abbrev pub StandsForSome : BookView → Type 0
+StandsForSome book = (chronicle : Chronicle) × Stands book chronicle
+
 -- ---- changes
 
 -- The event that creates a record, behind this last event identifier, with this record identifier.
@@ -58,7 +62,8 @@ abbrev pub IsAlteration : ℕ → List ℕ → ℕ → Content → Entry → Typ
 IsAlteration last stamp id content made = made ≡ entry.Event (alteration last stamp id content)
 
 abbrev pub IsDeletion : ℕ → List Record → List ℕ → ℕ → Entry → Type 0
-IsDeletion last records stamp id made = (held : Record) × (record_of id records ≡ Some held) × (made ≡ entry.Event (deletion last stamp held))
+IsDeletion last records stamp id made = (held : Record) × (record_of id records ≡ Some held)
+    × (made ≡ entry.Event (deletion last stamp held))
 
 -- The next record identifier behind an event.
 abbrev pub next_after : Action → ℕ → ℕ

@@ -2,7 +2,7 @@
 
 ghost use Rattle.std.specs.Prelude.{◌≡◌, ◌≤◌, IfOk, length};
 ghost use Rattle.swima_model.specs.declared.report.Point.{Point};
-ghost use Rattle.collector_core.specs.Answering.{consulted_before, fitting, if_fits, told};
+ghost use Rattle.collector_core.specs.Answering.{consulted_before, front_fits, if_fits, longest, told};
 ghost use Rattle.collector_core.specs.BookAnswer.{inventory_of};
 ghost use Rattle.collector_core.specs.Borrowed.{values};
 
@@ -39,9 +39,12 @@ pub fn inventory(
     requires few { length records.now ≤ 65536 }
     ensures answer { IfOk result (λ answer. answer ≡ if_fits most (inventory_of request.now point (values records.now))) }
 {
-    let size = 16 + size_of_records(request.kind, records);
-    if size > most as u64 {
-        return Ok(Answer::TooLarge { size, max: most });
+    let octets = 16 + size_of_records(request.kind, records);
+    if octets > most as u64 {
+        return Ok(Answer::TooLarge {
+            size: octets,
+            max: most,
+        });
     }
     Ok(Answer::Report(Report::Inventory {
         kind: request.kind,
@@ -81,7 +84,8 @@ pub fn told(
 
 /// How many of these events fit, from the front.
 fn fitting(request: &Request, events: &[&Event], most: u32) -> usize
-    ensures count { (point : Point) → result ≡ length (fitting request.now point (values events.now) most) }
+    ensures count { (point : Point)
+        → result ≡ longest (front_fits request.now point (values events.now) most) (length (values events.now)) }
 {
     let mut size = 20;
     let mut count = 0;

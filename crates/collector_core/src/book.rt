@@ -5,7 +5,7 @@ ghost use Rattle.std.specs.Option.{option_copied};
 ghost use Rattle.wire_base.specs.Stamp.{IsStamp};
 ghost use Rattle.swima_model.specs.declared.record.Record.{Record};
 ghost use Rattle.swima_model.specs.Live.{record_of};
-ghost use Rattle.swima_model.specs.Size.{are_large, records_octets};
+ghost use Rattle.swima_model.specs.Size.{MOST_OCTETS, MOST_RECORDS_OCTETS, are_large, records_octets};
 ghost use Rattle.event_log.specs.Log.{IsLog, events_from};
 ghost use Rattle.collector_core.specs.declared.chronicle.Entry.{Entry};
 ghost use Rattle.collector_core.specs.declared.chronicle.Entry.TheVariants as entry;
@@ -16,7 +16,7 @@ ghost use Rattle.collector_core.specs.declared.error.BookError.TheVariants as re
 ghost use Rattle.collector_core.specs.Chronicle.{Chronicle, current, first_kept, last_eid, live_now, next_id, point_of};
 ghost use Rattle.collector_core.specs.Legal.{IsContent};
 ghost use Rattle.collector_core.specs.Refusals.{alter_refusal, create_refusal, delete_refusal, epoch_refusal, new_refusal, others_than, trim_refusal};
-ghost use Rattle.collector_core.specs.Standing.{BookView, Changes, ChangesExactly, Enters, IsAlteration, IsCreation, IsDeletion, MakesBook, Stands, alteration, book_after, creation};
+ghost use Rattle.collector_core.specs.Standing.{BookView, Changes, ChangesExactly, Enters, IsAlteration, IsCreation, IsDeletion, MakesBook, Stands, StandsForSome, alteration, book_after, creation};
 
 use crate::answer::{Answer, inventory, told};
 use crate::error::BookError;
@@ -47,7 +47,7 @@ pub struct Book {
 }
 
 impl Model for Book {
-    ghost use Rattle.collector_core.specs.Standing.{BookView};
+    ghost use Rattle.collector_core.specs.Standing.{BookView, StandsForSome};
 
     ghost Value = { BookView };
 
@@ -55,7 +55,8 @@ impl Model for Book {
 
     ghost view = { λ book. record { epoch = book.epoch; next = book.next; records = book.records.items; log = book.log } };
 
-    ghost invariant = { λ book. IsBook book.next book.octets book.records.items };
+    ghost invariant = { λ book. IsBook book.next book.octets book.records.items
+        × StandsForSome (record { epoch = book.epoch; next = book.next; records = book.records.items; log = book.log }) };
 }
 
 impl Book {
@@ -66,7 +67,8 @@ impl Book {
         requires few { cap ≤ 4096 }
         requires numbered { 1 ≤ epoch }
         ensures made { MakesBook (record { epoch = epoch; cap = cap; contents = base.now }) (new_refusal base.now) result }
-        ensures stands { IfOk result (λ book. Stands book (record { start = record { epoch = epoch; cap = cap; contents = base.now }; entries = [] })) }
+        ensures stands { IfOk result (λ book. Stands book
+            (record { start = record { epoch = epoch; cap = cap; contents = base.now }; entries = [] })) }
     {
         if base.len() > MOST_RECORDS {
             return Err(BookError::RecordsFull {
@@ -91,6 +93,7 @@ impl Book {
 
     /// The point: the current epoch and its last event identifier. It takes no memory.
     pub fn point(&self) -> Point
+        ensures some { StandsForSome self.now }
         ensures point { result ≡ record { epoch = self.now.epoch; eid = self.now.log.last } }
         ensures stands { (chronicle : Chronicle) → Stands self.now chronicle → result ≡ point_of chronicle }
     {
@@ -128,6 +131,7 @@ impl Book {
     /// Whether the epoch of the point is not the current one, or an event behind the point is no longer kept, or one of the
     /// targets has an event behind it; any event, where there are no targets. It takes no memory.
     pub fn moved(&self, after: Point, targets: &Idents) -> bool
+        ensures some { StandsForSome self.now }
         ensures moved { result ≡ book_moved self.now after targets.now }
         ensures stands { (chronicle : Chronicle) → Stands self.now chronicle → result ≡ moved_at chronicle after targets.now }
     {
@@ -136,6 +140,7 @@ impl Book {
 
     /// The answer to a request: a report of at most `max` octets, or the size of one that would have more; `Memory`.
     pub fn answer(&self, request: &Request, max: u32) -> Answer
+        ensures some { StandsForSome self.now }
         ensures answer { AnswerIs result (book_answer self.now request.now max) }
         ensures stands { (chronicle : Chronicle) → Stands self.now chronicle → AnswerIs result (answer_at chronicle request.now max) }
     {
@@ -148,9 +153,13 @@ impl Book {
     /// Creates a record, and gives its identifier. Refusals: `EidsSpent`, `IdsSpent`, `RecordsFull`, `BytesFull`, `Memory`.
     pub fn create(&mut self, stamp: &[u8; 20], content: &Content) -> Result<u32, BookError>
         requires stamp { IsStamp stamp.now }
-        ensures done { Changes (IsCreation self.old.log.last self.old.next stamp.now content.now) (create_refusal self.old.log.last self.old.next self.old.records content.now) self.old result self.new }
+        ensures some { StandsForSome self.old }
+        ensures done { Changes (IsCreation self.old.log.last self.old.next stamp.now content.now)
+            (create_refusal self.old.log.last self.old.next self.old.records content.now) self.old result self.new }
         ensures id { IfOk result (λ id. id ≡ self.old.next) }
-        ensures stands { (chronicle : Chronicle) → Stands self.old chronicle → Enters (IsCreation (last_eid chronicle) (next_id chronicle) stamp.now content.now) (create_refusal (last_eid chronicle) (next_id chronicle) (live_now chronicle) content.now) chronicle result self.new }
+        ensures stands { (chronicle : Chronicle) → Stands self.old chronicle
+            → Enters (IsCreation (last_eid chronicle) (next_id chronicle) stamp.now content.now)
+            (create_refusal (last_eid chronicle) (next_id chronicle) (live_now chronicle) content.now) chronicle result self.new }
     {
         self.try_create(stamp, content)
     }
@@ -158,8 +167,12 @@ impl Book {
     /// Replaces the content of a live record. Refusals: `EidsSpent`, `UnknownRecord`, `BytesFull`, `Memory`.
     pub fn alter(&mut self, stamp: &[u8; 20], id: u32, content: &Content) -> Result<(), BookError>
         requires stamp { IsStamp stamp.now }
-        ensures done { Changes (IsAlteration self.old.log.last stamp.now id content.now) (alter_refusal self.old.log.last self.old.records id content.now) self.old result self.new }
-        ensures stands { (chronicle : Chronicle) → Stands self.old chronicle → Enters (IsAlteration (last_eid chronicle) stamp.now id content.now) (alter_refusal (last_eid chronicle) (live_now chronicle) id content.now) chronicle result self.new }
+        ensures some { StandsForSome self.old }
+        ensures done { Changes (IsAlteration self.old.log.last stamp.now id content.now)
+            (alter_refusal self.old.log.last self.old.records id content.now) self.old result self.new }
+        ensures stands { (chronicle : Chronicle) → Stands self.old chronicle
+            → Enters (IsAlteration (last_eid chronicle) stamp.now id content.now)
+            (alter_refusal (last_eid chronicle) (live_now chronicle) id content.now) chronicle result self.new }
     {
         self.try_alter(stamp, id, content)
     }
@@ -167,8 +180,12 @@ impl Book {
     /// Deletes a live record. Its event keeps all but the body. Refusals: `EidsSpent`, `UnknownRecord`. It takes no memory.
     pub fn delete(&mut self, stamp: &[u8; 20], id: u32) -> Result<(), BookError>
         requires stamp { IsStamp stamp.now }
-        ensures done { ChangesExactly (IsDeletion self.old.log.last self.old.records stamp.now id) (delete_refusal self.old.log.last self.old.records id) self.old result self.new }
-        ensures stands { (chronicle : Chronicle) → Stands self.old chronicle → Enters (IsDeletion (last_eid chronicle) (live_now chronicle) stamp.now id) (delete_refusal (last_eid chronicle) (live_now chronicle) id) chronicle result self.new }
+        ensures some { StandsForSome self.old }
+        ensures done { ChangesExactly (IsDeletion self.old.log.last self.old.records stamp.now id)
+            (delete_refusal self.old.log.last self.old.records id) self.old result self.new }
+        ensures stands { (chronicle : Chronicle) → Stands self.old chronicle
+            → Enters (IsDeletion (last_eid chronicle) (live_now chronicle) stamp.now id)
+            (delete_refusal (last_eid chronicle) (live_now chronicle) id) chronicle result self.new }
     {
         self.try_delete(stamp, id)
     }
@@ -176,7 +193,8 @@ impl Book {
     /// Begins an epoch with what is live: its events begin anew with 1. Refusal: `EpochNotNew`. It takes no memory.
     pub fn begin_epoch(&mut self, epoch: u32) -> Result<(), BookError>
         ensures done { ChangesExactly (λ made. made ≡ entry.Epoch epoch) (epoch_refusal self.old.epoch epoch) self.old result self.new }
-        ensures stands { (chronicle : Chronicle) → Stands self.old chronicle → Enters (λ made. made ≡ entry.Epoch epoch) (epoch_refusal (current chronicle).number epoch) chronicle result self.new }
+        ensures stands { (chronicle : Chronicle) → Stands self.old chronicle
+            → Enters (λ made. made ≡ entry.Epoch epoch) (epoch_refusal (current chronicle).number epoch) chronicle result self.new }
     {
         self.try_begin_epoch(epoch)
     }
@@ -184,13 +202,15 @@ impl Book {
     /// Keeps no event below `first` from now on. Refusal: `TrimPast`. It takes no memory.
     pub fn trim(&mut self, first: u32) -> Result<(), BookError>
         ensures done { ChangesExactly (λ made. made ≡ entry.Trim first) (trim_refusal self.old.log.last first) self.old result self.new }
-        ensures stands { (chronicle : Chronicle) → Stands self.old chronicle → Enters (λ made. made ≡ entry.Trim first) (trim_refusal (last_eid chronicle) first) chronicle result self.new }
+        ensures stands { (chronicle : Chronicle) → Stands self.old chronicle
+            → Enters (λ made. made ≡ entry.Trim first) (trim_refusal (last_eid chronicle) first) chronicle result self.new }
     {
         self.try_trim(first)
     }
 
-    /// The same.
+    /// Whether something has moved, in terms of what the book holds.
     fn has_moved(&self, after: Point, targets: &Idents) -> bool
+        ensures some { StandsForSome self.now }
         ensures moved { result ≡ book_moved self.now after targets.now }
     {
         after.epoch != self.epoch
@@ -200,19 +220,28 @@ impl Book {
 
     /// The answer; an error is want of memory.
     fn try_answer(&self, request: &Request, max: u32) -> Result<Answer, Memory>
+        ensures some { StandsForSome self.now }
         ensures answer { IfOk result (λ answer. answer ≡ book_answer self.now request.now max) }
     {
         let wanted = Wanted::new(*self.records.allocator(), &request.targets)?;
-        // The first that is kept is at least 1, so 0 is below it.
-        if request.earliest < self.log.first() {
+        if self.is_dropped(request.earliest) {
             return self.inventory(request, &wanted, max);
         }
         self.told(request, &wanted, max)
     }
 
+    /// Whether an event identifier is below the first event that is kept. The first is at least 1, so 0 is below it.
+    fn is_dropped(&self, eid: u32) -> bool
+        ensures dropped { result ≡ nat_lt eid self.now.log.first }
+        ensures begins { 1 ≤ self.now.log.first }
+    {
+        eid < self.log.first()
+    }
+
     /// The inventory of the records that are asked for.
     fn inventory(&self, request: &Request, wanted: &Wanted, max: u32) -> Result<Answer, Memory>
-        ensures answer { IfOk result (λ answer. answer ≡ if_fits max (inventory_of request.now (book_point self.now) (wanted_records wanted.now self.now.records))) }
+        ensures answer { IfOk result (λ answer. answer
+            ≡ if_fits max (inventory_of request.now (book_point self.now) (wanted_records wanted.now self.now.records))) }
     {
         let alloc = *self.records.allocator();
         let records = wanted_records(alloc, wanted, self.records.as_slice())?;
@@ -222,16 +251,21 @@ impl Book {
     /// The events that are asked for, from the earliest on.
     fn told(&self, request: &Request, wanted: &Wanted, max: u32) -> Result<Answer, Memory>
         requires kept { self.now.log.first ≤ request.now.earliest }
-        ensures answer { IfOk result (λ answer. answer ≡ if_fits max (told request.now (book_point self.now) (wanted_events wanted.now (events_from request.now.earliest self.now.log.events)) max)) }
+        ensures answer { IfOk result (λ answer. answer
+            ≡ if_fits max (told request.now (book_point self.now)
+            (wanted_events wanted.now (events_from request.now.earliest self.now.log.events)) max)) }
     {
         let alloc = *self.records.allocator();
         let events = wanted_events(alloc, wanted, &self.log, request.earliest)?;
         told(alloc, request, self.point(), events.as_slice(), max)
     }
 
-    /// The same.
+    /// Creates a record where nothing refuses it. Its clauses are of the book alone.
     fn try_create(&mut self, stamp: &[u8; 20], content: &Content) -> Result<u32, BookError>
-        ensures done { Changes (IsCreation self.old.log.last self.old.next stamp.now content.now) (create_refusal self.old.log.last self.old.next self.old.records content.now) self.old result self.new }
+        requires stamp { IsStamp stamp.now }
+        ensures some { StandsForSome self.old }
+        ensures done { Changes (IsCreation self.old.log.last self.old.next stamp.now content.now)
+            (create_refusal self.old.log.last self.old.next self.old.records content.now) self.old result self.new }
         ensures id { IfOk result (λ id. id ≡ self.old.next) }
         ensures log { IsLog self.old.log }
         ensures fresh { record_of self.old.next self.old.records ≡ None }
@@ -247,9 +281,12 @@ impl Book {
         Ok(self.add(stamp, content)?)
     }
 
-    /// The same.
+    /// Replaces the content of a record where nothing refuses it. Its clauses are of the book alone.
     fn try_alter(&mut self, stamp: &[u8; 20], id: u32, content: &Content) -> Result<(), BookError>
-        ensures done { Changes (IsAlteration self.old.log.last stamp.now id content.now) (alter_refusal self.old.log.last self.old.records id content.now) self.old result self.new }
+        requires stamp { IsStamp stamp.now }
+        ensures some { StandsForSome self.old }
+        ensures done { Changes (IsAlteration self.old.log.last stamp.now id content.now)
+            (alter_refusal self.old.log.last self.old.records id content.now) self.old result self.new }
         ensures log { IsLog self.old.log }
         ensures content { IsContent content.now }
         ensures fits { OnOk result (are_large self.new.records ≡ false) }
@@ -264,9 +301,12 @@ impl Book {
         Ok(self.replace(stamp, place, content, held + given)?)
     }
 
-    /// The same.
+    /// Deletes a record where nothing refuses it. Its clauses are of the book alone.
     fn try_delete(&mut self, stamp: &[u8; 20], id: u32) -> Result<(), BookError>
-        ensures done { ChangesExactly (IsDeletion self.old.log.last self.old.records stamp.now id) (delete_refusal self.old.log.last self.old.records id) self.old result self.new }
+        requires stamp { IsStamp stamp.now }
+        ensures some { StandsForSome self.old }
+        ensures done { ChangesExactly (IsDeletion self.old.log.last self.old.records stamp.now id)
+            (delete_refusal self.old.log.last self.old.records id) self.old result self.new }
         ensures log { IsLog self.old.log }
         ensures content { OnOk result ((held : Record) → record_of id self.old.records ≡ Some held → IsContent held.content) }
         ensures fits { OnOk result (are_large self.new.records ≡ false) }
@@ -276,7 +316,7 @@ impl Book {
         Ok(())
     }
 
-    /// The same.
+    /// Begins an epoch where nothing refuses it. Its clause is of the book alone.
     fn try_begin_epoch(&mut self, epoch: u32) -> Result<(), BookError>
         ensures done { ChangesExactly (λ made. made ≡ entry.Epoch epoch) (epoch_refusal self.old.epoch epoch) self.old result self.new }
     {
@@ -291,7 +331,7 @@ impl Book {
         Ok(())
     }
 
-    /// The same.
+    /// Keeps no event below `first` where nothing refuses it. Its clause is of the book alone.
     fn try_trim(&mut self, first: u32) -> Result<(), BookError>
         ensures done { ChangesExactly (λ made. made ≡ entry.Trim first) (trim_refusal self.old.log.last first) self.old result self.new }
     {
@@ -305,6 +345,7 @@ impl Book {
 
     /// Says what is true of each book. It does nothing.
     fn is_sound(&self)
+        ensures some { StandsForSome self.now }
         ensures log { IsLog self.now.log }
         ensures fresh { record_of self.now.next self.now.records ≡ None }
         ensures next { self.now.next < 2 ^ 32 }
@@ -334,7 +375,9 @@ impl Book {
 
     /// The place of a live record that may be altered or deleted, or why it may not.
     fn place_to_change(&self, id: u32) -> Result<usize, BookError>
-        ensures place { IfOk result (λ place. (delete_refusal self.now.log.last self.now.records id ≡ None) × IsPlaceOf self.now.records id (Some place)) }
+        ensures some { StandsForSome self.now }
+        ensures place { IfOk result (λ place. (delete_refusal self.now.log.last self.now.records id ≡ None)
+            × IsPlaceOf self.now.records id (Some place)) }
         ensures refusal { IfErr result (λ error. (delete_refusal self.now.log.last self.now.records id ≡ Some error)) }
         ensures memory { result ≡ Err refused.Memory → ⊥ }
         ensures log { IsLog self.now.log }
@@ -353,16 +396,20 @@ impl Book {
     fn octets_beside(&self, place: usize) -> u64
         requires place { place < length self.now.records }
         ensures others { (id : ℕ) → IsPlaceOf self.now.records id (Some place) → result ≡ records_octets (others_than id self.now.records) }
-        ensures beside { (before : List Record) (held : Record) (after : List Record) → self.now.records ≡ before ++ held ∷ after → place ≡ length before → result ≡ records_octets (before ++ after) }
-        ensures within { result ≤ 268435456 }
+        ensures beside { (before : List Record) (held : Record) (after : List Record) → self.now.records ≡ before ++ held ∷ after
+            → place ≡ length before → result ≡ records_octets (before ++ after) }
+        ensures within { result ≤ MOST_RECORDS_OCTETS }
     {
         self.octets - self.records[place].content.octets()
     }
 
     /// Adds a record, which nothing refuses but want of memory.
     fn add(&mut self, stamp: &[u8; 20], content: &Content) -> Result<u32, Memory>
+        requires stamp { IsStamp stamp.now }
+        requires content { IsContent content.now }
         requires allowed { create_refusal self.old.log.last self.old.next self.old.records content.now ≡ None }
-        ensures added { IfOk result (λ id. (id ≡ self.old.next) × (self.new ≡ book_after self.old (entry.Event (creation self.old.log.last self.old.next stamp.now content.now)))) }
+        ensures added { IfOk result (λ id. (id ≡ self.old.next)
+            × (self.new ≡ book_after self.old (entry.Event (creation self.old.log.last self.old.next stamp.now content.now)))) }
         ensures memory { OnErr result (self.new ≡ self.old) }
         ensures fits { OnOk result (are_large self.new.records ≡ false) }
     {
@@ -393,10 +440,13 @@ impl Book {
         content: &Content,
         octets: u64,
     ) -> Result<(), Memory>
+        requires stamp { IsStamp stamp.now }
+        requires content { IsContent content.now }
         requires last { self.old.log.last < 2 ^ 32 - 1 }
         requires place { place < length self.old.records }
         requires octets { IsExchange self.old.records place content.now octets }
-        ensures altered { OnOk result ((id : ℕ) → IsPlaceOf self.old.records id (Some place) → self.new ≡ book_after self.old (entry.Event (alteration self.old.log.last stamp.now id content.now))) }
+        ensures altered { OnOk result ((id : ℕ) → IsPlaceOf self.old.records id (Some place)
+            → self.new ≡ book_after self.old (entry.Event (alteration self.old.log.last stamp.now id content.now))) }
         ensures memory { OnErr result (self.new ≡ self.old) }
         ensures fits { OnOk result (are_large self.new.records ≡ false) }
     {
@@ -419,10 +469,13 @@ impl Book {
 
     /// Removes the record at a place. It takes no memory.
     fn remove(&mut self, stamp: &[u8; 20], place: usize)
+        requires stamp { IsStamp stamp.now }
         requires last { self.old.log.last < 2 ^ 32 - 1 }
         requires place { place < length self.old.records }
-        ensures removed { (id : ℕ) → IsPlaceOf self.old.records id (Some place) → (made : Entry) × IsDeletion self.old.log.last self.old.records stamp.now id made × (self.new ≡ book_after self.old made) }
-        ensures content { (id : ℕ) (held : Record) → IsPlaceOf self.old.records id (Some place) → record_of id self.old.records ≡ Some held → IsContent held.content }
+        ensures removed { (id : ℕ) → IsPlaceOf self.old.records id (Some place) → (made : Entry)
+            × IsDeletion self.old.log.last self.old.records stamp.now id made × (self.new ≡ book_after self.old made) }
+        ensures content { (id : ℕ) (held : Record) → IsPlaceOf self.old.records id (Some place)
+            → record_of id self.old.records ≡ Some held → IsContent held.content }
         ensures fits { are_large self.new.records ≡ false }
     {
         let alloc = *self.records.allocator();
@@ -442,9 +495,9 @@ impl Book {
 
 /// Why so many octets may not stand beside those that are held.
 fn bytes_refused(held: u64, given: u64) -> Option<BookError>
-    requires held { held ≤ 268435456 }
-    requires given { given ≤ 1179646 }
-    ensures refusal { result ≡ (if nat_lt 268435456 (held + given) then Some (refused.BytesFull held given) else None) }
+    requires held { held ≤ MOST_RECORDS_OCTETS }
+    requires given { given ≤ MOST_OCTETS }
+    ensures refusal { result ≡ (if nat_lt MOST_RECORDS_OCTETS (held + given) then Some (refused.BytesFull held given) else None) }
 {
     if held + given > MOST_OCTETS {
         return Some(BookError::BytesFull { held, given });
@@ -464,7 +517,8 @@ fn push_record(records: &mut Vec<Record>, added: Record) -> Result<(), Memory>
 /// Replaces the content of the record at a place.
 fn put_content(records: &mut Vec<Record>, place: usize, content: Content)
     requires place { place < length records.old.items }
-    ensures put { (before : List Record) (held : Record) (after : List Record) → records.old.items ≡ before ++ held ∷ after → place ≡ length before → records.new.items ≡ before ++ record { id = held.id; content = content } ∷ after }
+    ensures put { (before : List Record) (held : Record) (after : List Record) → records.old.items ≡ before ++ held ∷ after
+        → place ≡ length before → records.new.items ≡ before ++ record { id = held.id; content = content } ∷ after }
 {
     records[place].content = content;
 }
@@ -472,7 +526,8 @@ fn put_content(records: &mut Vec<Record>, place: usize, content: Content)
 /// Takes the record at a place out.
 fn take_record(records: &mut Vec<Record>, place: usize) -> Record
     requires place { place < length records.old.items }
-    ensures taken { (before : List Record) (held : Record) (after : List Record) → records.old.items ≡ before ++ held ∷ after → place ≡ length before → (result ≡ held) × (records.new.items ≡ before ++ after) }
+    ensures taken { (before : List Record) (held : Record) (after : List Record) → records.old.items ≡ before ++ held ∷ after
+        → place ≡ length before → (result ≡ held) × (records.new.items ≡ before ++ after) }
 {
     records.remove(place)
 }

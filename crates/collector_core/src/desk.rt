@@ -63,19 +63,21 @@ pub trait Desk {
     fn answer(&mut self, request: &Request, max: u32) -> Answer
         ensures reads { Reads stands went self.old self.new (λ chronicle. AnswerIs result (answer_at chronicle request.now max)) };
 
-    /// From each state to itself nothing came.
+    /// Nothing came from a state to itself.
     ghost stays: { (desk : Self) → went desk [] desk };
 
-    /// Entries that came, and then others, came one after another.
-    ghost follows: { (one two three : Self) (first second : List Mark) → went one first two → went two second three → went one (first ++ second) three };
+    /// What came in two stretches came, one after the other, in both together.
+    ghost follows: { (one two three : Self) (first second : List Mark) → went one first two → went two second three
+        → went one (first ++ second) three };
 
-    /// For each chronicle that it stood for it stands for that one with what came behind it.
-    ghost carries: { (before after : Self) (marks : List Mark) (chronicle : Chronicle) → went before marks after → stands before chronicle → stands after (extended chronicle (entries marks)) };
+    /// Behind entries that came it stands for each chronicle that it stood for, with these entries behind it.
+    ghost carries: { (before after : Self) (marks : List Mark) (chronicle : Chronicle) → went before marks after → stands before chronicle
+        → stands after (extended chronicle (entries marks)) };
 
-    /// Whether it takes changes does not change.
+    /// Whether it takes changes stays as it is.
     ghost keeps: { (before after : Self) (marks : List Mark) → went before marks after → takes after ≡ takes before };
 
-    /// A chronicle that it stands for is legal.
+    /// It stands for legal chronicles alone.
     ghost legal: { (desk : Self) (chronicle : Chronicle) → stands desk chronicle → IsLegal chronicle };
 }
 

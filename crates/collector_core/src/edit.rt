@@ -64,10 +64,13 @@ impl Book {
     /// Does any change. Its refusals are those of the call of the same name.
     pub fn apply(&mut self, edit: Edit<'_>) -> Result<Changed, BookError>
         requires stamped { IsStamped edit }
-        ensures done { Changes (Makes edit.entry (book_state self.old)) (edit_refusal edit.entry (book_state self.old)) self.old result self.new }
+        ensures done { Changes (Makes edit.entry (book_state self.old))
+            (edit_refusal edit.entry (book_state self.old)) self.old result self.new }
         ensures exact { takes_memory edit.entry ≡ false → result ≡ Err refused.Memory → ⊥ }
-        ensures told { IfOk result (λ changed. (changed.point ≡ book_point self.new) × (changed.id ≡ edited_id edit.entry (book_state self.old))) }
-        ensures stands { (chronicle : Chronicle) → Stands self.old chronicle → Enters (Makes edit.entry (state_of chronicle)) (edit_refusal edit.entry (state_of chronicle)) chronicle result self.new }
+        ensures told { IfOk result (λ changed. (changed.point ≡ book_point self.new)
+            × (changed.id ≡ edited_id edit.entry (book_state self.old))) }
+        ensures stands { (chronicle : Chronicle) → Stands self.old chronicle
+            → Enters (Makes edit.entry (state_of chronicle)) (edit_refusal edit.entry (state_of chronicle)) chronicle result self.new }
     {
         let entered = self.enter(edit);
         match entered {
@@ -82,10 +85,12 @@ impl Book {
     /// Does it, and gives the identifier of the record.
     fn enter(&mut self, edit: Edit<'_>) -> Result<u32, BookError>
         requires stamped { IsStamped edit }
-        ensures done { Changes (Makes edit.entry (book_state self.old)) (edit_refusal edit.entry (book_state self.old)) self.old result self.new }
+        ensures done { Changes (Makes edit.entry (book_state self.old))
+            (edit_refusal edit.entry (book_state self.old)) self.old result self.new }
         ensures exact { takes_memory edit.entry ≡ false → result ≡ Err refused.Memory → ⊥ }
         ensures id { IfOk result (λ id. id ≡ edited_id edit.entry (book_state self.old)) }
-        ensures stands { (chronicle : Chronicle) → Stands self.old chronicle → Enters (Makes edit.entry (state_of chronicle)) (edit_refusal edit.entry (state_of chronicle)) chronicle result self.new }
+        ensures stands { (chronicle : Chronicle) → Stands self.old chronicle
+            → Enters (Makes edit.entry (state_of chronicle)) (edit_refusal edit.entry (state_of chronicle)) chronicle result self.new }
     {
         match edit {
             Edit::Create { stamp, content } => self.create(stamp, content),

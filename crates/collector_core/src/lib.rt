@@ -3,7 +3,8 @@
 //! It stands on `event_log`, `swima_request`, `swima_model` and `wire_base`, on `arrayvec` for room that is no memory, and on
 //! `thiserror` for the texts of errors. The crates above rest on `stands` of each call of `Book`, and on `edits` and `reads` of
 //! each call of `Desk`. The words of these clauses are in `specs/`: `Chronicle` (what was entered, and the history that it
-//! makes), `Legal`, `Answering`, `Refusals`, `Standing` and `Desks`. The functions of `laws` say what the definitions mean.
+//! makes), `Legal`, `Answering` and `BookAnswer` (answers at a chronicle, and the same by what a book holds), `Refusals`,
+//! `Standing` and `Desks`. The functions of `laws` say what the definitions mean.
 #![tactic(auto)]
 
 mod answer;

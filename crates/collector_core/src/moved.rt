@@ -1,6 +1,6 @@
 //! Whether something that is asked for has changed.
 
-ghost use Rattle.std.specs.Prelude.{◌≡◌, ◌<◌, ◌++◌, option_to_list};
+ghost use Rattle.std.specs.Prelude.{◌≡◌, ◌<◌, ◌++◌, [], option_to_list};
 ghost use Rattle.std.specs.List.{list_any};
 ghost use Rattle.std.specs.Str.{bytes_eq};
 ghost use Rattle.arrayvec.specs.ArrayVec.{array_vec_len};
@@ -22,12 +22,20 @@ const MOST_EVENTS: usize = 4096;
 pub fn has_later(log: &EventLog, after: u32, targets: &Idents) -> bool
     ensures later { result ≡ list_any (is_later after targets.now) log.now.events }
 {
-    let mut later = later_idents(log, after);
     if targets.is_empty() {
-        return !later.is_empty();
+        return keeps_later(log, after);
     }
+    let mut later = later_idents(log, after);
     later.sort_unstable();
     has_one_of(later.as_slice(), targets)
+}
+
+/// Whether the log keeps any event behind `after`.
+fn keeps_later(log: &EventLog, after: u32) -> bool
+    ensures later { result ≡ list_any (is_later after []) log.now.events }
+{
+    let first = (log.first() as u64).max(after as u64 + 1);
+    first <= log.last() as u64
 }
 
 /// The software identifiers of the events behind `after`.

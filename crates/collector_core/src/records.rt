@@ -3,6 +3,7 @@
 ghost use Rattle.std.specs.Prelude.{◌≡◌, ◌<◌, ◌≤◌, ◌+◌, All, IfOk, length};
 ghost use Rattle.std.specs.List.{sum_by};
 ghost use Rattle.std.specs.List.Sorted.{IsStrictlyIncreasing};
+ghost use Rattle.wire_base.specs.Layout.{AreOctets};
 ghost use Rattle.swima_model.specs.InOrder.{ids};
 ghost use Rattle.swima_model.specs.Size.{content_octets};
 ghost use Rattle.collector_core.specs.Book.{IsPlaceOf};
@@ -50,14 +51,21 @@ pub fn identified(alloc: Global, contents: &[Content]) -> Result<Vec<Record>, Me
     Ok(records)
 }
 
-/// Says that the parts of a content are within their limits. It does nothing.
+/// Says that the parts of a content are octets and within their limits. It does nothing.
 pub fn within_limits(content: &Content)
     ensures content { IsContent content.now }
 {
     let _pen = content.model.pen;
     let _kind = content.model.kind;
     let _source = content.source;
-    let _ident = content.ident.bytes();
-    let _locator = content.locator.bytes();
-    let _body = content.body.bytes();
+    are_octets(content.ident.bytes());
+    are_octets(content.locator.bytes());
+    are_octets(content.body.bytes());
+}
+
+/// Says that each octet is one. It does nothing.
+fn are_octets(octets: &[u8])
+    ensures octets { AreOctets octets.now }
+{
+    let _count = octets.len();
 }

@@ -113,7 +113,8 @@ fn choose<'a>(
     log: &'a EventLog,
     eid: u32,
 ) -> Result<(), Memory>
-    ensures chosen { OnOk result (values chosen.new.items ≡ values chosen.old.items ++ wanted_events wanted.now (option_to_list (event_at log.now eid))) }
+    ensures chosen { OnOk result (values chosen.new.items
+        ≡ values chosen.old.items ++ wanted_events wanted.now (option_to_list (event_at log.now eid))) }
 {
     if let Some(event) = log.get(eid) {
         if wanted.has(&event.subject.content.ident) {

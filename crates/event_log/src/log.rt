@@ -127,6 +127,6 @@ fn drop_front(events: &mut VecDeque<Event>, count: u32)
     ensures room { deque_capacity events.new ≡ deque_capacity events.old }
 {
     for _ in 0..count {
-        events.pop_front();
+        let _dropped = events.pop_front();
     }
 }

@@ -7,14 +7,14 @@ use Rattle.swima_model.specs.declared.report.Report.TheVariants.{Events}
 use Rattle.swima_model.specs.Kinds.{events_of_kind}
 use Rattle.swima_model.specs.Size.{event_size}
 use Rattle.collector_core.specs.declared.answer.Answer.TheVariants as answer
-use Rattle.collector_core.specs.Answering.{consulted_before, fitting}
+use Rattle.collector_core.specs.Answering.{consulted_before, front_fits, longest}
 use Rattle.collector_core.specs.Borrowed.{values}
 use Rattle.collector_core.proofs.Fitting.{told_fits, told_too_large}
 use Rattle.collector_core.proofs.answer.told.Goals as goal
 
 pub returns-then-size-most : goal.returns-then-size-most
 returns-then-size-most c =
-    let count : c.min-count.result ≡ min (max (length (fitting c.args.request.now c.args.point (values c.args.events.now) c.args.most)) 1) (length (values c.args.events.now)) =
+    let count : c.min-count.result ≡ min (max (longest (front_fits c.args.request.now c.args.point (values c.args.events.now) c.args.most) (length (values c.args.events.now))) 1) (length (values c.args.events.now)) =
     omega (arith, c.min-count.ensures, c.max.ensures, c.fitting.ensures.count c.args.point, length-map c.args.events.now (λ b. b.now)) in
     record {
       answer = told_too_large c.args.request.now c.args.point (values c.args.events.now) c.args.most c.min-count.result (20 + c.size_of_events-size.result) count
@@ -24,7 +24,7 @@ returns-then-size-most c =
 
 pub returns : goal.returns
 returns c =
-    let count : c.min-count.result ≡ min (max (length (fitting c.args.request.now c.args.point (values c.args.events.now) c.args.most)) 1) (length (values c.args.events.now)) =
+    let count : c.min-count.result ≡ min (max (longest (front_fits c.args.request.now c.args.point (values c.args.events.now) c.args.most) (length (values c.args.events.now))) 1) (length (values c.args.events.now)) =
     omega (arith, c.min-count.ensures, c.max.ensures, c.fitting.ensures.count c.args.point, length-map c.args.events.now (λ b. b.now)) in
     record {
       answer = ap (λ (n : ℕ). answer.Report (Events c.args.request.now.kind false c.args.request.now.id c.args.point n c.in_ok-events_of_kind.field-0))

@@ -1,18 +1,16 @@
 use Rattle.std.proofs.Common.{rules, ◌≡◌, ◌∙◌, ℕ, List, [], ap, length, subst, sym}
 use Rattle.std.specs.List.Sorted.{IsPermutation}
-use Rattle.std.proofs.lemmas.Bool.{eqb-false, eqb-true}
+use Rattle.std.specs.List.{list_any}
 use Rattle.std.proofs.lemmas.List.{take_at}
 use denote.Ref.{Bor}
-use Rattle.collector_core.proofs.Moving.{all_later, one_later}
+use Rattle.collector_core.specs.Answering.{is_later}
+use Rattle.collector_core.proofs.Moving.{one_later}
 use Rattle.collector_core.proofs.moved.has_later.Goals as goal
 
 pub returns-then-is_empty : goal.returns-then-is_empty
 returns-then-is_empty c =
     let none : c.args.targets.now ≡ [] = search rules in
-    record {
-      later = all_later c.args.after c.args.targets.now c.args.log.now.events c.later_idents-later.result.items c.is_empty-then-is_empty.result none c.later_idents-later.ensures.idents
-          (λ is. eqb-true _ _ (sym c.is_empty-then-is_empty.ensures ∙ is)) (λ is. eqb-false _ _ (sym c.is_empty-then-is_empty.ensures ∙ is));
-    }
+    record { later = c.keeps_later.ensures.later ∙ ap (λ (targets : List (List ℕ)). list_any (is_later c.args.after targets) c.args.log.now.events) (sym none) }
 
 pub returns : goal.returns
 returns c =

@@ -2,4 +2,4 @@ use Rattle.collector_core.proofs.BookDesk.{book_reads}
 use Rattle.collector_core.proofs.desk.BookDesk.moved.Goals as goal
 
 pub returns : goal.returns
-returns c = record { reads = book_reads c.args.self.now _ c.moved.ensures.stands }
+returns c = record { reads = book_reads c.args.self.now _ c.moved.ensures.some c.moved.ensures.stands }

@@ -1,0 +1,5 @@
+use Rattle.collector_core.proofs.BookDesk.{book_reads}
+use Rattle.collector_core.proofs.desk.BookDesk.point.Goals as goal
+
+pub returns : goal.returns
+returns c = record { reads = book_reads c.args.self.now _ c.point.ensures.some c.point.ensures.stands }
