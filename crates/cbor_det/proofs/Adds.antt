@@ -132,7 +132,7 @@ added xs ys place p fits is =
     ∙ ap (λ (ps : Pairs). join (listed (take place xs)) ps) (sym (insert_first k v (listed (drop place xs)) fits.back))
     ∙ sym (passes k v (listed (take place xs)) (listed (drop place xs)) fits.front) ∙ ap (λ (ps : Pairs). insert k v ps) (sym parts)
 
-made_pair : (key value : Item) → pair_view (roll-Pair (record { key = key; value = value })) ≡ (view key, view value)
+pub made_pair : (key value : Item) → pair_view (roll-Pair (record { key = key; value = value })) ≡ (view key, view value)
 made_pair key value = search (rules, the_lemmas)
 
 -- The pairs of the code with one more at its place. `held` is the key while it has its spelling, and `item` the key again.

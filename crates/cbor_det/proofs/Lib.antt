@@ -22,3 +22,5 @@ pub mod Fed
 pub mod Outcomes
 pub mod Adds
 pub mod Under
+pub mod Others
+pub mod Puts

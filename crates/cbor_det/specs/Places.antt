@@ -1,5 +1,5 @@
 -- The place of a key among rising pairs, as the code holds them.
-use Rattle.std.specs.Prelude.{◌≡◌, ◌≤◌, ℕ, List, length, take, drop, Contains, Option, Some, None}
+use Rattle.std.specs.Prelude.{◌≡◌, ◌≤◌, ℕ, suc, List, [], ◌∷◌, if◌then◌else◌, length, take, drop, Contains, Option, Some, None}
 use Rattle.std.specs.Ordering.{nat_cmp}
 use Rattle.std.specs.declared.cmp.Ordering.TheVariants.{Less}
 use Rattle.std.specs.Cmp.Lexicographic.{slice_cmp}
@@ -8,7 +8,8 @@ use Rattle.cbor_det.specs.Term.{Term, Pairs, no_pairs, pair}
 use Rattle.cbor_det.specs.Canonical.{canon}
 use Rattle.cbor_det.specs.Spelling.{IsBelow}
 use Rattle.cbor_det.specs.Faults.{keys}
-use Rattle.cbor_det.specs.View.{listed}
+use Rattle.cbor_det.specs.Adding.{is_above}
+use Rattle.cbor_det.specs.View.{pair_view, listed}
 
 -- the keys of these pairs are below this one
 abbrev pub AreBelow : Pairs → Term → Type 0
@@ -26,3 +27,8 @@ pub record IsPlace (k : Term) (xs : List Pair) (place : ℕ) : Type 0 where
 abbrev pub IsFound : Term → List Pair → Option ℕ → Type 0
 IsFound k xs None = Contains (keys (listed xs)) (canon k)
 IsFound k xs (Some place) = IsPlace k xs place
+
+-- how many pairs at the front have keys that are below this one
+abbrev pub front_length : Term → List Pair → ℕ
+front_length k [] = 0
+front_length k (x ∷ xs) = if is_above k (pair_view x).0 then suc (front_length k xs) else 0

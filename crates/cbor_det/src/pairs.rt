@@ -1,13 +1,13 @@
 //! The pairs of a map, as a caller sees them.
 
-ghost use Rattle.std.specs.Prelude.{◌≡◌, ◌≤◌, IfOk};
+ghost use Rattle.std.specs.Prelude.{◌≡◌, ◌≤◌, IfOk, OnOk, length};
 ghost use Rattle.std.specs.Cmp.Lexicographic.{slice_cmp};
 ghost use Rattle.std.specs.Option.{option_map};
 ghost use Rattle.std.specs.Ordering.{nat_cmp};
-ghost use Rattle.cbor_det.specs.Adding.{IsAdded};
+ghost use Rattle.cbor_det.specs.Adding.{IsAdded, is_above, put};
 ghost use Rattle.cbor_det.specs.Canonical.{canon};
-ghost use Rattle.cbor_det.specs.Lookup.{key_at, value_at, value_under, is_unsigned};
-ghost use Rattle.cbor_det.specs.Places.{IsFound};
+ghost use Rattle.cbor_det.specs.Lookup.{key_at, value_at, value_under, is_unsigned, is_one_of, other_than};
+ghost use Rattle.cbor_det.specs.Places.{IsFound, front_length};
 ghost use Rattle.cbor_det.specs.Proper.{IsProper, IsProperMap};
 ghost use Rattle.cbor_det.specs.Spelling.{Rises};
 ghost use Rattle.cbor_det.specs.Term.{depth, pair_count, no_pairs};
@@ -20,7 +20,7 @@ use crate::write::spell;
 use std::alloc::Global;
 use std::cmp::Ordering;
 use thiserror::Error;
-use wire_base::{List, Memory};
+use wire_base::{List, Memory, TryCopy};
 
 /// Why a pair was not added.
 #[derive(Clone, Copy, Debug, PartialEq, Eq, Error)]
@@ -49,6 +49,11 @@ impl Pairs {
         Pairs {
             pairs: List::new(alloc),
         }
+    }
+
+    /// The allocator that the pairs take their memory from.
+    pub fn allocator(&self) -> Global {
+        self.pairs.allocator()
     }
 
     /// How many pairs there are.
@@ -90,6 +95,32 @@ impl Pairs {
         None
     }
 
+    /// A copy of the pairs whose keys are none of these unsigned integers; `Memory` where there is no room for it.
+    pub fn other_than(&self, keys: &[u32]) -> Result<Pairs, Memory>
+        ensures others { IfOk result (λ made. pairs_view made ≡ other_than keys.now (pairs_view self.now)) }
+    {
+        let mut others = List::new(self.pairs.allocator());
+        for pair in self.pairs.as_slice() {
+            if !is_one_of(&pair.key, keys) {
+                let key = pair.key.copy()?;
+                let value = pair.value.copy()?;
+                others.push(Pair { key, value })?;
+            }
+        }
+        Ok(Pairs { pairs: others })
+    }
+
+    /// Puts a pair before the first whose key's canonical spelling is not below its own: among rising pairs that do not hold
+    /// the key, at its place. It is looked for from the front. At `Memory` the pairs are as they were.
+    pub fn put(&mut self, key: Item, value: Item) -> Result<(), Memory>
+        ensures put { OnOk result (pairs_view self.new ≡ put (view key) (view value) (pairs_view self.old)) }
+    {
+        let key = Key::new(self.pairs.allocator(), key)?;
+        let place = front_length(self.pairs.allocator(), self.pairs.as_slice(), &key)?;
+        let key = key.into_item();
+        self.pairs.insert(place, Pair { key, value })
+    }
+
     /// Puts a pair at its place in the order of the keys' canonical spellings. `Doubled` exactly where an equal key is held;
     /// `Memory` where there is no room. A refused pair is dropped, and the pairs are as they were.
     pub fn add(&mut self, key: Item, value: Item) -> Result<(), PairRefused>
@@ -120,6 +151,41 @@ fn is_unsigned(item: &Item, number: u64) -> bool
     match item {
         Item::Int(found) => *found >= 0 && *found as u64 == number,
         _ => false,
+    }
+}
+
+/// Whether the item is one of these unsigned integers.
+fn is_one_of(item: &Item, numbers: &[u32]) -> bool
+    ensures one { result ≡ is_one_of numbers.now (view item.now) }
+{
+    for number in numbers {
+        if is_unsigned(item, *number as u64) {
+            return true;
+        }
+    }
+    false
+}
+
+/// How many pairs at the front have keys below this one.
+fn front_length(alloc: Global, pairs: &[Pair], key: &Key) -> Result<usize, Memory>
+    ensures front { IfOk result (λ place. place ≡ front_length (view key.now.item) pairs.now) }
+    ensures within { IfOk result (λ place. place ≤ length pairs.now) }
+{
+    for place in 0..pairs.len() {
+        if !is_above(alloc, key, &pairs[place])? {
+            return Ok(place);
+        }
+    }
+    Ok(pairs.len())
+}
+
+/// Whether the key is above that of the pair.
+fn is_above(alloc: Global, key: &Key, pair: &Pair) -> Result<bool, Memory>
+    ensures above { IfOk result (λ above. above ≡ is_above (view key.now.item) (view pair.now.key)) }
+{
+    match compare(alloc, key, pair)? {
+        Ordering::Greater => Ok(true),
+        _ => Ok(false),
     }
 }
 

@@ -102,3 +102,18 @@ fn is_int(item: Option<&Item>, number: i64) -> bool {
         },
     }
 }
+
+#[test]
+fn puts_pairs(rt: HostRuntime) -> Result<(), Fail> {
+    let mut pairs = Pairs::new(rt.alloc());
+    pairs.put(Item::Int(24), Item::Int(-1))?;
+    pairs.put(Item::Int(0), Item::Int(7))?;
+    pairs.put(Item::Int(-1), Item::Int(8))?;
+    assert!(rt; is_int(pairs.key(0), 0));
+    assert!(rt; is_int(pairs.key(2), -1));
+    let others = pairs.other_than(&[7, 24, 5])?;
+    assert_eq!(rt; others.len(), 2);
+    assert!(rt; is_int(others.value(0), 7));
+    assert!(rt; is_int(others.value(1), 8));
+    Ok(())
+}
