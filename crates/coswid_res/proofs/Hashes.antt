@@ -1,0 +1,21 @@
+-- An array of another number than two is no hash.
+use Rattle.std.proofs.Common.{◌≡◌, List, [], ◌∷◌, length, map, refl, sym, subst, Option}
+use Rattle.cbor_det.specs.declared.item.Item.{Item}
+use Rattle.coswid_res.specs.declared.fault.FormFault.{FormFault}
+use Rattle.coswid_res.specs.declared.fault.FormRefused.{FormRefused}
+use Rattle.coswid_res.specs.declared.fault.FormRefused.TheVariants as refused
+use Rattle.cbor_det.specs.View.{view, terms_of}
+use Rattle.coswid_res.specs.Fault.{hash_fault, wrong_form}
+use Rattle.coswid_res.specs.Reading.{Tells}
+
+others : (xs : List Item) → (length xs ≡ 2 → ⊥) → hash_fault (terms_of (map view xs)) ≡ wrong_form
+others [] not = refl
+others (x ∷ []) not = refl
+others (x ∷ y ∷ []) not = absurd (not refl)
+others (x ∷ y ∷ z ∷ zs) not = refl
+
+here_told : (first : Option FormFault) (e : FormRefused) → first ≡ wrong_form → e ≡ refused.Form (record { kind = 2; path = [] }) → Tells first e
+here_told first e wrong is = let P : FormRefused → Type 0 = λ r. Tells first r in subst P (sym is) wrong
+
+pub other_told : (xs : List Item) (e : FormRefused) → (length xs ≡ 2 → ⊥) → e ≡ refused.Form (record { kind = 2; path = [] }) → Tells (hash_fault (terms_of (map view xs))) e
+other_told xs e not is = here_told (hash_fault (terms_of (map view xs))) e (others xs not) is

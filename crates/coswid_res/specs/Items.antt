@@ -1,0 +1,31 @@
+-- The one item that a value is written as, and the pairs that a map is written with, each put at its place in key order.
+use Rattle.std.specs.Prelude.{ℕ, pos, List, [], ◌∷◌, Option, Some, None}
+use Rattle.cbor_det.specs.Term.{Term, Terms, Pairs, integer, octets, text, array, tagged, no_terms, term}
+use Rattle.cbor_det.specs.Adding.{put}
+use Rattle.cbor_det.specs.View.{terms_of}
+use Rattle.coswid_res.specs.declared.hash.HashEntry.{HashEntry}
+
+-- with its tag
+abbrev pub uri_item : List ℕ → Term
+uri_item s = tagged 32 (text s)
+
+abbrev pub hash_item : HashEntry → Term
+hash_item h = array (term (integer h.algorithm) (term (octets h.value) no_terms))
+
+-- one alone, and more as an array
+abbrev pub row_item : List Term → Term
+row_item (t ∷ []) = t
+row_item ts = array (terms_of ts)
+
+-- A key that must be there, and one that may be.
+abbrev pub required_pair : {A : Type 0} → ℕ → (A → Term) → A → Pairs → Pairs
+required_pair k item v ps = put (integer (pos k)) (item v) ps
+
+abbrev pub optional_pair : {A : Type 0} → ℕ → (A → Term) → Option A → Pairs → Pairs
+optional_pair k item None ps = ps
+optional_pair k item (Some v) ps = put (integer (pos k)) (item v) ps
+
+-- the extras, with the fields put in one by one
+abbrev pub put_all : List (Pairs → Pairs) → Pairs → Pairs
+put_all [] ps = ps
+put_all (field ∷ fields) ps = put_all fields (field ps)

@@ -1,0 +1,98 @@
+//! What is wrong with the form of an item.
+
+ghost use Rattle.std.specs.Prelude.{◌≡◌, ◌<◌, ◌^◌, ◌∷◌, pos, Option, Some, []};
+ghost use Rattle.coswid_res.specs.Fault.{fault, under};
+ghost use Rattle.coswid_res.specs.Reading.{Tells};
+ghost use Rattle.coswid_res.specs.declared.fault.FormFault.{FormFault as FaultValue};
+ghost use Rattle.coswid_res.specs.declared.fault.FormRefused.TheVariants as refused;
+
+use std::alloc::Global;
+use thiserror::Error;
+use wire_base::{List, Memory};
+
+/// The keys and indices that lead from the top of an item to a part of it. An index stands only where an array is written.
+pub type Path = List<i64>;
+
+/// A form fault: the first in the order in which they are looked for.
+#[derive(Debug, Drop)]
+pub struct FormFault {
+    /// Which fault it is, 1 to 4: a missing key, a wrong form, both payload and evidence, an item that is too deep.
+    pub kind: u8,
+    /// Where it is: the path to the missing key, or to the value in a wrong form; empty for kinds 3 and 4.
+    pub path: Path,
+}
+
+/// A required key is not there.
+pub const MISSING_KEY: u8 = 1;
+
+/// A value is in no form that its key has.
+pub const WRONG_FORM: u8 = 2;
+
+/// A tag has both a payload and evidence.
+pub const BOTH: u8 = 3;
+
+/// An untagged item is so deep that it would be too deep under its tag.
+pub const DEEP: u8 = 4;
+
+/// Why no value was read from an item.
+#[derive(Debug, Drop, Error)]
+pub enum FormRefused {
+    /// The item is not in the form.
+    #[error("a form fault")]
+    Form(FormFault),
+    /// Want of memory.
+    #[error("out of memory")]
+    Memory,
+}
+
+impl From<Memory> for FormRefused {
+    ghost from_gives = { λ _ e. e ≡ refused.Memory };
+
+    fn from(_memory: Memory) -> Self {
+        FormRefused::Memory
+    }
+}
+
+impl FormRefused {
+    /// A fault of the item itself. It takes no memory.
+    pub fn here(alloc: Global, kind: u8) -> Self
+        ensures fault { result ≡ refused.Form (record { kind = kind; path = [] }) }
+    {
+        let path = List::new(alloc);
+        FormRefused::Form(FormFault { kind, path })
+    }
+
+    /// A fault of what stands at the key or index `place` of the item; `Memory` where the path has no room.
+    pub fn at(alloc: Global, kind: u8, place: u32) -> Self
+        ensures told { Tells (fault kind (pos place ∷ [])) result }
+    {
+        let mut path = List::new(alloc);
+        match path.push(place as i64) {
+            Ok(()) => FormRefused::Form(FormFault { kind, path }),
+            Err(memory) => memory.into(),
+        }
+    }
+
+    /// The same of an item in which this one stands at the key or index `place`; `Memory` where the path has no room.
+    pub fn under(self, place: u64) -> Self
+        requires { place < 2 ^ 63 }
+        ensures told { (first : Option FaultValue) → Tells first self → Tells (under place first) result }
+    {
+        match self {
+            FormRefused::Memory => FormRefused::Memory,
+            FormRefused::Form(fault) => lengthened(fault, place),
+        }
+    }
+}
+
+/// The fault with its path from one level further up.
+fn lengthened(fault: FormFault, place: u64) -> FormRefused
+    requires { place < 2 ^ 63 }
+    ensures told { Tells (under place (Some fault)) result }
+{
+    let FormFault { kind, mut path } = fault;
+    match path.insert(0, place as i64) {
+        Ok(()) => FormRefused::Form(FormFault { kind, path }),
+        Err(memory) => memory.into(),
+    }
+}

@@ -1,0 +1,114 @@
+//! Each public call with ample memory. Whole tags are tried as tables in `coswid_codec`.
+
+use crate::{
+    BoolForm, FormFault, FormRefused, HashEntry, HashForm, IntForm, Key, MISSING_KEY, TextForm,
+    UriForm, WRONG_FORM, refuse,
+};
+use cbor_det::{Item, LARGEST, Pairs, read_item};
+use std::alloc::Global;
+use std::test::Fail;
+use wire_base::{List, Text, TryCopy};
+
+type Name = Key<31, TextForm>;
+
+type Website = Key<38, UriForm>;
+
+type Numbers = Key<33, IntForm>;
+
+type Flag = Key<9, BoolForm>;
+
+type Print = Key<34, HashForm>;
+
+#[test]
+fn reads_what_it_puts(rt: HostRuntime) -> Result<(), Fail> {
+    let alloc = rt.alloc();
+    let mut pairs = Pairs::new(alloc);
+    Website::put(&mut pairs, &Text::new(alloc, "a")?)?;
+    Flag::put_optional(&mut pairs, &Some(true))?;
+    Name::put_optional(&mut pairs, &None)?;
+    let mut numbers = List::new(alloc);
+    numbers.push(1)?;
+    Numbers::put_row(&mut pairs, &numbers)?;
+    assert_eq!(rt; Website::required(alloc, &pairs)?.as_str(), "a");
+    assert_eq!(rt; Flag::optional(alloc, &pairs)?, Some(true));
+    assert!(rt; Name::optional(alloc, &pairs)?.is_none());
+    assert_eq!(rt;
+        Numbers::required_row(alloc, &pairs)?.as_slice(),
+        [1].as_slice()
+    );
+    assert!(rt; matches!(pairs.value(1), Some(Item::Int(1))));
+    Ok(())
+}
+
+#[test]
+fn puts_several_and_a_hash(rt: HostRuntime) -> Result<(), Fail> {
+    let alloc = rt.alloc();
+    let mut pairs = Pairs::new(alloc);
+    let mut numbers = List::new(alloc);
+    numbers.push(1)?;
+    numbers.push(2)?;
+    Numbers::put_optional_row(&mut pairs, &Some(numbers))?;
+    let mut value = List::new(alloc);
+    value.push(7)?;
+    let hash = HashEntry {
+        algorithm: 1,
+        value,
+    };
+    Print::put(&mut pairs, &hash.copy()?)?;
+    let read = Print::required(alloc, &pairs)?;
+    assert_eq!(rt; read.algorithm, 1);
+    assert_eq!(rt; read.value.as_slice(), [7].as_slice());
+    assert!(rt; Numbers::optional_row(alloc, &pairs)?.is_some());
+    Ok(())
+}
+
+/// Whether this was refused with a fault.
+fn is_refused<T: Drop>(read: Result<T, FormRefused>, kind: u8, path: &[i64]) -> bool {
+    match read {
+        Ok(_) => false,
+        Err(refused) => tells(&refused, kind, path),
+    }
+}
+
+/// Whether this is the fault.
+fn tells(refused: &FormRefused, kind: u8, path: &[i64]) -> bool {
+    match refused {
+        FormRefused::Form(fault) => is_fault(fault, kind, path),
+        FormRefused::Memory => false,
+    }
+}
+
+fn is_fault(fault: &FormFault, kind: u8, path: &[i64]) -> bool {
+    fault.kind == kind && fault.path.as_slice() == path
+}
+
+/// The pairs of the map that is spelled so.
+fn pairs_of(alloc: Global, octets: &[u8]) -> Result<Pairs, Fail> {
+    match read_item(alloc, octets, LARGEST)?.0 {
+        Item::Map(pairs) => Ok(pairs),
+        _ => Ok(Pairs::new(alloc)),
+    }
+}
+
+/// The pairs 33: [1, "a"], 34: [1, 2], 38: tag 33 of "a".
+const PAIRS: &[u8; 20] =
+    b"\xa3\x18\x21\x82\x01\x61a\x18\x22\x82\x01\x02\x18\x26\xd8\x21\x61a\x00\x00";
+
+#[test]
+fn tells_where_a_fault_is(rt: HostRuntime) -> Result<(), Fail> {
+    let alloc = rt.alloc();
+    let pairs = pairs_of(alloc, PAIRS)?;
+    let row = Numbers::required_row(alloc, &pairs);
+    assert!(rt; is_refused(row, WRONG_FORM, [33, 1].as_slice()));
+    let print = Print::required(alloc, &pairs);
+    assert!(rt; is_refused(print, WRONG_FORM, [34, 1].as_slice()));
+    let website = Website::optional(alloc, &pairs);
+    assert!(rt; is_refused(website, WRONG_FORM, [38].as_slice()));
+    let name = Name::required(alloc, &pairs);
+    assert!(rt; is_refused(name, MISSING_KEY, [31].as_slice()));
+    let expected = Name::expect(alloc, &pairs);
+    assert!(rt; is_refused(expected, MISSING_KEY, [31].as_slice()));
+    let known = refuse(alloc, &pairs, 33);
+    assert!(rt; is_refused(known, WRONG_FORM, [33].as_slice()));
+    Ok(())
+}
