@@ -9,3 +9,7 @@ pub mod Several
 pub mod StampLaws
 pub mod WrittenLaws
 pub mod Remaining
+pub mod Faults
+pub mod FieldFaults
+pub mod FormOrFault
+pub mod Escaping

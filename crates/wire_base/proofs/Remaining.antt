@@ -1,9 +1,9 @@
 -- A layout that ends with octets of any number: they are all that are left.
-use Rattle.std.proofs.Common.{◌≡◌, ℕ, ◌+◌, List, [], ◌∷◌, ◌++◌, length, Result, Ok, Err, refl, sym, ap, subst, ◌∙◌, arith}
+use Rattle.std.proofs.Common.{◌≡◌, ℕ, ◌+◌, List, [], ◌∷◌, ◌++◌, length, Result, Ok, refl, sym, ap, ◌∙◌, arith}
 use Rattle.std.proofs.lemmas.List.{append-nil}
-use Rattle.wire_base.specs.Layout.{AreOctets, Field, Fixed, Form}
+use Rattle.wire_base.specs.Layout.{Fixed}
 use Rattle.wire_base.specs.Reading.{Reader, Rest, ◌>>=◌, and_then, octets, remaining}
-use Rattle.wire_base.proofs.Exact.{Exact, LaidOut, Takes, Nothing, behind, alone, from_alone, octets_forth, octets_back}
+use Rattle.wire_base.proofs.Exact.{Exact, Nothing, behind, alone, from_alone, octets_back}
 use Rattle.wire_base.proofs.Spelled.{AreOctets-rest}
 
 -- All octets that are left are read, and nothing is left behind them.

@@ -1,18 +1,18 @@
 -- The test for a stamp, and the words that say what one is.
-use Rattle.std.proofs.Common.{◌≡◌, ℕ, zero, suc, ◌+◌, ◌-◌, ◌*◌, ◌/◌, ◌%◌, ◌<◌, ◌≤◌, ◌⊎◌, inl, inr, Bool, true, false, ltb, leb, ◌&&◌, ◌||◌, List, [], ◌∷◌, ◌++◌, refl, sym, ap, subst, ◌∙◌, arith, ℤ, pos, negsuc, ◌+ℤ◌, ◌*ℤ◌, ◌≤ℤ◌, ◌<ℤ◌, ◌^◌, to_z, of_z, w64}
-use Rattle.std.specs.Prelude.{◌↔◌, slice_range, IsTrue, codes}
+use Rattle.std.proofs.Common.{◌≡◌, ℕ, ◌+◌, ◌*◌, ◌/◌, ◌%◌, ◌<◌, ◌≤◌, ◌⊎◌, inl, inr, Bool, true, ◌&&◌, ◌||◌, List, [], ◌∷◌, refl, sym, ap, subst, ◌∙◌, arith, ℤ, pos, negsuc, ◌+ℤ◌, ◌*ℤ◌, ◌≤ℤ◌, ◌<ℤ◌, ◌^◌, to_z, of_z, w64}
+use Rattle.std.specs.Prelude.{◌↔◌, IsTrue}
 use Rattle.std.specs.Bool.{one_answer}
 use Rattle.std.specs.Str.{bytes_eq}
 use Rattle.std.proofs.lemmas.Bool.{ltb-true, lt-ltb, leb-true, le-leb, and_parts, and_from, or_cases, or_left, or_right, cases_lt}
 use Rattle.std.proofs.lemmas.Slice.Eq.{bytes_eq-Decides}
 use Rattle.jiff.specs.Types.{DateTime}
-use Rattle.jiff.specs.Words.{days_in_month, civil_nanos, epoch_day}
+use Rattle.jiff.specs.Words.{civil_nanos, epoch_day}
 use Rattle.jiff_core.specs.Calendar.{IsCivilDate}
 use Rattle.jiff_core.proofs.SignedLemmas.{back_small, signed_arith}
 use Rattle.jiff_core.proofs.CalendarLemmas.{days_in_month_bounds, day_count-lt_year, day_count-epoch, days_from_civil-day_count}
 use Rattle.jiff_core.proofs.DateTimeLemmas.{civil_nanos-parts}
 use Rattle.wire_base.specs.declared.stamp.Moment.{Moment}
-use Rattle.wire_base.specs.Stamp.{IsMoment, IsStamp, StampTestIsForm, UNKNOWN_TIME, Shows, digits, is_moment, is_stamp, moment_at, moment_text, spelled}
+use Rattle.wire_base.specs.Stamp.{IsMoment, IsStamp, StampTestIsForm, UNKNOWN_TIME, Shows, digits, is_moment, is_stamp, moment_at, moment_text}
 
 -- ---- moments
 

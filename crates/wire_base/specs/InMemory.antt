@@ -2,6 +2,7 @@
 use Rattle.std.specs.Prelude.{◌==◌, ℕ, Bool, List}
 use Rattle.std.specs.List.{list_any}
 use Rattle.wire_base.specs.Counter.{next}
+use Rattle.wire_base.specs.declared.files.NamedFile.{NamedFile}
 
 -- A source in memory: the octets that are left, how many calls were made, which calls fail (the first has the number 1)
 -- and how many did.
@@ -15,6 +16,13 @@ pub record SourceInMemory : Type 0 where
 pub record SinkInMemory : Type 0 where
   pub written : List ℕ
   pub room : ℕ
+  pub made : ℕ
+  pub failing : List ℕ
+  pub faults : ℕ
+
+-- Files in memory, and their calls as a source has them.
+pub record FilesInMemory : Type 0 where
+  pub files : List NamedFile
   pub made : ℕ
   pub failing : List ℕ
   pub faults : ℕ

@@ -6,7 +6,10 @@ pub mod Numbers
 pub mod Reading
 pub mod Adapter
 pub mod NamedFile
+pub mod Unread
 pub mod Passing
 pub mod Layout
+pub mod FirstFault
 pub mod Stamp
 pub mod Written
+pub mod Escaped

@@ -1,19 +1,21 @@
 -- Files by their names, as an object that gives them tells of them.
-use Rattle.std.specs.Prelude.{◌≡◌, ◌≢◌, ◌<◌, ◌≤◌, ℕ, Bool, true, false, List, Option, length, All, Contains, IfSome}
+use Rattle.std.specs.Prelude.{◌≡◌, ◌<◌, ◌≤◌, ℕ, Bool, true, false, List, [], ◌∷◌, Option, Some, None, length, IfSome, if◌then◌else◌}
+use Rattle.std.specs.Str.{bytes_eq}
 use Rattle.wire_base.specs.declared.files.FileAnswer.{FileAnswer}
 use Rattle.wire_base.specs.declared.files.FileAnswer.TheVariants as answer
+use Rattle.wire_base.specs.declared.files.NamedFile.{NamedFile}
 
--- A file: the UTF-8 octets of its name, and its content.
-pub record NamedFile : Type 0 where
-  pub name : List ℕ
-  pub content : List ℕ
+-- The content of the first file of that name, if there is one.
+abbrev pub content_of : List NamedFile → List ℕ → Option (List ℕ)
+content_of [] name = None
+content_of (file ∷ files) name = if bytes_eq file.name name then Some file.content else content_of files name
 
 -- What a call that does not fail answers for a name: where the files are told, `Missing` exactly where none has it, and
 -- `TooLong` exactly where its content is longer than the limit.
 abbrev pub IsAnswer : Option (List NamedFile) → List ℕ → ℕ → FileAnswer → Type 0
-IsAnswer files name limit (answer.Content octets) = (length octets ≤ limit) × IfSome files (λ all. Contains all (record { name = name; content = octets }))
-IsAnswer files name limit answer.Missing = IfSome files (λ all. All (λ (file : NamedFile). file.name ≢ name) all)
-IsAnswer files name limit (answer.TooLong len) = (limit < len) × IfSome files (λ all. (content : List ℕ) × (length content ≡ len) × Contains all (record { name = name; content = content }))
+IsAnswer files name limit (answer.Content octets) = (length octets ≤ limit) × IfSome files (λ all. content_of all name ≡ Some octets)
+IsAnswer files name limit answer.Missing = IfSome files (λ all. content_of all name ≡ None)
+IsAnswer files name limit (answer.TooLong len) = (limit < len) × IfSome files (λ all. (content : List ℕ) × (content_of all name ≡ Some content) × (length content ≡ len))
 IsAnswer files name limit answer.Failed = Unit {0}
 IsAnswer files name limit answer.Memory = Unit {0}
 

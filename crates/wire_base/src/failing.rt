@@ -17,6 +17,19 @@ pub struct FailingCalls {
 }
 
 impl FailingCalls {
+    /// No call was made yet, and none will fail. It takes no memory.
+    pub fn none(alloc: Global) -> Self
+        ensures made { result.made ≡ 0 }
+        ensures failing { result.failing ≡ [] }
+        ensures faults { result.faults ≡ 0 }
+    {
+        FailingCalls {
+            made: 0,
+            failing: List::new(alloc),
+            faults: 0,
+        }
+    }
+
     /// No call was made yet, and those whose numbers are in `failing` will fail.
     pub fn new(alloc: Global, failing: &[u64]) -> Result<Self, Memory>
         ensures made { IfOk result (λ calls. calls.made ≡ 0) }

@@ -1,11 +1,20 @@
 //! Files by their names.
 
-ghost use Rattle.std.specs.Prelude.{◌≡◌, List, ℕ, [], Option, Some};
-ghost use Rattle.wire_base.specs.declared.files.FileAnswer.TheVariants as answer;
-ghost use Rattle.wire_base.specs.NamedFile.{NamedFile, IsAnswer, has_failed};
+ghost use Rattle.std.specs.Prelude.{◌≡◌, List, ℕ, Option};
+ghost use Rattle.wire_base.specs.NamedFile.{IsAnswer, has_failed};
 ghost use Rattle.wire_base.specs.Outside.{HasCause};
 
 use crate::list::Octets;
+use crate::text::Text;
+
+/// A file.
+#[derive(Debug, Drop)]
+pub struct NamedFile {
+    /// The name that it is asked for by.
+    pub name: Text,
+    /// All octets of the file.
+    pub content: Octets,
+}
 
 /// What a read of a file answers.
 #[derive(Debug, Drop)]
@@ -24,7 +33,9 @@ pub enum FileAnswer {
 
 /// What gives files by their names.
 pub trait Files {
-    /// The names and contents of all files, where they are told.
+    ghost use Rattle.wire_base.specs.declared.files.NamedFile.{NamedFile};
+
+    /// The names and contents of all files, where they are told. Of two files of one name the first counts.
     ghost contents: { Self → Option (List NamedFile) };
 
     /// How many calls failed. It never falls.
@@ -35,21 +46,4 @@ pub trait Files {
         ensures answer { IsAnswer (contents self.old) name.now limit result }
         ensures contents { contents self.new ≡ contents self.old }
         ensures cause { HasCause (faults self.old) (faults self.new) (has_failed result) };
-}
-
-/// Files in memory, of which there are none.
-#[derive(Clone, Copy, Debug, PartialEq, Eq)]
-pub struct MemFiles;
-
-impl Files for MemFiles {
-    ghost contents = { λ _. Some [] };
-
-    ghost faults = { λ _. 0 };
-
-    /// There is no file of any name.
-    fn read(&mut self, _name: &str, _limit: usize) -> FileAnswer
-        ensures missing { result ≡ answer.Missing }
-    {
-        FileAnswer::Missing
-    }
 }

@@ -4,16 +4,19 @@
 //! It stands on std, on `jiff` for the calendar, and on `thiserror` for the texts of errors. The crates above rest on
 //! `reads`, `writes` and `cause` of `Source` and `Sink` (what was left or written, and faults that are counted), on `field`
 //! of each method of `Cursor` (what a reader gives, or the place of the first fault), on `appended` of `put_u8` and its kin,
-//! on `text` of `stamp_text` and `stamp` of `is_stamp`, and on `equal` of `TryCopy::copy`. The words of these clauses are in
-//! `specs/`: `Outside`, `Passing`, `Numbers`, `Layout`, `Reading`, `Stamp`.
+//! on `text` of `stamp_text` and of `push_escaped`, on `stamp` of `is_stamp`, and on `equal` of `TryCopy::copy`. The words of
+//! these clauses are in `specs/`: `Outside`, `Passing`, `Numbers`, `Layout`, `Reading`, `FirstFault`, `Stamp`, `Escaped`.
 #![tactic(auto)]
 
 mod boxed;
 mod cursor;
+mod escape;
 mod failing;
 mod files;
+mod folder_files;
 pub mod laws;
 mod list;
+mod mem_files;
 mod mem_sink;
 mod mem_source;
 mod memory;
@@ -29,8 +32,11 @@ mod text;
 
 pub use boxed::Boxed;
 pub use cursor::Cursor;
-pub use files::{FileAnswer, Files, MemFiles};
+pub use escape::push_escaped;
+pub use files::{FileAnswer, Files, NamedFile};
+pub use folder_files::FolderFiles;
 pub use list::{List, Octets, TryCopy};
+pub use mem_files::MemFiles;
 pub use mem_sink::MemSink;
 pub use mem_source::MemSource;
 pub use memory::Memory;
@@ -44,6 +50,8 @@ pub use stamp::{ClockRange, is_stamp, stamp_text};
 pub use standard::{StdinSource, StdoutSink};
 pub use text::Text;
 
+#[cfg(test)]
+mod file_tests;
 #[cfg(test)]
 mod stamp_tests;
 #[cfg(test)]

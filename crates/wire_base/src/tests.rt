@@ -3,9 +3,9 @@
 ghost use Rattle.std.specs.Prelude.{◌≡◌, IfOk};
 
 use crate::{
-    Boxed, Cursor, Failed, FieldRefused, FileAnswer, Files, List, MemFiles, MemSink, MemSource,
-    Memory, NoFaultSink, NoFaultSource, Octets, Sink, Source, StdinSource, StdoutSink, Stopped,
-    Text, TryCopy, fill, number_of, put_u8, put_u16, put_u24, put_u32, u24_at, u32_at, write_all,
+    Boxed, Cursor, Failed, FieldRefused, List, MemSink, MemSource, Memory, NoFaultSink,
+    NoFaultSource, Octets, Sink, Source, StdinSource, StdoutSink, Stopped, Text, TryCopy, fill,
+    number_of, push_escaped, put_u8, put_u16, put_u24, put_u32, u24_at, u32_at, write_all,
 };
 use std::alloc::Global;
 use std::io;
@@ -373,8 +373,27 @@ fn a_writer_of_the_system_is_a_sink(rt: HostRuntime) -> Result<(), Fail> {
 }
 
 #[test]
-fn there_are_no_files(rt: HostRuntime) {
-    assert!(rt; matches!(MemFiles.read("swid", 9), FileAnswer::Missing));
+fn octets_are_printed_as_text(rt: HostRuntime) -> Result<(), Fail> {
+    for (octets, wanted) in [
+        (b"".as_slice(), "\\e"),
+        (b" ", "\\x20"),
+        (b"!", "!"),
+        (b"[", "["),
+        (b"\\", "\\x5c"),
+        (b"]", "]"),
+        (b"~", "~"),
+        (b"\x7f", "\\x7f"),
+        (b"\xff", "\\xff"),
+        (b"\0\x09\x1a\x1f\x80\xa9", "\\x00\\x09\\x1a\\x1f\\x80\\xa9"),
+        (b"a b\\x5c\xc3\xa9~\n", "a\\x20b\\x5cx5c\\xc3\\xa9~\\x0a"),
+    ] {
+        let mut out = octets_of(rt.alloc(), b"held ")?;
+        push_escaped(&mut out, octets)?;
+        let (held, text) = out.as_slice().split_at(5);
+        assert_eq!(rt; held, b"held ".as_slice());
+        assert_eq!(rt; text, wanted.as_bytes(), "the text {wanted}");
+    }
+    Ok(())
 }
 
 #[test]

@@ -1,4 +1,3 @@
-use Rattle.std.proofs.Common.{refl}
 use Rattle.wire_base.proofs.StampLaws.{text_is}
 use Rattle.wire_base.proofs.stamp.Moment.text.Goals as goal
 
