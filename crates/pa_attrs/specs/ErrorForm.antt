@@ -5,7 +5,7 @@ use Rattle.wire_base.specs.Layout.{Field, Number, Reserved, Fixed, Form}
 use Rattle.wire_base.specs.Written.{written}
 use Rattle.wire_base.specs.Reading.{Reader, ◌>>=◌, octets, number, at_end, remaining}
 use Rattle.pa_attrs.specs.declared.error.PaError.{PaError}
-use Rattle.pa_attrs.specs.Numbers.{VERSION, INVALID_PARAMETER, VERSION_NOT_SUPPORTED, UNSUPPORTED_ATTRIBUTE}
+use Rattle.pa_attrs.specs.Numbers.{IETF, VERSION, INVALID_PARAMETER, VERSION_NOT_SUPPORTED, UNSUPPORTED_ATTRIBUTE}
 
 -- ---- the value
 
@@ -68,7 +68,7 @@ request_fields id most = Number 4 id ∷ most_fields most
 
 -- An Error of the IETF's numbers.
 abbrev pub ietf_error : ℕ → List Field → PaError
-ietf_error code fields = record { vendor = 0; code = code; info = written fields }
+ietf_error code fields = record { vendor = IETF; code = code; info = written fields }
 
 abbrev pub invalid_error : List ℕ → ℕ → PaError
 invalid_error header offset = ietf_error INVALID_PARAMETER (invalid_fields header offset)

@@ -4,7 +4,7 @@ use Rattle.std.specs.Prelude.{◌==◌, ◌&&◌, ◌||◌, ℕ, Bool, not, List
 use Rattle.std.specs.List.{list_any}
 use Rattle.pa_attrs.specs.declared.fault.AttrFault.{AttrFault}
 use Rattle.pa_attrs.specs.declared.header.Header.{Header}
-use Rattle.pa_attrs.specs.Numbers.{HEADER, NO_VENDOR, NO_TYPE, INVALID_PARAMETER, UNSUPPORTED_ATTRIBUTE, MOST_OCTETS}
+use Rattle.pa_attrs.specs.Numbers.{HEADER, IETF, NO_VENDOR, NO_TYPE, INVALID_PARAMETER, UNSUPPORTED_ATTRIBUTE, MOST_OCTETS}
 use Rattle.pa_attrs.specs.Header.{header_of}
 
 -- A fault: its code, and its place from the attribute's first octet.
@@ -34,7 +34,7 @@ header_rows most h =
 
 -- Attributes of the type are supported, by a list of types of vendor 0.
 abbrev pub is_supported : List ℕ → ℕ → ℕ → Bool
-is_supported supported vendor kind = (vendor == 0) && list_any (λ known. known == kind) supported
+is_supported supported vendor kind = (vendor == IETF) && list_any (λ known. known == kind) supported
 
 -- The attribute may not be passed over, and is not supported.
 abbrev pub is_refused : List ℕ → Header → Bool

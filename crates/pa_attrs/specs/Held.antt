@@ -1,8 +1,9 @@
 -- How a feed holds octets: those of the header, and behind them those of the value.
 use Rattle.std.specs.Prelude.{◌≡◌, ◌<◌, ◌≤◌, ◌+◌, ℕ, List, [], ◌++◌, Option, Some, None, Result, Ok, Err, length, take}
 use Rattle.pa_attrs.specs.declared.attr.Attr.{Attr}
-use Rattle.pa_attrs.specs.declared.feed.Stop.{Stop}
-use Rattle.pa_attrs.specs.declared.feed.Stop.TheVariants as stop
+use Rattle.pa_attrs.specs.declared.refused.Refused.{Refused}
+use Rattle.pa_attrs.specs.declared.refused.Refused.TheVariants as refused
+use Rattle.pa_attrs.specs.declared.fault.AttrFault.{AttrFault}
 use Rattle.pa_attrs.specs.declared.held.Held.{Held}
 use Rattle.pa_attrs.specs.Numbers.{HEADER}
 use Rattle.pa_attrs.specs.Stream.{More, Bad, Whole, front_of}
@@ -18,8 +19,8 @@ pub record IsInOrder (held : Held) : Type 0 where
   pub first : held.begun < HEADER → held.value.items ≡ []
 
 -- What becomes of octets that are held, and of a piece behind them.
-abbrev pub Holds : List ℕ → List ℕ → Result (Option (Attr × ℕ)) Stop → List ℕ → Type 0
+abbrev pub Holds : List ℕ → List ℕ → Result (Option (Attr × ℕ)) (Refused AttrFault) → List ℕ → Type 0
 Holds before piece (Ok None) after = (front_of (before ++ piece) ≡ More) × (after ≡ before ++ piece)
 Holds before piece (Ok (Some done)) after = (front_of (before ++ piece) ≡ Whole done.0 (length before + done.1)) × (0 < done.1) × (done.1 ≤ length piece) × (after ≡ [])
-Holds before piece (Err (stop.Fault fault)) after = (front_of (before ++ piece) ≡ Bad fault) × (after ≡ take HEADER (before ++ piece))
-Holds before piece (Err stop.Memory) after = after ≡ before
+Holds before piece (Err (refused.Fault fault)) after = (front_of (before ++ piece) ≡ Bad fault) × (after ≡ take HEADER (before ++ piece))
+Holds before piece (Err refused.Memory) after = after ≡ before

@@ -6,11 +6,11 @@ use Rattle.pa_attrs.specs.declared.attr.PlacedAttr.{PlacedAttr}
 use Rattle.pa_attrs.specs.declared.fault.AttrFault.{AttrFault}
 use Rattle.pa_attrs.specs.declared.fault.PaFault.{PaFault}
 use Rattle.pa_attrs.specs.declared.header.Header.{Header}
-use Rattle.pa_attrs.specs.declared.read.MessageRefused.{MessageRefused}
-use Rattle.pa_attrs.specs.declared.read.MessageRefused.TheVariants as refused
+use Rattle.pa_attrs.specs.declared.refused.Refused.{Refused}
+use Rattle.pa_attrs.specs.declared.refused.Refused.TheVariants as refused
 use Rattle.pa_attrs.specs.declared.read.PaRead.{PaRead}
 use Rattle.pa_attrs.specs.declared.read.PaRead.TheVariants as read
-use Rattle.pa_attrs.specs.Numbers.{VERSION, MESSAGE_HEADER, HEADER, ERROR, INVALID_PARAMETER, VERSION_NOT_SUPPORTED, UNSUPPORTED_ATTRIBUTE, MOST_ATTRIBUTES}
+use Rattle.pa_attrs.specs.Numbers.{VERSION, MESSAGE_HEADER, HEADER, IETF, ERROR, INVALID_PARAMETER, VERSION_NOT_SUPPORTED, UNSUPPORTED_ATTRIBUTE, MOST_ATTRIBUTES}
 use Rattle.pa_attrs.specs.Header.{attr_of}
 use Rattle.pa_attrs.specs.Faults.{Row, row, first_shown, is_supported, message_header}
 
@@ -51,7 +51,7 @@ attributes supported (suc room) at octets = one_more (attributes supported room)
 
 -- The attribute is a PA-TNC Error.
 abbrev pub is_error : PlacedAttr → Bool
-is_error placed = (placed.attr.vendor == 0) && (placed.attr.kind == ERROR)
+is_error placed = (placed.attr.vendor == IETF) && (placed.attr.kind == ERROR)
 
 -- The sender is told of a fault behind these attributes: none of them is a PA-TNC Error.
 abbrev pub is_answered : List PlacedAttr → Bool
@@ -115,7 +115,7 @@ message_of supported octets = unless_start (first_shown (start_rows octets)) sup
 -- ---- what calls give
 
 -- A call gave this, but for want of memory, of which nothing is said.
-abbrev pub Answers : {A : Type 0} → Result A MessageRefused → Result A PaFault → Type 0
+abbrev pub Answers : {A : Type 0} → Result A (Refused PaFault) → Result A PaFault → Type 0
 Answers (Ok value) message = message ≡ Ok value
 Answers (Err (refused.Fault fault)) message = message ≡ Err fault
 Answers (Err refused.Memory) message = Unit {0}

@@ -17,6 +17,10 @@ HEADER = 12
 abbrev pub NOSKIP : ℕ
 NOSKIP = 128
 
+-- The vendor number of the IETF (section 4.1).
+abbrev pub IETF : ℕ
+IETF = 0
+
 -- The vendor that none has, and the type that no attribute has (section 4.1).
 abbrev pub NO_VENDOR : ℕ
 NO_VENDOR = 16777215

@@ -4,8 +4,8 @@ use Rattle.pa_attrs.specs.declared.attr.Attr.{Attr}
 use Rattle.pa_attrs.specs.declared.fault.AttrFault.{AttrFault}
 use Rattle.pa_attrs.specs.declared.feed.AttrFed.{AttrFed}
 use Rattle.pa_attrs.specs.declared.feed.AttrFed.TheVariants as fed
-use Rattle.pa_attrs.specs.declared.feed.Stop.{Stop}
-use Rattle.pa_attrs.specs.declared.feed.Stop.TheVariants as stop
+use Rattle.pa_attrs.specs.declared.refused.Refused.{Refused}
+use Rattle.pa_attrs.specs.declared.refused.Refused.TheVariants as refused
 use Rattle.pa_attrs.specs.declared.header.Header.{Header}
 use Rattle.pa_attrs.specs.Numbers.{HEADER}
 use Rattle.pa_attrs.specs.Header.{attr_of}
@@ -34,26 +34,26 @@ front_of octets = if nat_lt (length octets) HEADER then More else headed octets 
 -- it answers for ever, once it does.
 pub record Feeding : Type 0 where
   pub octets : List ℕ
-  pub stopped : Option Stop
+  pub stopped : Option (Refused AttrFault)
 
 -- A feed that holds nothing.
 abbrev pub fresh : Feeding
 fresh = record { octets = []; stopped = None }
 
 -- What is answered for ever.
-abbrev pub told : Stop → AttrFed
-told (stop.Fault fault) = fed.Fault fault
-told stop.Memory = fed.Memory
+abbrev pub told : Refused AttrFault → AttrFed
+told (refused.Fault fault) = fed.Fault fault
+told refused.Memory = fed.Memory
 
 -- A feed that holds octets answers a piece behind them, by what the octets and the piece joined begin with.
 abbrev pub TakesPiece : List ℕ → List ℕ → AttrFed → Feeding → Type 0
 TakesPiece held piece fed.More after = (front_of (held ++ piece) ≡ More) × (after ≡ record { octets = held ++ piece; stopped = None })
 TakesPiece held piece (fed.Done attr used) after = (front_of (held ++ piece) ≡ Whole attr (length held + used)) × (0 < used) × (used ≤ length piece) × (after ≡ fresh)
-TakesPiece held piece (fed.Fault fault) after = (front_of (held ++ piece) ≡ Bad fault) × (after ≡ record { octets = take HEADER (held ++ piece); stopped = Some (stop.Fault fault) })
-TakesPiece held piece fed.Memory after = after ≡ record { octets = held; stopped = Some stop.Memory }
+TakesPiece held piece (fed.Fault fault) after = (front_of (held ++ piece) ≡ Bad fault) × (after ≡ record { octets = take HEADER (held ++ piece); stopped = Some (refused.Fault fault) })
+TakesPiece held piece fed.Memory after = after ≡ record { octets = held; stopped = Some refused.Memory }
 
 -- It does, or answers what it has answered before and stays as it is.
-abbrev pub FeedsIn : Option Stop → Feeding → List ℕ → AttrFed → Feeding → Type 0
+abbrev pub FeedsIn : Option (Refused AttrFault) → Feeding → List ℕ → AttrFed → Feeding → Type 0
 FeedsIn None before piece answer after = TakesPiece before.octets piece answer after
 FeedsIn (Some stopped) before piece answer after = (answer ≡ told stopped) × (after ≡ before)
 

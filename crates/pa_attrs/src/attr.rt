@@ -7,7 +7,7 @@ use wire_base::{List, Octets};
 pub struct Attr {
     /// Whether a receiver that does not support the attribute has to refuse the message.
     pub noskip: bool,
-    /// The vendor that defines the type; 0 is the IETF. It is below 2^24.
+    /// The vendor that defines the type; `IETF` is that of the IETF. It is below 2^24.
     pub vendor: u32,
     /// The type, by its vendor's numbers.
     pub kind: u32,

@@ -4,14 +4,16 @@ ghost use Rattle.std.specs.Prelude.{◌≡◌, ◌+◌, ◌<◌, ◌^◌, ◌++�
 ghost use Rattle.pa_attrs.specs.ErrorForm.{invalid_error, read_error, swima_error, unsupported_error, version_error, written_error};
 ghost use Rattle.wire_base.specs.Reading.{Gives, value_alone, whole};
 
-use crate::numbers::{INVALID_PARAMETER, UNSUPPORTED_ATTRIBUTE, VERSION, VERSION_NOT_SUPPORTED};
+use crate::numbers::{
+    IETF, INVALID_PARAMETER, UNSUPPORTED_ATTRIBUTE, VERSION, VERSION_NOT_SUPPORTED,
+};
 use std::alloc::Global;
 use wire_base::{Cursor, FieldRefused, List, Memory, Octets, put_u8, put_u16, put_u24, put_u32};
 
 /// A PA-TNC Error, the value of an attribute of vendor 0 and type 8 (RFC 5792, section 4.2.8).
 #[derive(Debug, Drop)]
 pub struct PaError {
-    /// The vendor that defines the code; 0 is the IETF.
+    /// The vendor that defines the code; `IETF` is that of the IETF.
     pub vendor: u32,
     /// The code, by its vendor's numbers.
     pub code: u32,
@@ -30,7 +32,7 @@ impl PaError {
         info.extend(&header)?;
         put_u32(&mut info, offset)?;
         Ok(PaError {
-            vendor: 0,
+            vendor: IETF,
             code: INVALID_PARAMETER,
             info,
         })
@@ -45,7 +47,7 @@ impl PaError {
         info.extend(&header)?;
         info.extend(&[VERSION, VERSION, 0, 0])?;
         Ok(PaError {
-            vendor: 0,
+            vendor: IETF,
             code: VERSION_NOT_SUPPORTED,
             info,
         })
@@ -61,14 +63,14 @@ impl PaError {
         info.extend(&header)?;
         info.extend(&first)?;
         Ok(PaError {
-            vendor: 0,
+            vendor: IETF,
             code: UNSUPPORTED_ATTRIBUTE,
             info,
         })
     }
 
-    /// An error about the request with an ID; `max` is the most octets of an answer, where the code tells them (RFC 8412,
-    /// section 5.15).
+    /// An error about the request with an ID, of a code from `SWIMA_ERROR` on (`SWIMA_SUBSCRIPTION_DENIED_ERROR` and so on);
+    /// `max` is the most octets of an answer, which `SWIMA_RESPONSE_TOO_LARGE_ERROR` alone tells (RFC 8412, section 5.15).
     #[tactic(auto, unfolding(wire_base::specs::Written::written))]
     pub fn swima(alloc: Global, code: u32, id: u32, max: Option<u32>) -> Result<Self, Memory>
         ensures error { IfOk result (λ error. error ≡ swima_error code id max) }
@@ -79,7 +81,7 @@ impl PaError {
             put_u32(&mut info, most)?;
         }
         Ok(PaError {
-            vendor: 0,
+            vendor: IETF,
             code,
             info,
         })

@@ -3,10 +3,12 @@
 ghost use Rattle.std.specs.Prelude.{◌≡◌, ◌==◌, ◌≤◌, length};
 ghost use Rattle.std.specs.List.{list_any};
 ghost use Rattle.pa_attrs.specs.Faults.{fault, first_shown, header_rows, is_refused, is_supported, message_header, stream_header, unless};
+ghost use Rattle.pa_attrs.specs.Numbers.{HEADER, MOST_OCTETS};
 
 use crate::header::{Header, read_header};
 use crate::numbers::{
-    HEADER, INVALID_PARAMETER, MOST_ATTRIBUTE_OCTETS, NO_TYPE, NO_VENDOR, UNSUPPORTED_ATTRIBUTE,
+    HEADER_OCTETS, IETF, INVALID_PARAMETER, MOST_ATTRIBUTE_OCTETS, NO_TYPE, NO_VENDOR,
+    UNSUPPORTED_ATTRIBUTE,
 };
 
 /// A fault of an attribute.
@@ -52,7 +54,7 @@ fn header_fault(header: &Header, most: u32) -> Option<AttrFault>
     if header.kind == NO_TYPE {
         return Some(AttrFault::new(INVALID_PARAMETER, 4));
     }
-    if header.octets < HEADER as u32 || most < header.octets {
+    if header.octets < HEADER_OCTETS as u32 || most < header.octets {
         return Some(AttrFault::new(INVALID_PARAMETER, 8));
     }
     None
@@ -71,7 +73,7 @@ fn unless(fault: Option<AttrFault>, header: Header) -> Result<Header, AttrFault>
 /// The header of the attribute of a stream that begins with these octets, or its first fault.
 #[tactic(auto, unfolding(crate::specs::Faults::stream_header))]
 pub(crate) fn stream_header(octets: &[u8]) -> Result<Header, AttrFault>
-    requires { 12 ≤ length octets.now }
+    requires { HEADER ≤ length octets.now }
     ensures header { result ≡ stream_header octets.now }
 {
     let header = read_header(octets);
@@ -86,13 +88,13 @@ pub(crate) fn message_header(
     room: usize,
     octets: &[u8],
 ) -> Result<Header, AttrFault>
-    requires { length octets.now ≤ 16777216 }
+    requires { length octets.now ≤ MOST_OCTETS }
     ensures header { result ≡ message_header supported.now room octets.now }
 {
     if room == 0 {
         return Err(AttrFault::new(INVALID_PARAMETER, 0));
     }
-    if octets.len() < HEADER {
+    if octets.len() < HEADER_OCTETS {
         return Err(AttrFault::new(INVALID_PARAMETER, 0));
     }
     let header = read_header(octets);
@@ -113,7 +115,7 @@ fn is_refused(supported: &[u32], header: &Header) -> bool
 pub(crate) fn is_supported(supported: &[u32], vendor: u32, kind: u32) -> bool
     ensures supported { result ≡ is_supported supported.now vendor kind }
 {
-    vendor == 0 && is_listed(supported, kind)
+    vendor == IETF && is_listed(supported, kind)
 }
 
 /// Whether the type is one of the list.

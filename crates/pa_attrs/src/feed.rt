@@ -1,15 +1,15 @@
 //! Attributes from octets that come in pieces.
 
 ghost use Rattle.std.specs.Prelude.{◌≡◌, ◌≤◌, length, None};
-ghost use Rattle.pa_attrs.specs.declared.feed.Stop.TheVariants as stop;
+ghost use Rattle.pa_attrs.specs.Numbers.{MOST_OCTETS};
 ghost use Rattle.pa_attrs.specs.Stream.{Feeding, Feeds, More, fresh, front_of, header_held, told};
 
 use crate::attr::Attr;
 use crate::fault::AttrFault;
 use crate::held::Held;
+use crate::refused::Refused;
 use std::alloc::Global;
 use std::marker::Model;
-use wire_base::Memory;
 
 /// What a feed answers to a piece.
 #[derive(Debug, Drop)]
@@ -24,34 +24,18 @@ pub enum AttrFed {
     Memory,
 }
 
-/// Why a feed has stopped.
-#[derive(Clone, Copy, Debug, PartialEq, Eq)]
-pub(crate) enum Stop {
-    /// A fault.
-    Fault(AttrFault),
-    /// Want of memory.
-    Memory,
-}
-
-impl From<Memory> for Stop {
-    ghost from_gives = { λ _ e. e ≡ stop.Memory };
-
-    fn from(_memory: Memory) -> Self {
-        Stop::Memory
-    }
-}
-
 /// Takes the octets of one attribute after another in pieces of any size. Once it has answered a fault or want of memory
 /// it answers the same for ever.
 #[derive(Debug, Drop)]
 pub struct AttrFeed {
     held: Held,
-    stopped: Option<Stop>,
+    stopped: Option<Refused<AttrFault>>,
 }
 
 impl Model for AttrFeed {
     ghost use Rattle.std.specs.Prelude.{◌≡◌, ◌≤◌, None, length};
     ghost use Rattle.pa_attrs.specs.Held.{IsInOrder, octets_of_held};
+    ghost use Rattle.pa_attrs.specs.Numbers.{MOST_OCTETS};
     ghost use Rattle.pa_attrs.specs.Stream.{Feeding, More, front_of};
 
     ghost Value = { Feeding };
@@ -59,7 +43,7 @@ impl Model for AttrFeed {
     ghost view = { λ feed. record { octets = octets_of_held feed.held; stopped = feed.stopped } };
 
     ghost invariant = { λ feed. IsInOrder feed.held
-        × (length (octets_of_held feed.held) ≤ 16777216)
+        × (length (octets_of_held feed.held) ≤ MOST_OCTETS)
         × (feed.stopped ≡ None → front_of (octets_of_held feed.held) ≡ More) };
 }
 
@@ -78,7 +62,7 @@ impl AttrFeed {
     /// header. It takes no memory.
     pub fn have(&self) -> u64
         ensures have { result ≡ length self.now.octets }
-        ensures within { result ≤ 16777216 }
+        ensures within { result ≤ MOST_OCTETS }
     {
         self.held.len() as u64
     }
@@ -111,11 +95,11 @@ impl AttrFeed {
 }
 
 /// What is answered for ever.
-fn told(stopped: Stop) -> AttrFed
+fn told(stopped: Refused<AttrFault>) -> AttrFed
     ensures told { result ≡ told stopped }
 {
     match stopped {
-        Stop::Fault(fault) => AttrFed::Fault(fault),
-        Stop::Memory => AttrFed::Memory,
+        Refused::Fault(fault) => AttrFed::Fault(fault),
+        Refused::Memory => AttrFed::Memory,
     }
 }

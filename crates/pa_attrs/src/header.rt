@@ -2,6 +2,7 @@
 
 ghost use Rattle.std.specs.Prelude.{◌≡◌, ◌≤◌, length};
 ghost use Rattle.pa_attrs.specs.Header.{header_of};
+ghost use Rattle.pa_attrs.specs.Numbers.{HEADER};
 
 use crate::numbers::NOSKIP;
 use wire_base::{u24_at, u32_at};
@@ -21,7 +22,7 @@ pub struct Header {
 
 /// The header that the first 12 of the octets say. It takes no memory.
 pub fn read_header(octets: &[u8]) -> Header
-    requires { 12 ≤ length octets.now }
+    requires { HEADER ≤ length octets.now }
     ensures header { result ≡ header_of octets.now }
 {
     Header {

@@ -3,13 +3,14 @@
 ghost use Rattle.std.specs.Prelude.{◌≡◌, ◌<◌, ◌≤◌, ◌+◌, ◌-◌, ◌++◌, [], length, take, min, IfOk, OnErr, Ok, Err};
 ghost use Rattle.pa_attrs.specs.Held.{Holds, IsInOrder, octets_of_held};
 ghost use Rattle.pa_attrs.specs.Header.{header_of};
+ghost use Rattle.pa_attrs.specs.Numbers.{HEADER, MOST_OCTETS};
 ghost use Rattle.pa_attrs.specs.Stream.{More, front_of, header_held};
 
 use crate::attr::Attr;
-use crate::fault::stream_header;
-use crate::feed::Stop;
+use crate::fault::{AttrFault, stream_header};
 use crate::header::Header;
-use crate::numbers::HEADER;
+use crate::numbers::HEADER_OCTETS;
+use crate::refused::Refused;
 use std::alloc::Global;
 use std::mem;
 use wire_base::{List, Memory};
@@ -38,7 +39,7 @@ impl Held {
     /// How many octets there are.
     pub(crate) fn len(&self) -> usize
         requires order { IsInOrder self.now }
-        requires within { length (octets_of_held self.now) ≤ 16777216 }
+        requires within { length (octets_of_held self.now) ≤ MOST_OCTETS }
         ensures len { result ≡ length (octets_of_held self.now) }
     {
         self.begun + self.value.len()
@@ -49,24 +50,24 @@ impl Held {
         requires order { IsInOrder self.now }
         ensures header { result ≡ header_held (octets_of_held self.now) }
     {
-        if self.begun < HEADER {
+        if self.begun < HEADER_OCTETS {
             return None;
         }
         Some(self.header)
     }
 
     /// Takes a piece behind the octets, up to the end of the attribute where that is in it.
-    pub(crate) fn take(&mut self, piece: &[u8]) -> Result<Option<(Attr, usize)>, Stop>
+    pub(crate) fn take(&mut self, piece: &[u8]) -> Result<Option<(Attr, usize)>, Refused<AttrFault>>
         requires order { IsInOrder self.old }
         requires torn { front_of (octets_of_held self.old) ≡ More }
-        ensures within { length (octets_of_held self.new) ≤ 16777216 }
+        ensures within { length (octets_of_held self.new) ≤ MOST_OCTETS }
         ensures order { IsInOrder self.new }
         ensures holds { Holds (octets_of_held self.old) piece.now result (octets_of_held self.new) }
     {
         let mut header = self.header;
         let first = begin_header(&mut header, self.begun, piece);
         let begun = self.begun + first;
-        if begun < HEADER {
+        if begun < HEADER_OCTETS {
             self.header = header;
             self.begun = begun;
             return Ok(None);
@@ -74,18 +75,18 @@ impl Held {
         let (_, rest) = piece.split_at(first);
         match stream_header(&header) {
             Ok(said) => {
-                let more = take_value(&mut self.value, rest, said.octets as usize - HEADER)?;
+                let more = take_value(&mut self.value, rest, said.octets as usize - HEADER_OCTETS)?;
                 self.header = header;
-                self.begun = HEADER;
-                if HEADER + self.value.len() < said.octets as usize {
+                self.begun = HEADER_OCTETS;
+                if HEADER_OCTETS + self.value.len() < said.octets as usize {
                     return Ok(None);
                 }
                 Ok(Some((self.give(said), first + more)))
             }
             Err(fault) => {
                 self.header = header;
-                self.begun = HEADER;
-                Err(Stop::Fault(fault))
+                self.begun = HEADER_OCTETS;
+                Err(Refused::Fault(fault))
             }
         }
     }
@@ -110,11 +111,11 @@ impl Held {
 
 /// Puts octets of the piece behind those of the header that are there, and says how many.
 fn begin_header(header: &mut [u8; 12], begun: usize, piece: &[u8]) -> usize
-    requires { begun ≤ 12 }
-    ensures used { result ≡ min (12 - begun) (length piece.now) }
+    requires { begun ≤ HEADER }
+    ensures used { result ≡ min (HEADER - begun) (length piece.now) }
     ensures octets { take (begun + result) header.new ≡ take begun header.old ++ take result piece.now }
 {
-    let used = (HEADER - begun).min(piece.len());
+    let used = (HEADER_OCTETS - begun).min(piece.len());
     header[begun..begun + used].copy_from_slice(&piece[..used]);
     used
 }
@@ -123,7 +124,7 @@ fn begin_header(header: &mut [u8; 12], begun: usize, piece: &[u8]) -> usize
 /// the value is as it was.
 fn take_value(value: &mut Vec<u8>, piece: &[u8], len: usize) -> Result<usize, Memory>
     requires len { length value.old.items ≤ len }
-    requires most { len ≤ 16777216 }
+    requires most { len ≤ MOST_OCTETS }
     ensures used { IfOk result (λ used. used ≡ min (len - length value.old.items) (length piece.now)) }
     ensures octets { IfOk result (λ used. value.new.items ≡ value.old.items ++ take used piece.now) }
     ensures memory { OnErr result (value.new.items ≡ value.old.items) }
@@ -137,7 +138,7 @@ fn take_value(value: &mut Vec<u8>, piece: &[u8], len: usize) -> Result<usize, Me
 /// Makes room for so many octets more; where it was wanting, for as many as there are, but for `most` in all.
 fn make_room(value: &mut Vec<u8>, more: usize, most: usize) -> Result<(), Memory>
     requires within { length value.old.items + more ≤ most }
-    requires most { most ≤ 16777216 }
+    requires most { most ≤ MOST_OCTETS }
     ensures items { value.new.items ≡ value.old.items }
 {
     let len = value.len();

@@ -16,6 +16,7 @@ mod held;
 pub mod laws;
 mod numbers;
 mod read;
+mod refused;
 mod write;
 
 pub use attr::{Attr, Attrs, PaMessage, PlacedAttr, PlacedAttrs};
@@ -23,7 +24,11 @@ pub use error::{PaError, read_error, write_error};
 pub use fault::{AttrFault, PaFault};
 pub use feed::{AttrFed, AttrFeed};
 pub use header::{Header, read_header};
-pub use numbers::{ERROR, INVALID_PARAMETER, UNSUPPORTED_ATTRIBUTE, VERSION_NOT_SUPPORTED};
+pub use numbers::{
+    ERROR, HEADER_OCTETS, IETF, INVALID_PARAMETER, SWIMA_ERROR, SWIMA_RESPONSE_TOO_LARGE_ERROR,
+    SWIMA_SUBSCRIPTION_DENIED_ERROR, SWIMA_SUBSCRIPTION_FULFILLMENT_ERROR,
+    SWIMA_SUBSCRIPTION_ID_REUSE_ERROR, UNSUPPORTED_ATTRIBUTE, VERSION_NOT_SUPPORTED,
+};
 pub use read::{PaRead, read_message};
 pub use write::write_message;
 

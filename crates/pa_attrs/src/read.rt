@@ -1,18 +1,18 @@
 //! Reading messages.
 
 ghost use Rattle.std.specs.Prelude.{◌≡◌, ◌==◌, ◌&&◌, not, ◌≤◌, ◌+◌, ◌∷◌, ◌++◌, ◌<◌, ◌^◌, [], drop, length, filter, OnOk, OnErr, IfOk};
-ghost use Rattle.pa_attrs.specs.declared.read.MessageRefused.TheVariants as refused;
 ghost use Rattle.pa_attrs.specs.Header.{attr_of, header_of};
 ghost use Rattle.pa_attrs.specs.MessageReading.{Answers, Reads, attributes, attrs_of, fault_of, first_octets, first_told, is_error, message_of, placed, supports};
-ghost use Rattle.pa_attrs.specs.Numbers.{ERROR as ERROR_TYPE};
+ghost use Rattle.pa_attrs.specs.Numbers.{ERROR as ERROR_TYPE, HEADER, IETF as IETF_VENDOR, MESSAGE_HEADER, MOST_OCTETS};
 
 use crate::attr::{Attr, PlacedAttr, PlacedAttrs};
 use crate::fault::{AttrFault, PaFault, is_supported, message_header};
 use crate::header::Header;
 use crate::numbers::{
-    ERROR, HEADER, INVALID_PARAMETER, MESSAGE_HEADER, MOST_ATTRIBUTES, UNSUPPORTED_ATTRIBUTE,
-    VERSION, VERSION_NOT_SUPPORTED,
+    ERROR, HEADER_OCTETS, IETF, INVALID_PARAMETER, MESSAGE_HEADER_OCTETS, MOST_ATTRIBUTES,
+    UNSUPPORTED_ATTRIBUTE, VERSION, VERSION_NOT_SUPPORTED,
 };
+use crate::refused::Refused;
 use std::alloc::Global;
 use wire_base::{List, Memory, u32_at};
 
@@ -32,36 +32,19 @@ pub enum PaRead {
     Memory,
 }
 
-/// Why octets are not read as a message.
-#[derive(Clone, Copy, Debug, PartialEq, Eq)]
-pub(crate) enum MessageRefused {
-    /// They have a fault.
-    Fault(PaFault),
-    /// Want of memory.
-    Memory,
-}
-
-impl From<Memory> for MessageRefused {
-    ghost from_gives = { λ _ e. e ≡ refused.Memory };
-
-    fn from(_memory: Memory) -> Self {
-        MessageRefused::Memory
-    }
-}
-
 /// The message whose octets these are, all of them (RFC 5792, section 3.6).
 ///
 /// `supported` lists the types of vendor 0 that are supported. Other attributes are left out, but where one may not be
 /// passed over the message is refused. `Refused` comes exactly where the octets have no form of a message, or such an
 /// attribute; it has the first fault.
 pub fn read_message(alloc: Global, bytes: &[u8], supported: &[u32]) -> PaRead
-    requires { length bytes.now ≤ 16777216 }
+    requires { length bytes.now ≤ MOST_OCTETS }
     ensures read { Reads result (message_of supported.now bytes.now) }
 {
     match message(alloc, bytes, supported) {
         Ok((id, attrs)) => PaRead::Ok { id, attrs },
-        Err(MessageRefused::Fault(fault)) => PaRead::Refused(fault),
-        Err(MessageRefused::Memory) => PaRead::Memory,
+        Err(Refused::Fault(fault)) => PaRead::Refused(fault),
+        Err(Refused::Memory) => PaRead::Memory,
     }
 }
 
@@ -71,39 +54,43 @@ fn message(
     alloc: Global,
     bytes: &[u8],
     supported: &[u32],
-) -> Result<(u32, PlacedAttrs), MessageRefused>
-    requires { length bytes.now ≤ 16777216 }
+) -> Result<(u32, PlacedAttrs), Refused<PaFault>>
+    requires { length bytes.now ≤ MOST_OCTETS }
     ensures message { Answers result (message_of supported.now bytes.now) }
 {
-    if bytes.len() < MESSAGE_HEADER {
+    if bytes.len() < MESSAGE_HEADER_OCTETS {
         let fault = AttrFault::new(INVALID_PARAMETER, 0);
-        return Err(MessageRefused::Fault(fault_of(bytes, true, 0, bytes, fault)));
+        return Err(Refused::Fault(fault_of(bytes, true, 0, bytes, fault)));
     }
     if bytes[0] != VERSION {
         let fault = AttrFault::new(VERSION_NOT_SUPPORTED, 0);
-        return Err(MessageRefused::Fault(fault_of(bytes, true, 0, bytes, fault)));
+        return Err(Refused::Fault(fault_of(bytes, true, 0, bytes, fault)));
     }
     let attrs = attributes(alloc, bytes, supported)?;
     Ok((u32_at(bytes, 4), attrs))
 }
 
 /// The attributes of a message that are supported, or the first fault behind its header.
-fn attributes(alloc: Global, bytes: &[u8], supported: &[u32]) -> Result<PlacedAttrs, MessageRefused>
-    requires least { 8 ≤ length bytes.now }
-    requires most { length bytes.now ≤ 16777216 }
+fn attributes(
+    alloc: Global,
+    bytes: &[u8],
+    supported: &[u32],
+) -> Result<PlacedAttrs, Refused<PaFault>>
+    requires least { MESSAGE_HEADER ≤ length bytes.now }
+    requires most { length bytes.now ≤ MOST_OCTETS }
     ensures attrs { Answers result (attrs_of supported.now bytes.now) }
 {
     let mut attrs = List::new(alloc);
     let mut answer = true;
     let mut room = MOST_ATTRIBUTES;
-    let mut at = MESSAGE_HEADER as u32;
-    let (_, mut rest) = bytes.split_at(MESSAGE_HEADER);
+    let mut at = MESSAGE_HEADER_OCTETS as u32;
+    let (_, mut rest) = bytes.split_at(MESSAGE_HEADER_OCTETS);
     while !rest.is_empty() {
         let said = message_header(supported, room, rest);
         let header = match said {
             Ok(header) => header,
             Err(fault) => {
-                return Err(MessageRefused::Fault(fault_of(bytes, answer, at, rest, fault)));
+                return Err(Refused::Fault(fault_of(bytes, answer, at, rest, fault)));
             }
         };
         keep(alloc, supported, header, rest, at, &mut attrs)?;
@@ -126,15 +113,15 @@ fn keep(
     at: u32,
     attrs: &mut PlacedAttrs,
 ) -> Result<(), Memory>
-    requires least { 12 ≤ header.octets }
+    requires least { HEADER ≤ header.octets }
     requires within { header.octets ≤ length octets.now }
-    requires places { at + 12 < 2 ^ 32 }
+    requires places { at + HEADER < 2 ^ 32 }
     ensures kept { OnOk result (attrs.new ≡ attrs.old ++ filter (supports supported.now) (placed at header octets.now ∷ [])) }
 {
     if !is_supported(supported, header.vendor, header.kind) {
         return Ok(());
     }
-    let value = Vec::from_slice(alloc, &octets[HEADER..header.octets as usize])?;
+    let value = Vec::from_slice(alloc, &octets[HEADER_OCTETS..header.octets as usize])?;
     let attr = Attr {
         noskip: header.noskip,
         vendor: header.vendor,
@@ -142,16 +129,16 @@ fn keep(
         value: List::from_vec(value),
     };
     attrs.push(PlacedAttr {
-        at: at + HEADER as u32,
+        at: at + HEADER_OCTETS as u32,
         attr,
     })
 }
 
 /// Whether a fault behind the attribute is told to the sender, where one before it was to be.
 fn is_still_answered(answer: bool, header: Header) -> bool
-    ensures answer { result ≡ answer && not ((header.vendor == 0) && (header.kind == ERROR_TYPE)) }
+    ensures answer { result ≡ answer && not ((header.vendor == IETF_VENDOR) && (header.kind == ERROR_TYPE)) }
 {
-    answer && !(header.vendor == 0 && header.kind == ERROR)
+    answer && !(header.vendor == IETF && header.kind == ERROR)
 }
 
 /// The fault of a message, of an attribute that begins with `rest` at `at`.

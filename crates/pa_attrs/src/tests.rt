@@ -292,10 +292,11 @@ fn errors_are_made_and_written(rt: HostRuntime) -> Result<(), Fail> {
     let wanted = [1, 0, 0, 0, 0, 0, 0, 5, 0x80, 0, 0, 0, 0, 0, 0, 20];
     assert_eq!(rt; refused.code, 3);
     assert_eq!(rt; refused.info.as_slice(), wanted.as_slice());
-    let denied = PaError::swima(alloc, 5, 7, None)?;
+    let denied = PaError::swima(alloc, SWIMA_SUBSCRIPTION_DENIED_ERROR, 7, None)?;
     assert_eq!(rt; (denied.vendor, denied.code), (0, 5));
     assert_eq!(rt; denied.info.as_slice(), [0, 0, 0, 7].as_slice());
-    let large = PaError::swima(alloc, 6, 7, Some(258))?;
+    let large = PaError::swima(alloc, SWIMA_RESPONSE_TOO_LARGE_ERROR, 7, Some(258))?;
+    assert_eq!(rt; (large.vendor, large.code), (0, 6));
     assert_eq!(rt; large.info.as_slice(), [0, 0, 0, 7, 0, 0, 1, 2].as_slice());
     Ok(())
 }

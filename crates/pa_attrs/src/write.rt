@@ -4,11 +4,11 @@ ghost use Rattle.std.specs.Prelude.{◌≡◌, ◌+◌, ◌<◌, ◌≤◌, ◌^
 ghost use Rattle.std.specs.List.{AllByRecursion};
 ghost use Rattle.pa_attrs.specs.AttrForm.{IsNamed, attr_fields};
 ghost use Rattle.pa_attrs.specs.MessageForm.{message_octets, written_message};
-ghost use Rattle.pa_attrs.specs.Numbers.{NOSKIP as NOSKIP_FLAG};
+ghost use Rattle.pa_attrs.specs.Numbers.{HEADER, MOST_ATTRIBUTES, MOST_OCTETS, NOSKIP as NOSKIP_FLAG};
 ghost use Rattle.wire_base.specs.Written.{flags_octet, written};
 
 use crate::attr::{Attr, PaMessage};
-use crate::numbers::{HEADER, NOSKIP, VERSION};
+use crate::numbers::{HEADER_OCTETS, NOSKIP, VERSION};
 use std::alloc::Global;
 use wire_base::{List, Memory, Octets, put_u8, put_u24, put_u32};
 
@@ -17,8 +17,8 @@ use wire_base::{List, Memory, Octets, put_u8, put_u24, put_u32};
 #[tactic(auto, unfolding(wire_base::specs::Written::written))]
 pub fn write_message(alloc: Global, message: &PaMessage) -> Result<Octets, Memory>
     requires named { AllByRecursion IsNamed message.now.attrs }
-    requires count { length message.now.attrs ≤ 64 }
-    requires within { message_octets message.now ≤ 16777216 }
+    requires count { length message.now.attrs ≤ MOST_ATTRIBUTES }
+    requires within { message_octets message.now ≤ MOST_OCTETS }
     ensures octets { IfOk result (λ made. made ≡ written_message message.now) }
 {
     let mut out = List::new(alloc);
@@ -35,13 +35,13 @@ pub fn write_message(alloc: Global, message: &PaMessage) -> Result<Octets, Memor
 #[tactic(auto, unfolding(wire_base::specs::Written::written))]
 fn put_attr(out: &mut Octets, attr: &Attr) -> Result<(), Memory>
     requires vendor { attr.now.vendor < 2 ^ 24 }
-    requires len { 12 + length attr.now.value < 2 ^ 32 }
+    requires len { HEADER + length attr.now.value < 2 ^ 32 }
     ensures appended { OnOk result (out.new ≡ out.old ++ written (attr_fields attr.now)) }
 {
     out.push(flags_of(attr.noskip))?;
     put_u24(out, attr.vendor)?;
     put_u32(out, attr.kind)?;
-    put_u32(out, (HEADER + attr.value.len()) as u32)?;
+    put_u32(out, (HEADER_OCTETS + attr.value.len()) as u32)?;
     out.extend(attr.value.as_slice())
 }
 

@@ -1,11 +1,10 @@
 -- The layouts of reports and the readers of them say the same.
-use Rattle.std.proofs.Common.{◌≡◌, ◌↔◌, ℕ, ◌≤◌, ◌⊎◌, inl, inr, [], Bool, true, false, cond, eqb, List, length, Result, Ok, Err, refl, sym, ap, subst, ◌∙◌, arith}
-use Rattle.std.specs.Prelude.{IfOk, Some, None, nat_le}
+use Rattle.std.proofs.Common.{◌≡◌, ◌↔◌, ℕ, ◌≤◌, ◌⊎◌, inl, inr, [], Bool, true, false, cond, eqb, List, length, Ok, refl, sym, ap, subst, ◌∙◌, arith}
+use Rattle.std.specs.Prelude.{Some, None, nat_le}
 use Rattle.std.specs.List.{AllByRecursion}
 use Rattle.std.proofs.lemmas.Bool.{leb-true, le-leb, eqb-true, cases_eq}
 use Rattle.wire_base.specs.Layout.{AreOctets, is_set, Form}
-use Rattle.wire_base.specs.declared.refused.FieldRefused.{FieldRefused}
-use Rattle.wire_base.specs.Reading.{Gives, Reader, whole}
+use Rattle.wire_base.specs.Reading.{Reader, whole}
 use Rattle.wire_base.proofs.StampLaws.{stamp_test_is_form}
 use Rattle.wire_base.proofs.Exact.{Exact, Anything, Nothing, number_exact, counted_exact}
 use Rattle.wire_base.proofs.Meanings.{Means, fixed_exact, if_so_means, meaning_exact}
@@ -195,12 +194,6 @@ form_of_type attr_type is = elim (four_types attr_type is) [
   | inr (inr (inr e)) ↦ subst (λ (t : ℕ). HasForm t) (sym e) (λ base octets report are r. events_forth Full base 17 octets report (λ p. refl) are r)
 ]
 
--- What was read of all octets is a report whose form they have.
-pub found : (attr_type base : ℕ) (octets : List ℕ) (result : Result Report FieldRefused) → IsReportType attr_type → AreOctets octets → Gives (λ read. read) result (whole (read_report attr_type) base octets)
-    → IfOk result (λ report. ReportForm attr_type report octets)
-found attr_type base octets (Ok report) is are given = form_of_type attr_type is base octets report are given
-found attr_type base octets (Err e) is are given = tt
-
 -- Octets are read as a report exactly where they have its form.
 pub reading_is_form : ReadingIsForm
-reading_is_form attr_type base octets report is are = (λ read. form_of_type attr_type is base octets report are read, λ form. only attr_type base octets report form)
+reading_is_form attr_type is base octets report are = (λ read. form_of_type attr_type is base octets report are read, λ form. only attr_type base octets report form)

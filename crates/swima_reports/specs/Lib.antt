@@ -2,6 +2,5 @@ pub mod ActionNumber
 pub mod ReportType
 pub mod ReportForm
 pub mod ReportReading
-pub mod FirstFault
 pub mod Laws
 pub mod Written

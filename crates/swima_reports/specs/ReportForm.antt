@@ -2,6 +2,7 @@
 -- 5.8 and 5.10), each of identifiers only or of whole records.
 use Rattle.std.specs.Prelude.{◌≡◌, ◌≤◌, ℕ, Bool, List, [], ◌∷◌, length}
 use Rattle.std.specs.List.{flat_map, AllByRecursion}
+use Rattle.wire_base.specs.FirstFault.{FirstFault}
 use Rattle.wire_base.specs.Layout.{Field, Number, Reserved, Flags, Fixed, Counted, Form}
 use Rattle.wire_base.specs.Stamp.{IsStamp}
 use Rattle.swima_model.specs.declared.event.Event.{Event}
@@ -100,8 +101,19 @@ abbrev pub CanBeWritten : Report → Type 0
 CanBeWritten (Inventory kind fulfil id point records) = AllByRecursion (λ (r : Record). MayCarry kind r.content.body) records
 CanBeWritten (Events kind fulfil id point consulted events) = (consulted ≤ point.eid) × AllByRecursion (MayCarryEvent kind) events
 
+-- ---- values of attributes
+
 -- The octets are the value of an attribute of the type that carries the report.
 pub record ReportForm (attr_type : ℕ) (report : Report) (octets : List ℕ) : Type 0 where
   pub of_type : report_type report ≡ attr_type
   pub form : Form (report_fields report) octets
   pub written : CanBeWritten report
+
+-- A report that an attribute of the type can carry.
+abbrev pub IsCarried : ℕ → Report → Type 0
+IsCarried attr_type report = (report_type report ≡ attr_type) × CanBeWritten report
+
+-- The first fault of the value of an attribute of the type, of which the first octet stands at `base`, is at the place: the
+-- octets in front of it are the first fields of some report, and behind them they go on as no report does.
+abbrev pub ReportFault : ℕ → ℕ → List ℕ → ℕ → Type 0
+ReportFault attr_type base octets place = FirstFault report_fields (IsCarried attr_type) base octets place

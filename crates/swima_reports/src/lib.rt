@@ -3,9 +3,9 @@
 //!
 //! It stands on `swima_model` and `wire_base`. The crates above rest on these clauses of `read_report`: `exact` (it is the
 //! layout read field by field, with the place of the first fault), `found` with `only` (a report comes exactly where the
-//! value is in its form), and `fault` (else the place is that of the first fault). The form is `ReportForm` in
-//! `specs/ReportForm.antt`, and the first fault `FirstFault` in `specs/FirstFault.antt`; the functions of `laws` say that
-//! they and the reading field by field are the same.
+//! value is in its form), and `fault` (else the place is that of the first fault). The form and the first fault are
+//! `ReportForm` and `ReportFault` in `specs/ReportForm.antt`; the functions of `laws` say that they and the reading field by
+//! field are the same.
 #![tactic(auto)]
 
 mod attribute_types;

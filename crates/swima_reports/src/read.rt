@@ -2,9 +2,10 @@
 
 ghost use Rattle.std.specs.Prelude.{◌≡◌, ◌+◌, ◌<◌, ◌≤◌, ◌^◌, Ok, IfOk, length};
 ghost use Rattle.swima_model.specs.declared.report.Report.{Report as ReportValue};
-ghost use Rattle.swima_reports.specs.FirstFault.{FirstFault, OnFault};
-ghost use Rattle.swima_reports.specs.ReportForm.{ReportForm};
+ghost use Rattle.swima_reports.specs.ReportForm.{ReportFault, ReportForm};
 ghost use Rattle.swima_reports.specs.ReportReading.{read_events, read_inventory, read_report};
+ghost use Rattle.swima_reports.specs.ReportType.{IsReportType};
+ghost use Rattle.wire_base.specs.FirstFault.{OnFault};
 ghost use Rattle.wire_base.specs.Reading.{Gives, value_alone, whole};
 
 use crate::attribute_types::{
@@ -26,13 +27,12 @@ pub fn read_report(
     value: &[u8],
     base: u32,
 ) -> Result<Report, FieldRefused>
-    requires first { 14 ≤ attr_type }
-    requires last { attr_type ≤ 17 }
+    requires kind { IsReportType attr_type }
     requires places { base + length value.now < 2 ^ 32 }
     ensures found { IfOk result (λ report. ReportForm attr_type report value.now) }
     ensures only { (report : ReportValue) → ReportForm attr_type report value.now
         → Gives (λ read. read) result (Ok report) }
-    ensures fault { OnFault result (λ place. FirstFault attr_type base value.now place) }
+    ensures fault { OnFault result (λ place. ReportFault attr_type base value.now place) }
     ensures exact { Gives (λ read. read) result (whole (read_report attr_type) base value.now) }
 {
     by_type(alloc, attr_type, Cursor::new(base, value))

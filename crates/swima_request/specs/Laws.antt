@@ -1,14 +1,30 @@
 -- What the definitions mean.
-use Rattle.std.specs.Prelude.{◌≡◌, ◌↔◌, ◌<◌, ◌^◌, ◌++◌, ℕ, List, [], Ok, length}
+use Rattle.std.specs.Prelude.{◌≡◌, ◌<◌, ◌^◌, ℕ, List, Ok, length}
 use Rattle.std.specs.List.{AllByRecursion}
-use Rattle.wire_base.specs.Layout.{AreOctets}
+use Rattle.wire_base.specs.FirstFault.{FormOrFault, NoneIsAFront, ReadsFault, ReadsForm}
 use Rattle.wire_base.specs.Reading.{whole}
 use Rattle.swima_request.specs.declared.request.Request.{Request}
-use Rattle.swima_request.specs.RequestForm.{RequestForm, read_request, request_octets, written_request}
+use Rattle.swima_request.specs.RequestForm.{RequestFault, RequestForm, read_request, request_octets, written_request}
+
+-- ---- reading
 
 -- A request is read of octets exactly where they have its form.
 abbrev pub ReadingIsForm : Type 0
-ReadingIsForm = (base : ℕ) (octets : List ℕ) (request : Request) → AreOctets octets → (whole read_request base octets ≡ Ok request) ↔ RequestForm request octets
+ReadingIsForm = ReadsForm read_request RequestForm
+
+-- A fault is read of octets exactly where it is their first.
+abbrev pub FaultIsFirst : Type 0
+FaultIsFirst = ReadsFault read_request RequestFault
+
+-- Octets are the form of a request or have a first fault: exactly one of the two, and one request or fault alone.
+abbrev pub AreOneOfTwo : Type 0
+AreOneOfTwo = FormOrFault RequestForm RequestFault
+
+-- No form of a request is the front of another one.
+abbrev pub NoFormIsAFront : Type 0
+NoFormIsAFront = NoneIsAFront RequestForm
+
+-- ---- writing
 
 -- The numbers of a request, and the lengths and the count of its targets, have room in their fields.
 pub record HasRoom (request : Request) : Type 0 where
@@ -24,7 +40,3 @@ WrittenIsRead = (base : ℕ) (request : Request) → HasRoom request → whole r
 -- It has so many octets as are counted.
 abbrev pub WrittenIsCounted : Type 0
 WrittenIsCounted = (request : Request) → length (written_request request) ≡ request_octets request
-
--- No request is a front of another one.
-abbrev pub NoneIsFront : Type 0
-NoneIsFront = (request other : Request) (octets rest : List ℕ) → AreOctets (octets ++ rest) → RequestForm request octets → RequestForm other (octets ++ rest) → rest ≡ []

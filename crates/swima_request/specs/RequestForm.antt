@@ -1,8 +1,9 @@
 -- The value of a SWIMA Request attribute (RFC 8412, section 5.6).
 use Rattle.std.specs.Prelude.{◌+◌, ℕ, Bool, true, false, List, [], ◌∷◌, length, sum_by, if◌then◌else◌}
 use Rattle.std.specs.List.{flat_map}
+use Rattle.wire_base.specs.FirstFault.{FirstFault}
 use Rattle.wire_base.specs.Layout.{Field, Number, Flags, Counted, Form, is_set}
-use Rattle.wire_base.specs.Reading.{Reader, ◌>>=◌, done, number, counted, several, at_end}
+use Rattle.wire_base.specs.Reading.{Reader, ◌>>=◌, number, counted, several, at_end}
 use Rattle.wire_base.specs.Written.{written}
 use Rattle.swima_model.specs.declared.report.Kind.{Kind}
 use Rattle.swima_model.specs.declared.report.Kind.TheVariants as kind
@@ -42,11 +43,16 @@ request_fields request =
 abbrev pub RequestForm : Request → List ℕ → Type 0
 RequestForm request octets = Form (request_fields request) octets
 
+-- The first fault of the octets, of which the first stands at `base`, is at the place: those in front of it are the first
+-- fields of some request, and behind them they go on as no request does.
+abbrev pub RequestFault : ℕ → List ℕ → ℕ → Type 0
+RequestFault base octets place = FirstFault request_fields (λ request. Unit {0}) base octets place
+
 -- What is written of a request.
 abbrev pub written_request : Request → List ℕ
 written_request request = written (request_fields request)
 
--- How many octets it has.
+-- How many octets it has: 12 before the targets, and of each target its length and its octets.
 abbrev pub request_octets : Request → ℕ
 request_octets request = 12 + sum_by (λ (target : List ℕ). 2 + length target) request.targets
 

@@ -1,10 +1,27 @@
 //! What the definitions mean, proved of every value: the calls do nothing.
 
-ghost use Rattle.swima_request.specs.Laws.{NoneIsFront, ReadingIsForm, WrittenIsCounted, WrittenIsRead};
+ghost use Rattle.swima_request.specs.Laws.{AreOneOfTwo, FaultIsFirst, NoFormIsAFront, ReadingIsForm, WrittenIsCounted, WrittenIsRead};
 
-/// A request is read of octets exactly where they have its form.
+/// The layout read field by field gives a request exactly where the octets have the request's form: the reader and the form,
+/// each written in the order of the RFC's figure, say the same.
 pub fn reading_is_form()
     ensures law { ReadingIsForm }
+{}
+
+/// The layout read field by field says a fault at a place exactly where that is the first one: the octets in front of it
+/// are the first fields of a request, and behind them they go on as no request does.
+pub fn fault_is_first()
+    ensures law { FaultIsFirst }
+{}
+
+/// Octets are the form of one request and have no first fault, or of none and have one, at one place.
+pub fn form_or_fault()
+    ensures law { AreOneOfTwo }
+{}
+
+/// No form of a request is a front of another form, so octets behind a request are always a fault.
+pub fn no_form_is_a_front()
+    ensures law { NoFormIsAFront }
 {}
 
 /// What is written of a request is read back.
@@ -15,9 +32,4 @@ pub fn written_is_read()
 /// What is written of a request has as many octets as are counted.
 pub fn written_is_counted()
     ensures law { WrittenIsCounted }
-{}
-
-/// No request is a front of another one.
-pub fn none_is_front()
-    ensures law { NoneIsFront }
 {}

@@ -1,10 +1,17 @@
-//! The flags of a request (RFC 8412, section 5.6).
+//! The numbers of requests (RFC 8412).
 
-/// All subscriptions are to be cleared first.
+/// The subtype of PA-TNC messages, by the vendor 0 of the IETF, that carry requests, reports and errors about them: SWIMA
+/// Attributes (section 5.1).
+pub const SWIMA_ATTRIBUTES: u32 = 9;
+
+/// The attribute type of a request, by the vendor 0 of the IETF: SWIMA Request (section 5.2).
+pub const SWIMA_REQUEST: u32 = 13;
+
+/// The flag that all subscriptions are to be cleared first (section 5.6).
 pub(crate) const CLEAR: u8 = 0x80;
 
-/// Reports of later changes are asked for too.
+/// The flag that reports of later changes are asked for too (section 5.6).
 pub(crate) const SUBSCRIBE: u8 = 0x40;
 
-/// Reports of identifiers only are asked for.
+/// The flag that reports of identifiers only are asked for (section 5.6).
 pub(crate) const IDENTIFIERS_ONLY: u8 = 0x20;

@@ -1,7 +1,9 @@
 //! Reading requests.
 
-ghost use Rattle.std.specs.Prelude.{◌≡◌, ◌+◌, ◌-◌, ◌<◌, ◌≤◌, ◌^◌, length};
-ghost use Rattle.swima_request.specs.RequestForm.{kind_of, read_request};
+ghost use Rattle.std.specs.Prelude.{◌≡◌, ◌+◌, ◌-◌, ◌<◌, ◌≤◌, ◌^◌, Ok, IfOk, length};
+ghost use Rattle.swima_request.specs.declared.request.Request.{Request as RequestValue};
+ghost use Rattle.swima_request.specs.RequestForm.{RequestFault, RequestForm, kind_of, read_request};
+ghost use Rattle.wire_base.specs.FirstFault.{OnFault};
 ghost use Rattle.wire_base.specs.Reading.{Gives, counted, several, value_alone, whole};
 
 use crate::numbers::{CLEAR, IDENTIFIERS_ONLY, SUBSCRIBE};
@@ -10,13 +12,17 @@ use std::alloc::Global;
 use swima_model::{Ident, Kind};
 use wire_base::{Cursor, FieldRefused, List};
 
-/// The request that is the value of an attribute of type 13 (RFC 8412, section 5.6).
+/// The request that is the value of an attribute of type `SWIMA_REQUEST` (RFC 8412, section 5.6).
 ///
 /// `Fault` comes exactly where the value has no form; its offset is the place of the first fault, counted from `base`, the
 /// place of the value's first octet.
 pub fn read_request(alloc: Global, value: &[u8], base: u32) -> Result<Request, FieldRefused>
     requires places { base + length value.now < 2 ^ 32 }
-    ensures value { Gives (λ read. read) result (whole read_request base value.now) }
+    ensures found { IfOk result (λ request. RequestForm request value.now) }
+    ensures only { (request : RequestValue) → RequestForm request value.now
+        → Gives (λ read. read) result (Ok request) }
+    ensures fault { OnFault result (λ place. RequestFault base value.now place) }
+    ensures exact { Gives (λ read. read) result (whole read_request base value.now) }
 {
     request(alloc, Cursor::new(base, value))
 }
