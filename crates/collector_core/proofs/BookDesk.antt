@@ -72,7 +72,6 @@ module _ (T : Type 0) (says : T → State → Entry → Type 0) (at : State → 
               let same : entered.1.0 ≡ done.1.0 = one (state_of chronicle) entered.1.0 done.1.0 entered.1.1 (subst (λ (s : State). at s done.1.0) (state_same old chronicle stands) done.1.1) in
               subst (λ (x : Entry). Stands new (extended chronicle (x ∷ []))) same entered.1.2;
         },
-        (book_state old, told done.1.0 done.1.1),
         λ chronicle stands. (
           ap refusal (sym (state_behind old chronicle stands)) ∙ done.0,
           subst (λ (s : State). says answer s done.1.0) (state_behind old chronicle stands) (told done.1.0 done.1.1),

@@ -1,10 +1,16 @@
 -- Any change as one call of a book.
-use Rattle.std.specs.Prelude.{Err, Ok, Option, Result}
+use Rattle.std.proofs.Common.{◌≡◌, ◌∙◌, refl, sym, ap}
+use Rattle.std.proofs.lemmas.Option.{none-some, same_Some}
+use Rattle.std.specs.Prelude.{Err, None, Ok, Option, Result, Some, ◌↔◌, option_map}
+use Rattle.swima_model.specs.declared.record.Record.{Record}
 use Rattle.collector_core.specs.declared.chronicle.Entry.{Entry}
+use Rattle.collector_core.specs.declared.edit.Edit.{Edit}
+use Rattle.collector_core.specs.declared.edit.Edit.TheVariants as edit
 use Rattle.collector_core.specs.declared.error.BookError.{BookError}
 use Rattle.collector_core.specs.declared.error.BookError.TheVariants as refused
 use Rattle.collector_core.specs.Chronicle.{Chronicle}
-use Rattle.collector_core.specs.Edits.{retold}
+use Rattle.collector_core.specs.Desks.{State}
+use Rattle.collector_core.specs.Edits.{Makes, entry_of, retold}
 use Rattle.collector_core.specs.Standing.{BookView, Changes, Enters}
 
 module _ {S T : Type 0} (says : Entry → Type 0) (refusal : Option BookError) (value : T) where
@@ -29,3 +35,24 @@ module _ {S T : Type 0} (says : Entry → Type 0) (refusal : Option BookError) (
   enters_retold chronicle (Err (refused.BytesFull n m)) new done = done
   enters_retold chronicle (Err (refused.EpochNotNew n m)) new done = done
   enters_retold chronicle (Err (refused.TrimPast n m)) new done = done
+
+-- ---- the entry as a function
+
+some_entry : (x y : Entry) → (x ≡ y) ↔ (Some y ≡ Some x)
+some_entry x y = (λ is. ap Some (sym is), λ is. sym (same_Some y x is))
+
+-- What is made of the record that is held, if one is.
+held_entry : (told : Record → Entry) (found : Option Record) (made : Entry)
+    → ((held : Record) × (found ≡ Some held) × (made ≡ told held)) ↔ (option_map told found ≡ Some made)
+held_entry told None made = (λ is. absurd (none-some is.0 is.1), λ is. absurd (none-some made is))
+held_entry told (Some held) made = (
+  λ is. ap (option_map told) is.1 ∙ ap Some (sym is.2),
+  λ is. (held, refl, sym (same_Some (told held) made is)),
+)
+
+pub entry_made : (edit : Edit) (state : State) (made : Entry) → Makes edit state made ↔ (entry_of edit state ≡ Some made)
+entry_made (edit.Create stamp content) state made = some_entry made _
+entry_made (edit.Alter stamp id content) state made = some_entry made _
+entry_made (edit.Delete stamp id) state made = held_entry _ _ made
+entry_made (edit.BeginEpoch epoch) state made = some_entry made _
+entry_made (edit.Trim first) state made = some_entry made _

@@ -85,7 +85,7 @@ module _ {D : Type 0} (stands : D → Chronicle → Type 0) (went : D → List M
   abbrev pub Does : {T : Type 0} → (T → State → Entry → Type 0) → (State → Option BookError) → D → List Mark → D → Result T BookError
       → Type 0
   Does says refusal before others after (Ok told) =
-      (made : Entry) × went before (others ++ own_mark made ∷ []) after × ((state : State) × says told state made)
+      (made : Entry) × went before (others ++ own_mark made ∷ []) after
       × ((chronicle : Chronicle) → stands before chronicle → (refusal (state_of (extended chronicle (entries others))) ≡ None)
       × says told (state_of (extended chronicle (entries others))) made)
   Does says refusal before others after (Err refused.Memory) =

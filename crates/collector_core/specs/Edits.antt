@@ -1,6 +1,8 @@
 -- Any change of a book, as one value.
-use Rattle.std.specs.Prelude.{◌≡◌, ℕ, Bool, true, false, Option, Result, Ok, Err}
+use Rattle.std.specs.Prelude.{◌≡◌, ℕ, Bool, true, false, Option, Some, Result, Ok, Err, option_map}
 use Rattle.wire_base.specs.Stamp.{IsStamp}
+use Rattle.swima_model.specs.declared.record.Record.{Record}
+use Rattle.swima_model.specs.Live.{record_of}
 use Rattle.collector_core.specs.declared.chronicle.Entry.{Entry}
 use Rattle.collector_core.specs.declared.chronicle.Entry.TheVariants as entry
 use Rattle.collector_core.specs.declared.edit.Edit.{Edit}
@@ -8,7 +10,7 @@ use Rattle.collector_core.specs.declared.edit.Edit.TheVariants as edit
 use Rattle.collector_core.specs.declared.error.BookError.{BookError}
 use Rattle.collector_core.specs.Desks.{State}
 use Rattle.collector_core.specs.Refusals.{alter_refusal, create_refusal, delete_refusal, epoch_refusal, trim_refusal}
-use Rattle.collector_core.specs.Standing.{IsAlteration, IsCreation, IsDeletion}
+use Rattle.collector_core.specs.Standing.{IsAlteration, IsCreation, IsDeletion, alteration, creation, deletion}
 
 -- Where it has a moment, this is a stamp.
 abbrev pub IsStamped : Edit → Type 0
@@ -25,6 +27,14 @@ Makes (edit.Alter stamp id content) state made = IsAlteration state.last stamp.n
 Makes (edit.Delete stamp id) state made = IsDeletion state.last state.records stamp.now id made
 Makes (edit.BeginEpoch epoch) state made = made ≡ entry.Epoch epoch
 Makes (edit.Trim first) state made = made ≡ entry.Trim first
+
+-- The entry that it makes, as a function; `None` where it deletes a record that is not live.
+abbrev pub entry_of : Edit → State → Option Entry
+entry_of (edit.Create stamp content) state = Some (entry.Event (creation state.last state.next stamp.now content.now))
+entry_of (edit.Alter stamp id content) state = Some (entry.Event (alteration state.last stamp.now id content.now))
+entry_of (edit.Delete stamp id) state = option_map (λ (held : Record). entry.Event (deletion state.last stamp.now held)) (record_of id state.records)
+entry_of (edit.BeginEpoch epoch) state = Some (entry.Epoch epoch)
+entry_of (edit.Trim first) state = Some (entry.Trim first)
 
 -- Why it is refused.
 abbrev pub edit_refusal : Edit → State → Option BookError

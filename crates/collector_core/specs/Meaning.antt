@@ -1,5 +1,5 @@
 -- What the definitions of chronicles mean.
-use Rattle.std.specs.Prelude.{◌≡◌, ◌≢◌, ◌<◌, ◌≤◌, ℕ, true, List, [], ◌∷◌, ◌++◌, All, AllPairs, length}
+use Rattle.std.specs.Prelude.{◌≡◌, ◌≢◌, ◌<◌, ◌≤◌, ◌↔◌, ℕ, true, Some, List, [], ◌∷◌, ◌++◌, All, AllPairs, length}
 use Rattle.wire_base.specs.Stamp.{IsStamp}
 use Rattle.swima_model.specs.declared.event.Event.{Event as EventValue}
 use Rattle.swima_model.specs.declared.report.Point.{Point}
@@ -10,7 +10,10 @@ use Rattle.swima_model.specs.Size.{MOST_RECORDS, report_count, report_size}
 use Rattle.swima_request.specs.declared.request.Request.{Request}
 use Rattle.collector_core.specs.declared.chronicle.Entry.{Entry}
 use Rattle.collector_core.specs.declared.answer.Answer.TheVariants as answer
+use Rattle.collector_core.specs.declared.edit.Edit.{Edit}
 use Rattle.collector_core.specs.Chronicle.{Chronicle, current, extended, front, history, last_eid}
+use Rattle.collector_core.specs.Desks.{State}
+use Rattle.collector_core.specs.Edits.{Makes, entry_of}
 use Rattle.collector_core.specs.Legal.{IsLegal}
 use Rattle.collector_core.specs.Answering.{answer_at, events_report, moved_at, told}
 
@@ -91,3 +94,9 @@ LastRises = (chronicle : Chronicle) (further : List Entry) → IsLegal (extended
 abbrev pub AnswersStay : Type 0
 AnswersStay = (chronicle : Chronicle) (further : List Entry) (report : Report) → IsLegal (extended chronicle further)
     → Answers (history chronicle) report → Answers (history (extended chronicle further)) report
+
+-- ---- changes as values
+
+-- An entry is the one that a change makes exactly where it is the one that the function gives.
+abbrev pub EntryOfIsMade : Type 0
+EntryOfIsMade = (edit : Edit) (state : State) (made : Entry) → Makes edit state made ↔ (entry_of edit state ≡ Some made)

@@ -1,83 +1,98 @@
-//! A book through the calls of a desk, and by changes as values.
+//! A book through the calls of a desk, from code over any desk.
 
+ghost use Rattle.std.specs.Prelude.{◌≡◌, true};
+ghost use Rattle.wire_base.specs.Stamp.{IsStamp};
+
+use crate::answer_tests::expect_too_large;
 use crate::tests::{STAMP, content, six_created};
-use crate::{Book, BookError, Changed, Desk, Edit, answers_in_turn};
-use std::process::Abort;
+use crate::{Book, BookError, Desk, answers_in_turn};
 use std::test::Fail;
-use swima_model::{Kind, Point};
-use swima_request::Request;
+use swima_model::{Content, Kind, Point};
+use swima_request::{Idents, Request};
 use wire_base::{List, is_stamp};
 
+/// Creates a record at any desk.
+fn create_at<D: Desk>(desk: &mut D, stamp: &[u8; 20], content: &Content) -> Result<u32, BookError>
+    requires takes { D.takes desk.old ≡ true }
+    requires stamp { IsStamp stamp.now }
+{
+    desk.create(stamp, content)
+}
+
+/// Replaces the content of a record at any desk.
+fn alter_at<D: Desk>(
+    desk: &mut D,
+    stamp: &[u8; 20],
+    id: u32,
+    content: &Content,
+) -> Result<(), BookError>
+    requires takes { D.takes desk.old ≡ true }
+    requires stamp { IsStamp stamp.now }
+{
+    desk.alter(stamp, id, content)
+}
+
+/// Deletes a record at any desk.
+fn delete_at<D: Desk>(desk: &mut D, stamp: &[u8; 20], id: u32) -> Result<(), BookError>
+    requires takes { D.takes desk.old ≡ true }
+    requires stamp { IsStamp stamp.now }
+{
+    desk.delete(stamp, id)
+}
+
+/// The point of any desk, and whether something has moved since another.
+fn ask_at<D: Desk>(desk: &mut D, after: Point, targets: &Idents) -> (Point, bool) {
+    (desk.point(), desk.moved(after, targets))
+}
+
 #[test]
-fn a_book_is_a_desk(rt: HostRuntime) -> Result<(), Fail> {
-    let alloc = rt.alloc();
-    let mut book = Book::new(alloc, 1, 4, &[])?;
-    let one = content(alloc, b"a", 3)?;
-    let other = content(alloc, b"b", 0)?;
-    let all = List::new(alloc);
+fn a_desk_creates_and_alters(rt: HostRuntime) -> Result<(), Fail> {
+    let mut book = Book::new(rt.alloc(), 1, 4, &[])?;
+    let one = content(rt.alloc(), b"a", 3)?;
+    let other = content(rt.alloc(), b"b", 0)?;
     assert!(rt; is_stamp(&STAMP));
-    assert_eq!(rt; Desk::create(&mut book, &STAMP, &one), Ok(1));
-    Desk::alter(&mut book, &STAMP, 1, &other)?;
-    assert_eq!(rt; Desk::point(&mut book), Point { epoch: 1, eid: 2 });
-    assert!(rt; Desk::moved(&mut book, Point { epoch: 1, eid: 1 }, &all));
-    Desk::delete(&mut book, &STAMP, 1)?;
-    assert_eq!(rt;
-        Desk::delete(&mut book, &STAMP, 1),
-        Err(BookError::UnknownRecord { id: 1 })
-    );
+    assert_eq!(rt; create_at(&mut book, &STAMP, &one), Ok(1));
+    alter_at(&mut book, &STAMP, 1, &other)?;
+    let altered = book.record(1).ok_or("a record")?;
+    assert_eq!(rt; altered.content.ident.bytes(), b"b".as_slice());
+    Ok(())
+}
+
+#[test]
+fn a_desk_deletes(rt: HostRuntime) -> Result<(), Fail> {
+    let mut book = six_created(&rt, rt.alloc())?;
+    let unknown = BookError::UnknownRecord { id: 2 };
+    assert!(rt; is_stamp(&STAMP));
+    delete_at(&mut book, &STAMP, 2)?;
+    assert_eq!(rt; delete_at(&mut book, &STAMP, 2), Err(unknown));
+    assert_eq!(rt; book.count(), 5);
+    Ok(())
+}
+
+#[test]
+fn a_desk_tells_its_point(rt: HostRuntime) -> Result<(), Fail> {
+    let mut book = six_created(&rt, rt.alloc())?;
+    let all = List::new(rt.alloc());
+    let point = Point { epoch: 1, eid: 6 };
+    let earlier = Point { epoch: 1, eid: 5 };
+    assert_eq!(rt; ask_at(&mut book, point, &all), (point, false));
+    assert_eq!(rt; ask_at(&mut book, earlier, &all), (point, true));
     Ok(())
 }
 
 #[test]
 fn a_desk_answers_in_turn(rt: HostRuntime) -> Result<(), Fail> {
-    let alloc = rt.alloc();
-    let mut book = six_created(&rt, alloc)?;
+    let mut book = six_created(&rt, rt.alloc())?;
     let request = Request {
         clear: false,
         subscribe: false,
         kind: Kind::Full,
         id: 5,
         earliest: 6,
-        targets: List::new(alloc),
+        targets: List::new(rt.alloc()),
     };
     let (first, second) = answers_in_turn(&mut book, &request, &request, 67);
-    assert!(rt; matches!(&first, crate::Answer::TooLarge { size: 68, max: 67 }));
-    assert!(rt; matches!(&second, crate::Answer::TooLarge { size: 68, max: 67 }));
-    Ok(())
-}
-
-/// Expects a change that was done: where the book stands then, and the identifier of the record.
-fn expect_changed(rt: &impl Abort, changed: Result<Changed, BookError>, at: (u32, u32), id: u32) {
-    let (epoch, eid) = at;
-    let point = Point { epoch, eid };
-    assert_eq!(rt; changed, Ok(Changed { point, id }));
-}
-
-#[test]
-fn a_book_does_any_change(rt: HostRuntime) -> Result<(), Fail> {
-    let alloc = rt.alloc();
-    let mut book = Book::new(alloc, 1, 4, &[])?;
-    let one = content(alloc, b"a", 3)?;
-    let moment = STAMP;
-    assert!(rt; is_stamp(&moment));
-    let stamp = &moment;
-    let content = &one;
-    expect_changed(&rt, book.apply(Edit::Create { stamp, content }), (1, 1), 1);
-    expect_changed(&rt, book.apply(Edit::Create { stamp, content }), (1, 2), 2);
-    let id = 1;
-    expect_changed(
-        &rt,
-        book.apply(Edit::Alter { stamp, id, content }),
-        (1, 3),
-        1,
-    );
-    expect_changed(&rt, book.apply(Edit::Delete { stamp, id: 2 }), (1, 4), 2);
-    expect_changed(&rt, book.apply(Edit::Trim { first: 4 }), (1, 4), 0);
-    expect_changed(&rt, book.apply(Edit::BeginEpoch { epoch: 9 }), (9, 0), 0);
-    let spent = BookError::EpochNotNew {
-        latest: 9,
-        given: 9,
-    };
-    assert_eq!(rt; book.apply(Edit::BeginEpoch { epoch: 9 }), Err(spent));
+    expect_too_large(&rt, &first, (68, 67));
+    expect_too_large(&rt, &second, (68, 67));
     Ok(())
 }

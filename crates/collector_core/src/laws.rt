@@ -1,6 +1,6 @@
 //! What the definitions mean, proved of every value: the calls do nothing.
 
-ghost use Rattle.collector_core.specs.Meaning.{AnswersAreOfTheHistory, AnswersCanBeTold, AnswersStay, ChroniclesJoin, FrontsAreLegal, LastRises, LongestFrontIsTold, MovedIsLater};
+ghost use Rattle.collector_core.specs.Meaning.{AnswersAreOfTheHistory, AnswersCanBeTold, AnswersStay, ChroniclesJoin, EntryOfIsMade, FrontsAreLegal, LastRises, LongestFrontIsTold, MovedIsLater};
 
 /// The histories of several legal chronicles one after another are an honest history, where no number of an epoch is used
 /// twice. This is how a collector counts that was started anew.
@@ -43,4 +43,9 @@ pub fn answers_stay()
 /// 3.7.5).
 pub fn longest_front_is_told()
     ensures law { LongestFrontIsTold }
+{}
+
+/// Which entry a change makes is a function of the change and of what it looks at.
+pub fn entry_of_is_made()
+    ensures law { EntryOfIsMade }
 {}

@@ -29,6 +29,16 @@ pub use error::BookError;
 #[cfg(test)]
 mod answer_tests;
 #[cfg(test)]
+mod base_tests;
+#[cfg(test)]
 mod desk_tests;
 #[cfg(test)]
+mod edit_tests;
+#[cfg(test)]
+mod full_tests;
+#[cfg(test)]
+mod moved_tests;
+#[cfg(test)]
 mod tests;
+#[cfg(test)]
+mod thread_tests;

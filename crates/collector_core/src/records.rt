@@ -1,9 +1,10 @@
 //! Records in order of their identifiers.
 
-ghost use Rattle.std.specs.Prelude.{◌≡◌, ◌<◌, ◌≤◌, ◌+◌, All, IfOk, length};
+ghost use Rattle.std.specs.Prelude.{◌≡◌, ◌<◌, ◌≤◌, ◌+◌, ◌++◌, ◌∷◌, [], All, IfOk, List, OnErr, OnOk, length};
 ghost use Rattle.std.specs.List.{sum_by};
 ghost use Rattle.std.specs.List.Sorted.{IsStrictlyIncreasing};
 ghost use Rattle.wire_base.specs.Layout.{AreOctets};
+ghost use Rattle.swima_model.specs.declared.record.Record.{Record};
 ghost use Rattle.swima_model.specs.InOrder.{ids};
 ghost use Rattle.swima_model.specs.Size.{content_octets};
 ghost use Rattle.collector_core.specs.Book.{IsPlaceOf};
@@ -49,6 +50,33 @@ pub fn identified(alloc: Global, contents: &[Content]) -> Result<Vec<Record>, Me
         records.push(Record { id, content })?;
     }
     Ok(records)
+}
+
+/// Puts a record at the end.
+pub fn push_record(records: &mut Vec<Record>, added: Record) -> Result<(), Memory>
+    ensures ok { OnOk result (records.new.items ≡ records.old.items ++ added ∷ []) }
+    ensures memory { OnErr result (records.new.items ≡ records.old.items) }
+{
+    records.push(added)?;
+    Ok(())
+}
+
+/// Replaces the content of the record at a place.
+pub fn put_content(records: &mut Vec<Record>, place: usize, content: Content)
+    requires place { place < length records.old.items }
+    ensures put { (before : List Record) (held : Record) (after : List Record) → records.old.items ≡ before ++ held ∷ after
+        → place ≡ length before → records.new.items ≡ before ++ record { id = held.id; content = content } ∷ after }
+{
+    records[place].content = content;
+}
+
+/// Takes the record at a place out.
+pub fn take_record(records: &mut Vec<Record>, place: usize) -> Record
+    requires place { place < length records.old.items }
+    ensures taken { (before : List Record) (held : Record) (after : List Record) → records.old.items ≡ before ++ held ∷ after
+        → place ≡ length before → (result ≡ held) × (records.new.items ≡ before ++ after) }
+{
+    records.remove(place)
 }
 
 /// Says that the parts of a content are octets and within their limits. It does nothing.

@@ -1,11 +1,13 @@
 //! Worked rows: the changes of a book, the refusals with their numbers, and what it holds behind each.
 
+ghost use Rattle.std.specs.Prelude.{◌≤◌};
+
 use crate::{Book, BookError};
 use std::alloc::Global;
 use std::process::Abort;
 use std::test::Fail;
 use swima_model::{Body, Content, Ident, Locator, Model, Point};
-use wire_base::{TryCopy, is_stamp};
+use wire_base::is_stamp;
 
 pub const STAMP: [u8; 20] = *b"2026-02-03T04:05:06Z";
 
@@ -22,16 +24,6 @@ pub fn content(alloc: Global, ident: &[u8], octets: usize) -> Result<Content, Fa
     })
 }
 
-/// So many contents, each with so many octets of a body.
-fn contents(alloc: Global, count: usize, octets: usize) -> Result<Vec<Content>, Fail> {
-    let one = content(alloc, b"", octets)?;
-    let mut contents = Vec::with_capacity(alloc, count)?;
-    for _ in 0..count {
-        contents.push(one.copy()?)?;
-    }
-    Ok(contents)
-}
-
 /// Creates a record of this identifier.
 pub fn create(rt: &impl Abort, alloc: Global, book: &mut Book, ident: &[u8]) -> Result<u32, Fail> {
     let content = content(alloc, ident, 5)?;
@@ -40,7 +32,7 @@ pub fn create(rt: &impl Abort, alloc: Global, book: &mut Book, ident: &[u8]) -> 
 }
 
 /// Expects the point, the first event identifier that is kept, and how many records are live.
-fn expect_at(rt: &impl Abort, book: &Book, epoch: u32, eid: u32, first: u32, count: u32) {
+pub fn expect_at(rt: &impl Abort, book: &Book, epoch: u32, eid: u32, first: u32, count: u32) {
     assert_eq!(rt; book.point(), Point { epoch, eid });
     assert_eq!(rt; (book.first(), book.count()), (first, count));
 }
@@ -55,26 +47,48 @@ pub fn six_created(rt: &impl Abort, alloc: Global) -> Result<Book, Fail> {
 }
 
 #[test]
-fn a_book_numbers_changes_and_keeps_the_latest(rt: HostRuntime) -> Result<(), Fail> {
-    let alloc = rt.alloc();
-    let mut book = six_created(&rt, alloc)?;
+fn the_latest_events_are_kept(rt: HostRuntime) -> Result<(), Fail> {
+    let book = six_created(&rt, rt.alloc())?;
     expect_at(&rt, &book, 1, 6, 3, 6);
+    Ok(())
+}
+
+#[test]
+fn a_record_that_is_not_live_is_not_deleted(rt: HostRuntime) -> Result<(), Fail> {
+    let mut book = six_created(&rt, rt.alloc())?;
+    let unknown = BookError::UnknownRecord { id: 9 };
     assert!(rt; is_stamp(&STAMP));
-    assert_eq!(rt;
-        book.delete(&STAMP, 9),
-        Err(BookError::UnknownRecord { id: 9 })
-    );
-    assert_eq!(rt;
-        book.begin_epoch(1),
-        Err(BookError::EpochNotNew {
-            latest: 1,
-            given: 1
-        })
-    );
-    assert_eq!(rt;
-        book.trim(8),
-        Err(BookError::TrimPast { last: 6, given: 8 })
-    );
+    assert_eq!(rt; book.delete(&STAMP, 9), Err(unknown));
+    expect_at(&rt, &book, 1, 6, 3, 6);
+    Ok(())
+}
+
+#[test]
+fn a_record_that_is_not_live_is_not_altered(rt: HostRuntime) -> Result<(), Fail> {
+    let mut book = six_created(&rt, rt.alloc())?;
+    let other = content(rt.alloc(), b"g", 9)?;
+    let unknown = BookError::UnknownRecord { id: 9 };
+    assert!(rt; is_stamp(&STAMP));
+    assert_eq!(rt; book.alter(&STAMP, 9, &other), Err(unknown));
+    expect_at(&rt, &book, 1, 6, 3, 6);
+    Ok(())
+}
+
+#[test]
+fn an_epoch_is_above_the_latest(rt: HostRuntime) -> Result<(), Fail> {
+    let mut book = six_created(&rt, rt.alloc())?;
+    let latest = 1;
+    let not_new = BookError::EpochNotNew { latest, given: 1 };
+    assert_eq!(rt; book.begin_epoch(1), Err(not_new));
+    expect_at(&rt, &book, 1, 6, 3, 6);
+    Ok(())
+}
+
+#[test]
+fn a_trim_is_not_past_the_events(rt: HostRuntime) -> Result<(), Fail> {
+    let mut book = six_created(&rt, rt.alloc())?;
+    let past = BookError::TrimPast { last: 6, given: 8 };
+    assert_eq!(rt; book.trim(8), Err(past));
     expect_at(&rt, &book, 1, 6, 3, 6);
     book.trim(7)?;
     expect_at(&rt, &book, 1, 6, 7, 6);
@@ -83,55 +97,75 @@ fn a_book_numbers_changes_and_keeps_the_latest(rt: HostRuntime) -> Result<(), Fa
 
 #[test]
 fn an_identifier_is_given_once(rt: HostRuntime) -> Result<(), Fail> {
-    let alloc = rt.alloc();
-    let mut book = six_created(&rt, alloc)?;
-    let other = content(alloc, b"g", 9)?;
+    let mut book = six_created(&rt, rt.alloc())?;
     assert!(rt; is_stamp(&STAMP));
     book.delete(&STAMP, 6)?;
-    book.alter(&STAMP, 2, &other)?;
     assert!(rt; book.record(6).is_none());
-    assert_eq!(rt; create(&rt, alloc, &mut book, b"h")?, 7);
+    assert_eq!(rt; create(&rt, rt.alloc(), &mut book, b"h")?, 7);
+    expect_at(&rt, &book, 1, 8, 5, 6);
+    Ok(())
+}
+
+#[test]
+fn an_altered_record_has_the_new_content(rt: HostRuntime) -> Result<(), Fail> {
+    let mut book = six_created(&rt, rt.alloc())?;
+    let other = content(rt.alloc(), b"g", 9)?;
+    assert!(rt; is_stamp(&STAMP));
+    book.alter(&STAMP, 2, &other)?;
     let altered = book.record(2).ok_or("a record")?;
     assert_eq!(rt; altered.content.ident.bytes(), b"g".as_slice());
-    expect_at(&rt, &book, 1, 9, 6, 6);
+    expect_at(&rt, &book, 1, 7, 4, 6);
+    Ok(())
+}
+
+#[test]
+fn an_epoch_begins_with_what_is_live(rt: HostRuntime) -> Result<(), Fail> {
+    let mut book = six_created(&rt, rt.alloc())?;
+    book.trim(7)?;
     book.begin_epoch(4)?;
     expect_at(&rt, &book, 4, 0, 1, 6);
+    assert_eq!(rt; create(&rt, rt.alloc(), &mut book, b"g")?, 7);
+    expect_at(&rt, &book, 4, 1, 1, 7);
+    Ok(())
+}
+
+/// Alters record 1 so many times.
+fn alter_times(rt: &impl Abort, alloc: Global, book: &mut Book, times: u32) -> Result<(), Fail> {
+    let other = content(alloc, b"b", 0)?;
+    for _ in 0..times {
+        assert!(rt; is_stamp(&STAMP));
+        book.alter(&STAMP, 1, &other)?;
+    }
+    Ok(())
+}
+
+/// A book of epoch 1 that keeps so many events, with one record that was created and then altered so many times.
+fn altered(rt: &impl Abort, alloc: Global, cap: usize, times: u32) -> Result<Book, Fail>
+    requires some { 1 ≤ cap }
+    requires few { cap ≤ 4096 }
+{
+    let mut book = Book::new(alloc, 1, cap, &[])?;
+    create(rt, alloc, &mut book, b"a")?;
+    alter_times(rt, alloc, &mut book, times)?;
+    Ok(book)
+}
+
+#[test]
+fn a_log_of_one_event_keeps_the_last(rt: HostRuntime) -> Result<(), Fail> {
+    let mut book = altered(&rt, rt.alloc(), 1, 0)?;
+    expect_at(&rt, &book, 1, 1, 1, 1);
+    alter_times(&rt, rt.alloc(), &mut book, 3)?;
+    expect_at(&rt, &book, 1, 4, 4, 1);
+    book.trim(5)?;
+    expect_at(&rt, &book, 1, 4, 5, 1);
     Ok(())
 }
 
 #[test]
-fn a_book_has_so_many_records(rt: HostRuntime) -> Result<(), Fail> {
-    let alloc = rt.alloc();
-    let full = BookError::RecordsFull { count: 65_536 };
-    let mut base = contents(alloc, 65_536, 0)?;
-    let mut book = Book::new(alloc, 1, 4, base.as_slice())?;
-    let one = content(alloc, b"a", 0)?;
-    assert!(rt; is_stamp(&STAMP));
-    assert_eq!(rt; book.create(&STAMP, &one), Err(full));
-    expect_at(&rt, &book, 1, 0, 1, 65_536);
-    base.push(one)?;
-    assert_eq!(rt; Book::new(alloc, 1, 4, base.as_slice()).err(), Some(full));
-    Ok(())
-}
-
-#[test]
-fn a_book_has_so_many_octets(rt: HostRuntime) -> Result<(), Fail> {
-    let alloc = rt.alloc();
-    let mut base = contents(alloc, 256, 1_048_576)?;
-    let mut book = Book::new(alloc, 1, 4, base.as_slice())?;
-    let one = content(alloc, b"a", 0)?;
-    let one_more = BookError::BytesFull {
-        held: 268_435_456,
-        given: 1,
-    };
-    assert!(rt; is_stamp(&STAMP));
-    assert_eq!(rt; book.create(&STAMP, &one), Err(one_more));
-    expect_at(&rt, &book, 1, 0, 1, 256);
-    base.push(one)?;
-    let whole = BookError::BytesFull {
-        held: 0,
-        given: 268_435_457,
-    };
-    assert_eq!(rt; Book::new(alloc, 1, 4, base.as_slice()).err(), Some(whole));
+fn a_log_of_4096_events_keeps_as_many(rt: HostRuntime) -> Result<(), Fail> {
+    let mut book = altered(&rt, rt.alloc(), 4096, 4095)?;
+    expect_at(&rt, &book, 1, 4096, 1, 1);
+    alter_times(&rt, rt.alloc(), &mut book, 4)?;
+    expect_at(&rt, &book, 1, 4100, 5, 1);
     Ok(())
 }

@@ -1,7 +1,7 @@
 use Rattle.std.proofs.Common.{◌∙◌, ap, ℕ, set}
 use Rattle.swima_model.specs.declared.record.Record.{Record}
 use Rattle.collector_core.proofs.Changing.{set_at, item_at}
-use Rattle.collector_core.proofs.book.put_content.Goals as goal
+use Rattle.collector_core.proofs.records.put_content.Goals as goal
 
 pub returns : goal.returns
 returns c = record {

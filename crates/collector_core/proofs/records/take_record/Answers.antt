@@ -1,6 +1,6 @@
 use Rattle.std.proofs.Common.{◌∙◌}
 use Rattle.collector_core.proofs.Changing.{item_at, removed_at}
-use Rattle.collector_core.proofs.book.take_record.Goals as goal
+use Rattle.collector_core.proofs.records.take_record.Goals as goal
 
 pub returns : goal.returns
 returns c = record {
