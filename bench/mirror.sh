@@ -5,19 +5,19 @@
 #
 # usage: bench/mirror.sh [RUNS]     each of the two runs RUNS times on each input, in turns, 5 if not given
 #
-# The program is built first where that is needed, and building is not measured; the times are those of the program
-# alone, without the start script, and with its output thrown away. `bench/streams.py` writes the inputs into a
-# temporary folder, which is removed at the end; the largest has 77 MB. Needs python3, awk, sha256sum and GNU time
-# (/usr/bin/time).
+# The program is built first where that is needed, and building is not measured. The times are those of the program
+# alone, without the start script and with its output thrown away, and what its process took of the processors, so that
+# other work on the machine counts for less. `bench/streams.py` writes the inputs into a temporary folder, which is
+# removed at the end; the largest has 77 MB. Needs python3, awk, sha256sum and GNU time (/usr/bin/time).
 #
 # Rows: `ids N` and `full N` are N records, and a sixteenth as many events over them; `empty` is an inventory
 # without records; `ids 65537` has one record too many; `smallest` is an attribute of nearly 16 MiB with as many
 # records as one can hold; `churn` has 441,504 events over 65,536 records, all in one report, and `single` has 64
 # events over them, each in a report of its own.
 #
-# Columns: the input; its octets; the wall time of `swid`, the lowest of all runs; that of `sha256sum`; the one over
-# the other; the time of `swid` for each octet of input, which stays where the time grows as the input; its peak
-# memory, and that for each octet of input; its status; its answer to the last report.
+# Columns: the input; its octets; the processor time of `swid`, user and system, the lowest of all runs; that of
+# `sha256sum`; the one over the other; the time of `swid` for each octet of input, which stays where the time grows as
+# the input; its peak memory, and that for each octet of input; its status; its answer to the last report.
 
 set -u
 
@@ -44,11 +44,16 @@ trap 'rm -rf -- "$folder"' EXIT
 input=$folder/input
 output=$folder/output
 
-# The microseconds that a command takes on the input.
+# The microseconds of processor time, user and system, that a command takes on the input.
 microseconds() {
-    local start=${EPOCHREALTIME/[.,]/}
-    "$@" <"$input" >/dev/null
-    echo $((${EPOCHREALTIME/[.,]/} - start))
+    python3 - "$input" "$@" <<'END'
+import os, subprocess, sys
+
+with open(sys.argv[1], "rb") as octets:
+    process = subprocess.Popen(sys.argv[2:], stdin=octets, stdout=subprocess.DEVNULL)
+    _, process.returncode, usage = os.wait4(process.pid, 0)
+print(round((usage.ru_utime + usage.ru_stime) * 1_000_000))
+END
 }
 
 # Writes the stream of the words after the kind, measures, and prints a line: name, octets, microseconds of both,
@@ -86,7 +91,7 @@ all | awk -F '\t' -v runs="$runs" '
     }
     function an_octet(form, amount) { return $2 < 1000 ? "-" : sprintf(form, amount / $2) }
     BEGIN {
-        printf "swid mirror and sha256sum, lowest time of %d runs each\n\n", runs
+        printf "swid mirror and sha256sum, lowest processor time of %d runs each\n\n", runs
         row("", "", "swid", "sha256sum", "", "ns", "peak", "memory", "", "")
         row("input", "octets", "ms", "ms", "ratio", "an octet", "KiB", "an octet", "status", "last answer")
     }

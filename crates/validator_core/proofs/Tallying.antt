@@ -1,18 +1,18 @@
 -- Sizes of records: how they change, and what they say of the records.
-use Rattle.std.proofs.Common.{◌≡◌, inl, inr, ℕ, zero, suc, ◌+◌, ◌<◌, ◌≤◌, eqb, cond, not, Bool, true, false, List, [], ◌∷◌, ◌++◌, length, get_or, take, Option, Some, None, Less, refl, sym, ap, ap₂, ◌∙◌, subst, arith, eqb-true, ne_eqb}
+use Rattle.std.proofs.Common.{◌≡◌, inl, inr, ℕ, ◌+◌, ◌<◌, eqb, cond, not, Bool, true, false, List, [], ◌∷◌, ◌++◌, Option, Some, None, Less, refl, sym, ap, ap₂, ◌∙◌, subst, arith}
 use Rattle.std.specs.Prelude.{is_some, option_map, unwrap_or}
-use Rattle.std.specs.BTreeMap.{insert_entry, is_at}
+use Rattle.std.specs.BTreeMap.{BTreeMap, IsFromIterResult, insert_entry, is_at}
 use Rattle.std.specs.List.Sorted.{IsStrictlyIncreasing, IsStrictlySortedBy}
 use Rattle.std.specs.Map.{keys_of, values_of, remove_entry}
-use Rattle.std.specs.Ordering.{nat_cmp}
+use Rattle.std.specs.Ordering.{eq_by_cmp, nat_cmp}
 use Rattle.std.specs.Option.{option_or}
 use Rattle.std.proofs.lemmas.Bool.{false≢true, cases_order, cases_eq, cond-true, cond-false}
 use Rattle.std.proofs.lemmas.Bool.Decides.{nat_tests}
 use Rattle.std.proofs.lemmas.Cmp.{nat_cmp_total, eq_by_cmp_equiv}
-use Rattle.std.proofs.lemmas.List.{length-map, take_all, take_more}
-use Rattle.std.proofs.lemmas.List.Folds.{find-append}
+use Rattle.std.proofs.lemmas.List.{length-map}
 use Rattle.std.proofs.lemmas.List.Sums.{sum_by-cons}
 use Rattle.std.proofs.lemmas.Map.{lookup-none}
+use Rattle.std.proofs.lemmas.Map.Made.{update_all_distinct}
 use Rattle.std.proofs.lemmas.Map.Entries.{lookup_head, lookup_tail, none_below_head, none_past_head, sum_by-insert_entry, sum_by-remove_entry}
 use Rattle.std.proofs.lemmas.Map.Keys.{IsDistinct-from_sorted, sorted_from_strictly_increasing, sorted_tail}
 use Rattle.swima_model.specs.declared.event.Event.{Event}
@@ -21,8 +21,7 @@ use Rattle.swima_model.specs.History.{contradicts, does_not_fit}
 use Rattle.swima_model.specs.InOrder.{ids}
 use Rattle.swima_model.specs.Live.{is_deletion, later_or, last_mention, by_mention, live, record_of}
 use Rattle.swima_model.specs.Size.{content_octets, records_octets, is_large}
-use Rattle.swima_model.proofs.Living.{live_of, live_rises, mention_push, strict_from, strict_rest}
-use Rattle.swima_model.proofs.Rises.{AllFrom}
+use Rattle.swima_model.proofs.Living.{live_of, live_rises, mention_push}
 use Rattle.validator_core.specs.declared.mirror.Taken.{Taken}
 use Rattle.validator_core.specs.declared.mirror.Taken.TheVariants as taken
 use Rattle.validator_core.specs.Following.{too_large}
@@ -121,10 +120,10 @@ keys_of_sizes : (rs : List Record) → keys_of (sizes_of rs) ≡ ids rs
 keys_of_sizes [] = refl
 keys_of_sizes (r ∷ rs) = ap (λ (ns : List ℕ). r.id ∷ ns) (keys_of_sizes rs)
 
-rising_sizes : (rs : List Record) → IsStrictlyIncreasing (ids rs) → AreRising (sizes_of rs)
+pub rising_sizes : (rs : List Record) → IsStrictlyIncreasing (ids rs) → AreRising (sizes_of rs)
 rising_sizes rs up = subst (IsStrictlySortedBy nat_cmp) (sym (keys_of_sizes rs)) (sorted_from_strictly_increasing (ids rs) up)
 
-total_of_sizes : (rs : List Record) → total (sizes_of rs) ≡ records_octets rs
+pub total_of_sizes : (rs : List Record) → total (sizes_of rs) ≡ records_octets rs
 total_of_sizes [] = refl
 total_of_sizes (r ∷ rs) =
     sum_by-cons (λ (n : ℕ). n) (octets_of r) (values_of (sizes_of rs)) ∙ ap (λ (n : ℕ). octets_of r + n) (total_of_sizes rs)
@@ -189,43 +188,17 @@ follows_set base before event is_live now after said up e is fits rising set lar
       λ _. behind,
     )
 
--- ---- record by record
+-- ---- all records at once
 
-from_at : (n : ℕ) (rs : List Record) (i : ℕ) (d : Record) → AllFrom n (ids rs) → i < length rs → n ≤ (get_or rs i d).id
-from_at n [] i d h lt = absurd (omega arith)
-from_at n (x ∷ xs) zero d h lt = h.0
-from_at n (x ∷ xs) (suc i) d h lt = from_at n xs i d h.1 (omega (arith, lt))
+none_else : (size : Option ℕ) → option_or size None ≡ size
+none_else None = refl
+none_else (Some octets) = refl
 
-none_before : (rs : List Record) (i : ℕ) (d : Record) → IsStrictlyIncreasing (ids rs) → i < length rs → record_of (get_or rs i d).id (take i rs) ≡ None
-none_before [] i d up lt = absurd (omega arith)
-none_before (x ∷ xs) zero d up lt = refl
-none_before (x ∷ xs) (suc i) d up lt =
-    let below : suc x.id ≤ (get_or xs i d).id = from_at (suc x.id) xs i d (strict_from x.id (ids xs) up) (omega (arith, lt)) in
-    cond-false (eqb x.id (get_or xs i d).id) (Some x) (record_of (get_or xs i d).id (take i xs)) (ne_eqb x.id (get_or xs i d).id (λ e. omega (arith, below, e)))
-    ∙ none_before xs i d (strict_rest x.id (ids xs) up) (omega (arith, lt))
-
-more_step : (here : Bool) (r : Record) (found : Option Record) → (here ≡ true → found ≡ None)
-    → cond here (Some (octets_of r)) (option_map octets_of found) ≡ option_map octets_of (option_or found (cond here (Some r) None))
-more_step true r found none = rw (none refl) refl
-more_step false r None none = refl
-more_step false r (Some s) none = refl
-
--- One record more.
-pub size_more : (rs : List Record) (i id : ℕ) (r : Record) (now after : Sizes) → IsStrictlyIncreasing (ids rs) → i < length rs → r ≡ get_or rs i r
-    → size_at id now ≡ option_map octets_of (record_of id (take i rs)) → AreSetAt r.id (Some (content_octets r.content)) now after
-    → size_at id after ≡ option_map octets_of (record_of id (take (i + 1) rs))
-size_more rs i id r now after up lt is was set =
-    let none : eqb r.id id ≡ true → record_of id (take i rs) ≡ None =
-    λ here. subst (λ (n : ℕ). record_of n (take i rs) ≡ None) (ap (λ (x : Record). x.id) (sym is) ∙ eqb-true r.id id here) (none_before rs i r up lt) in
-    let more : record_of id (take (i + 1) rs) ≡ option_or (record_of id (take i rs)) (cond (eqb r.id id) (Some r) None) =
-    ap (record_of id) (take_more rs i r lt ∙ ap (λ (x : Record). take i rs ++ x ∷ []) (sym is)) ∙ find-append (λ (x : Record). eqb x.id id) (take i rs) (r ∷ []) in
-    set id
-    ∙ ap₂ (λ (here : Bool) (o : Option ℕ). cond here (Some (octets_of r)) o) (same_test_back r.id id) was
-    ∙ more_step (eqb r.id id) r (record_of id (take i rs)) none
-    ∙ ap (option_map octets_of) (sym more)
-
--- All records.
-pub sizes_all : (rs : List Record) (i : ℕ) (now : Sizes) → IsStrictlyIncreasing (ids rs) → length rs ≤ i → AreRising now
-    → ((id : ℕ) → size_at id now ≡ option_map octets_of (record_of id (take i rs))) → now ≡ sizes_of rs
-sizes_all rs i now up past rising each =
-    same_sizes now (sizes_of rs) rising (rising_sizes rs up) (λ id. each id ∙ ap (λ (xs : List Record). option_map octets_of (record_of id xs)) (take_all i rs past) ∙ sym (size_at_of id rs))
+-- What is made of the sizes of records is these sizes.
+pub sizes_made : (rs : List Record) (made : BTreeMap ℕ ℕ) → IsStrictlyIncreasing (ids rs) → IsFromIterResult nat_cmp (sizes_of rs) made → made.entries ≡ sizes_of rs
+sizes_made rs made up is =
+    same_sizes made.entries (sizes_of rs) is.1 (rising_sizes rs up)
+    (λ id.
+    is.0 id
+    ∙ update_all_distinct (eq_by_cmp_equiv nat_cmp_total) (eq_by_cmp nat_cmp) (λ x y. refl) (λ _. None) (sizes_of rs) id (IsDistinct-from_sorted nat_cmp (keys_of (sizes_of rs)) (rising_sizes rs up))
+    ∙ none_else (size_at id (sizes_of rs)))

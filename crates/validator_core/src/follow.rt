@@ -1,8 +1,9 @@
 //! The records that are live after some events.
 
 ghost use Rattle.std.specs.Prelude.{◌≡◌, ◌∷◌, List, IfOk, OnOk, OnErr};
-ghost use Rattle.std.specs.List.Sorted.{IsStrictlyIncreasing};
+ghost use Rattle.std.specs.List.Sorted.{IsNonDecreasingBy, IsPermutation, IsStrictlyIncreasing};
 ghost use Rattle.swima_model.specs.declared.event.Event.{Event};
+ghost use Rattle.swima_model.specs.declared.record.Record.{Record as RecordValue};
 ghost use Rattle.swima_model.specs.InOrder.{ids};
 ghost use Rattle.swima_model.specs.Live.{live};
 ghost use Rattle.validator_core.specs.Following.{events_above};
@@ -77,7 +78,19 @@ impl Mentions {
         records.reserve(last.len())?;
         records.retain(|record| !ids.contains(&record.id));
         records.append(&mut last)?;
-        records.sort_unstable_by_key(|record| record.id);
+        put_in_order(records);
         Ok(())
+    }
+}
+
+/// Puts records in order of identifier. A sort that leaves runs in order as they are wants memory; where there is none,
+/// one that takes no memory does the same.
+fn put_in_order(records: &mut Vec<Record>)
+    ensures permutation { IsPermutation records.old.items records.new.items }
+    ensures rising { IsNonDecreasingBy (λ (r : RecordValue). r.id) records.new.items }
+{
+    let sorted = records.sort_by_key(|record| record.id);
+    if sorted.is_err() {
+        records.sort_unstable_by_key(|record| record.id);
     }
 }

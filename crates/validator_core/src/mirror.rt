@@ -159,6 +159,14 @@ impl Mirror {
         self.records.as_slice()
     }
 
+    /// All its records in order of identifier, given up. It takes no memory.
+    pub fn into_records(self) -> Records
+        ensures records { result ≡ self.records }
+    {
+        let Mirror { records, .. } = self;
+        records
+    }
+
     /// Takes a report: the answer and what the mirror holds then are the first line of the table that fits. Want of
     /// memory stands for `Doubled`, `Large`, `Adopted`, `Contradiction` or `Advanced` alone and leaves the mirror as it was.
     pub fn take(&mut self, report: &Report) -> Taken

@@ -1,7 +1,7 @@
 //! Records in order of their identifiers.
 
-ghost use Rattle.std.specs.Prelude.{◌≡◌, ◌<◌, ◌^◌, IfOk, length};
-ghost use Rattle.swima_model.specs.Size.{records_octets};
+ghost use Rattle.std.specs.Prelude.{◌≡◌, ◌<◌, ◌≤◌, ◌*◌, ◌^◌, IfOk, length};
+ghost use Rattle.swima_model.specs.Size.{MOST_OCTETS, records_octets};
 ghost use Rattle.swima_model.specs.InOrder.{in_order};
 
 use swima_model::Records;
@@ -20,6 +20,7 @@ pub fn in_order(records: Records) -> Result<Records, Memory>
 pub fn records_octets(records: &Records) -> u64
     requires { length records.now < 2 ^ 32 }
     ensures octets { result ≡ records_octets records.now }
+    ensures within { result ≤ MOST_OCTETS * length records.now }
 {
     let mut octets = 0;
     for record in records.as_slice() {

@@ -1,6 +1,6 @@
 //! A tally of records: what it takes to judge events over them, without the records themselves.
 
-ghost use Rattle.std.specs.Prelude.{◌≡◌, ◌<◌, ◌≤◌, ◌+◌, ◌^◌, List, None, Some, IfOk, OnOk, length};
+ghost use Rattle.std.specs.Prelude.{◌≡◌, ◌<◌, ◌≤◌, ◌+◌, ◌^◌, List, None, Some, IfOk, OnOk, is_some, length};
 ghost use Rattle.std.specs.List.Sorted.{IsStrictlyIncreasing};
 ghost use Rattle.swima_model.specs.declared.event.Event.{Event};
 ghost use Rattle.swima_model.specs.declared.record.Record.{Record};
@@ -8,9 +8,10 @@ ghost use Rattle.swima_model.specs.History.{does_not_fit};
 ghost use Rattle.swima_model.specs.InOrder.{ids};
 ghost use Rattle.swima_model.specs.Live.{live};
 ghost use Rattle.swima_model.specs.Size.{MOST_OCTETS, content_octets};
-ghost use Rattle.validator_core.specs.Tally.{AreFew, AreRising, AreSetAt, Follows, size_said, sizes_of, sizes_too_large, total};
+ghost use Rattle.validator_core.specs.Tally.{AreFew, AreRising, AreSetAt, Follows, size_at, size_said, sizes_of, sizes_too_large, total};
 
 use crate::mirror::{Taken, is_large};
+use crate::order::records_octets;
 use std::collections::BTreeMap;
 use std::marker::Model;
 use swima_model::{Action, Event, Record, Records};
@@ -42,14 +43,10 @@ impl Tally {
         ensures sizes { IfOk result (λ made. made ≡ sizes_of records.now) }
         ensures few { IfOk result (λ made. AreFew made) }
     {
-        let mut tally = Tally {
-            sizes: BTreeMap::new(records.allocator()),
-            octets: 0,
-        };
-        for record in records.as_slice() {
-            tally.put(record)?;
-        }
-        Ok(tally)
+        Ok(Tally {
+            sizes: sizes_of(records)?,
+            octets: records_octets(records),
+        })
     }
 
     /// Follows an event, unless something is to be said of it.
@@ -60,34 +57,32 @@ impl Tally {
             → IfOk result (λ said. Follows base before event.now said self.new) }
         ensures few { IfOk result (λ said. said ≡ None → AreFew self.new) }
     {
-        let is_live = self.sizes.contains_key(&event.subject.id);
-        if does_not_fit(event.action, is_live) {
+        let was_live = self.apply(event)?;
+        if does_not_fit(event.action, was_live) {
             return Ok(Some(Taken::Contradiction { eid: event.eid }));
         }
-        self.apply(event)?;
         Ok(self.too_large())
     }
 
-    /// Sets the size of the event's record, or takes it out, as the event says.
-    fn apply(&mut self, event: &Event) -> Result<(), Memory>
+    /// Sets the size of the event's record, or takes it out, as the event says, and answers whether the record was there.
+    fn apply(&mut self, event: &Event) -> Result<bool, Memory>
         requires room { total self.old + MOST_OCTETS < 2 ^ 64 }
+        ensures was { IfOk result (λ was. was ≡ is_some (size_at event.now.subject.id self.old)) }
         ensures set { OnOk result (AreSetAt event.now.subject.id (size_said event.now) self.old self.new) }
         ensures rising { AreRising self.new }
         ensures count { OnOk result (length self.new ≤ length self.old + 1) }
         ensures total { OnOk result (total self.new ≤ total self.old + MOST_OCTETS) }
     {
         match event.action {
-            Action::Deletion => {
-                self.remove(event.subject.id);
-                Ok(())
-            }
+            Action::Deletion => Ok(self.remove(event.subject.id)),
             Action::Creation | Action::Alteration => self.put(&event.subject),
         }
     }
 
-    /// Sets the size of a record.
-    fn put(&mut self, subject: &Record) -> Result<(), Memory>
+    /// Sets the size of a record, and answers whether the record was there.
+    fn put(&mut self, subject: &Record) -> Result<bool, Memory>
         requires room { total self.old + MOST_OCTETS < 2 ^ 64 }
+        ensures was { IfOk result (λ was. was ≡ is_some (size_at subject.now.id self.old)) }
         ensures set { OnOk result (AreSetAt subject.now.id (Some (content_octets subject.now.content)) self.old self.new) }
         ensures rising { AreRising self.new }
         ensures count { OnOk result (length self.new ≤ length self.old + 1) }
@@ -96,11 +91,12 @@ impl Tally {
         let octets = subject.content.octets();
         let before = self.sizes.insert(subject.id, octets)?;
         self.octets = self.octets + octets - before.unwrap_or(0);
-        Ok(())
+        Ok(before.is_some())
     }
 
-    /// Takes out the size of the record of this identifier.
-    fn remove(&mut self, id: u32)
+    /// Takes out the size of the record of this identifier, and answers whether the record was there.
+    fn remove(&mut self, id: u32) -> bool
+        ensures was { result ≡ is_some (size_at id self.old) }
         ensures set { AreSetAt id None self.old self.new }
         ensures rising { AreRising self.new }
         ensures count { length self.new ≤ length self.old }
@@ -108,6 +104,7 @@ impl Tally {
     {
         let octets = self.sizes.remove(&id);
         self.octets -= octets.unwrap_or(0);
+        octets.is_some()
     }
 
     /// What is said of the sizes where they are too many.
@@ -124,6 +121,16 @@ impl Tally {
         }
         None
     }
+}
+
+/// The identifiers of the records, each with the octets of its content. Being in order, they are put in place at once.
+fn sizes_of(records: &Records) -> Result<BTreeMap<u32, u64>, Memory>
+    requires rising { IsStrictlyIncreasing (ids records.now) }
+    ensures sizes { IfOk result (λ made. made.entries ≡ sizes_of records.now) }
+{
+    let sizes = records.as_slice().iter();
+    let sizes = sizes.map(|record| (record.id, record.content.octets()));
+    Ok(sizes.collect(records.allocator())?)
 }
 
 /// Whether the action fits no record that is live, or one that is not.
