@@ -21,18 +21,40 @@ struct Row<'a> {
 }
 
 /// How many rows hold, or the first that does not; `None` where the table is no text, or memory is wanting. A line that
-/// begins with `#` is no row.
+/// begins with `#` is no row, and `{TEXT*N}` stands for N times TEXT.
 pub(crate) fn rows_text(alloc: Global, table: &[u8]) -> Option<String> {
     let mut rows: u64 = 0;
     for line in from_utf8(table).ok()?.lines() {
         if !line.starts_with('#') {
-            if !holds(alloc, line)? {
+            let row = written_out(alloc, line)?;
+            if !holds(alloc, row.as_str())? {
                 return format!(in alloc; "not so: {line}").ok();
             }
             rows = rows.saturating_add(1);
         }
     }
     format!(in alloc; "{rows} rows hold").ok()
+}
+
+/// The line with each `{TEXT*N}` in it written out as N times TEXT; `None` where it is no such line, or memory is wanting.
+fn written_out(alloc: Global, line: &str) -> Option<String> {
+    let mut pieces = line.split('{');
+    let mut out = String::from_str(alloc, pieces.next()?).ok()?;
+    for piece in pieces {
+        push_repeated(&mut out, piece)?;
+    }
+    Some(out)
+}
+
+/// Puts `TEXT*N}REST` behind the text, written out.
+fn push_repeated(out: &mut String, piece: &str) -> Option<()> {
+    let (repeated, rest) = piece.split_once('}')?;
+    let (text, times) = repeated.split_once('*')?;
+    let times: u32 = times.parse().ok()?;
+    for _ in 0..times {
+        out.push_str(text).ok()?;
+    }
+    out.push_str(rest).ok()
 }
 
 /// Whether the row holds of a whole reader, of a feed in pieces of 1, 2 and 3 octets, and of the canonical test; `None` where

@@ -24,11 +24,11 @@ use Rattle.cbor_det.proofs.Entries.{made_pairs}
 use Rattle.cbor_det.proofs.Written.{proper_puts}
 use Rattle.cbor_det.proofs.Order.{key_cmp, below_trans, above, below, not_eq, insert_first, insert_puts, rises_insert, held_below, held_is, held_not, free_of, equal_keys}
 
-abbrev join : Pairs → Pairs → Pairs
+abbrev pub join : Pairs → Pairs → Pairs
 join no_pairs qs = qs
 join (pair k v ps) qs = pair k v (join ps qs)
 
-passes : (k v : Term) (xs ys : Pairs) → AreBelow xs k → insert k v (join xs ys) ≡ join xs (insert k v ys)
+pub passes : (k v : Term) (xs ys : Pairs) → AreBelow xs k → insert k v (join xs ys) ≡ join xs (insert k v ys)
 passes k v no_pairs ys all = refl
 passes k v (pair l w xs) ys all =
     ap (λ (o : Ordering). match_ordering o (pair k v (pair l w (join xs ys))) (pair k v (join xs ys)) (pair l w (insert k v (join xs ys)))) (above k l all.0)
@@ -42,11 +42,11 @@ all_below : (k l w : Term) (xs ys : Pairs) → Rises (join xs (pair l w ys)) →
 all_below k l w no_pairs ys rises lt = tt
 all_below k l w (pair m x xs) ys rises lt = (below_trans m l k (first_below l w m xs ys rises.0 rises.1) lt, all_below k l w xs ys rises.1 lt)
 
-rises_behind : (xs ys : Pairs) → Rises (join xs ys) → Rises ys
+pub rises_behind : (xs ys : Pairs) → Rises (join xs ys) → Rises ys
 rises_behind no_pairs ys rises = rises
 rises_behind (pair k v xs) ys rises = rises_behind xs ys rises.1
 
-free_below : (k : Term) (xs ys : Pairs) → AreBelow xs k → is_held ys (canon k) ≡ false → is_held (join xs ys) (canon k) ≡ false
+pub free_below : (k : Term) (xs ys : Pairs) → AreBelow xs k → is_held ys (canon k) ≡ false → is_held (join xs ys) (canon k) ≡ false
 free_below k no_pairs ys all free = free
 free_below k (pair l w xs) ys all free = or_from _ _ (not_eq k l Greater (above k l all.0) refl) (free_below k xs ys all.1 free)
 
@@ -58,7 +58,7 @@ join_of : (ps qs : List (Term × Term)) → pairs_of (ps ++ qs) ≡ join (pairs_
 join_of [] qs = refl
 join_of (p ∷ ps) qs = ap (λ (r : Pairs). pair p.0 p.1 r) (join_of ps qs)
 
-join_listed : (xs ys : List Pair) → listed (xs ++ ys) ≡ join (listed xs) (listed ys)
+pub join_listed : (xs ys : List Pair) → listed (xs ++ ys) ≡ join (listed xs) (listed ys)
 join_listed xs ys = ap (λ (ps : List (Term × Term)). pairs_of ps) (map-append pair_view xs ys) ∙ join_of (map pair_view xs) (map pair_view ys)
 
 pub listed_cons : (x : Pair) (xs : List Pair) → listed (x ∷ xs) ≡ pair (view (out-Pair x).key) (view (out-Pair x).value) (listed xs)

@@ -4,7 +4,7 @@ use Rattle.std.specs.Prelude.{slice_get}
 use Rattle.std.proofs.Math.Nat.{pow-suc}
 use Rattle.std.proofs.Common.{◌*◌, ◌^◌}
 use Rattle.std.proofs.lemmas.List.{nil_from_length}
-use Rattle.std.specs.Option.{is_some}
+use Rattle.std.specs.Option.{is_some, is_none}
 use Rattle.std.proofs.lemmas.Bool.{cond-true, cond-false, lt-ltb, le-ltb, both_ways}
 use Rattle.cbor_det.specs.declared.kind.Kind.{Kind}
 use Rattle.cbor_det.specs.declared.limits.Limits.{Limits}
@@ -23,11 +23,11 @@ use Rattle.cbor_det.specs.declared.frame.Stepped.{Stepped}
 use Rattle.cbor_det.specs.declared.frame.Stepped.TheVariants as stepped
 use Rattle.cbor_det.specs.Term.{Term, Pairs, map as map_term, no_pairs}
 use Rattle.cbor_det.specs.View.{view, terms_of, pairs_view}
-use Rattle.cbor_det.specs.Held.{members_view}
+use Rattle.cbor_det.specs.Held.{members_view, due_key}
 use Rattle.cbor_det.specs.Initial.{initial_of}
 use Rattle.cbor_det.specs.Faults.{Place, top, at_chunk, at_element, at_key, at_value, at_content, height}
 use Rattle.cbor_det.specs.Machine.{State, due, faulty, give, begun, item_begun, opened, broken, string_head, string_ended}
-use Rattle.cbor_det.specs.Frames.{inside, within, place, chunk_kind, low_kind, end_state, state_of, ArgumentFits, BeginFits, InitialFits}
+use Rattle.cbor_det.specs.Frames.{inside, map_place, within, place, chunk_kind, low_kind, end_state, state_of, ArgumentFits, BeginFits, InitialFits}
 use Rattle.cbor_det.proofs.Told.{Tells, tells, Long, one_more, two_more, four_more, eight_more}
 use Rattle.cbor_det.proofs.Views.{view_array, view_map}
 use Rattle.cbor_det.proofs.Gives.{pushed_due}
@@ -113,12 +113,22 @@ low_two k (at_key a all ps p) kind some = absurd (no_chunk kind some)
 low_two k (at_value a all ps t p) kind some = absurd (no_chunk kind some)
 low_two k (at_content a n p) kind some = absurd (no_chunk kind some)
 
+map_height : (a : ℕ) (all : Option ℕ) (ps : Pairs) (k : Option Term) (p : Place) → height (map_place a all ps k p) ≡ height p + 1
+map_height a all ps None p = refl
+map_height a all ps (Some k) p = refl
+
+pub map_no_chunk : (a : ℕ) (all : Option ℕ) (ps : Pairs) (k : Option Term) (p : Place) → None ≡ chunk_kind (map_place a all ps k p)
+map_no_chunk a all ps None p = refl
+map_no_chunk a all ps (Some k) p = refl
+
 height_within : (p : Place) (fs : List Frame) → height (within p fs) ≡ height p + length fs
 height_within p [] = omega arith
 height_within p (frame.Chunks a k j ∷ fs) = let e = height_within (inside p (frame.Chunks a k j)) fs in omega (arith, e)
 height_within p (frame.Elements a all items ∷ fs) = let e = height_within (inside p (frame.Elements a all items)) fs in omega (arith, e)
-height_within p (frame.Keys a all members ∷ fs) = let e = height_within (inside p (frame.Keys a all members)) fs in omega (arith, e)
-height_within p (frame.Value a all members key ∷ fs) = let e = height_within (inside p (frame.Value a all members key)) fs in omega (arith, e)
+height_within p (frame.Map a all members ∷ fs) =
+    let e = height_within (inside p (frame.Map a all members)) fs in
+    let h = map_height a all (members_view members) (due_key members) p in
+    omega (arith, e, h)
 height_within p (frame.Content a n ∷ fs) = let e = height_within (inside p (frame.Content a n)) fs in omega (arith, e)
 
 pub height_place : (fs : List Frame) → height (place fs) ≡ length fs
@@ -231,17 +241,36 @@ unfolding broken
 array_stays i a (Some n) items f p is some = ap (λ (g : Frame). end_state i (inside p g)) (sym is)
 array_stays i a None items f p is some = absurd (both_ways false refl some)
 
-pub map_ends : (i a : ℕ) (all : Option ℕ) (members : Members) (made : pairs.Pairs) (f : Frame) (p : Place) (σ : State) → f ≡ frame.Keys a all members → is_some all ≡ false
-    → pairs_view made ≡ members_view members → σ ≡ give p a (view (code.Map made)) → σ ≡ end_state i (inside p f)
-unfolding broken
-map_ends i a None members made f p σ is none same given =
-    given ∙ ap (λ (t : Term). give p a t) (view_map made) ∙ ap (λ (ps : Pairs). give p a (map_term ps)) same ∙ ap (λ (g : Frame). end_state i (inside p g)) (sym is)
-map_ends i a (Some n) members made f p σ is none same given = absurd (both_ways true none refl)
+module _ (i a : ℕ) (ps : Pairs) (p : Place) where
+  ended_map : (all : Option ℕ) (k : Option Term) → is_some all ≡ false → is_none k ≡ true → give p a (map_term ps) ≡ end_state i (map_place a all ps k p)
+  unfolding broken
+  ended_map None None endless none = refl
+  ended_map None (Some k) endless none = absurd (both_ways false refl none)
+  ended_map (Some n) k endless none = absurd (both_ways true endless refl)
 
-pub map_stays : (i a : ℕ) (all : Option ℕ) (members : Members) (f : Frame) (p : Place) → f ≡ frame.Keys a all members → is_some all ≡ true → faulty 2 i ≡ end_state i (inside p f)
-unfolding broken
-map_stays i a (Some n) members f p is some = ap (λ (g : Frame). end_state i (inside p g)) (sym is)
-map_stays i a None members f p is some = absurd (both_ways false refl some)
+  counted_map : (all : Option ℕ) (k : Option Term) → is_some all ≡ true → faulty 2 i ≡ end_state i (map_place a all ps k p)
+  unfolding broken
+  counted_map None k some = absurd (both_ways false refl some)
+  counted_map (Some n) None some = refl
+  counted_map (Some n) (Some k) some = refl
+
+  due_map : (all : Option ℕ) (k : Option Term) → is_none k ≡ false → faulty 2 i ≡ end_state i (map_place a all ps k p)
+  unfolding broken
+  due_map all None some = absurd (both_ways true some refl)
+  due_map all (Some k) some = refl
+
+module _ (i a : ℕ) (all : Option ℕ) (members : Members) (f : Frame) (p : Place) (is : f ≡ frame.Map a all members) where
+  pub map_ends : (made : pairs.Pairs) (σ : State) (none : Bool) → is_some all ≡ false → none ≡ is_none (due_key members) → none ≡ true → pairs_view made ≡ members_view members
+      → σ ≡ give p a (view (code.Map made)) → σ ≡ end_state i (inside p f)
+  map_ends made σ none endless test so same given =
+      given ∙ ap (λ (t : Term). give p a t) (view_map made) ∙ ap (λ (ps : Pairs). give p a (map_term ps)) same
+      ∙ ended_map i a (members_view members) p all (due_key members) endless (sym test ∙ so) ∙ ap (λ (g : Frame). end_state i (inside p g)) (sym is)
+
+  pub map_stays : is_some all ≡ true → faulty 2 i ≡ end_state i (inside p f)
+  map_stays some = counted_map i a (members_view members) p all (due_key members) some ∙ ap (λ (g : Frame). end_state i (inside p g)) (sym is)
+
+  pub value_stays : (none : Bool) → none ≡ is_none (due_key members) → none ≡ false → faulty 2 i ≡ end_state i (inside p f)
+  value_stays none test lie = due_map i a (members_view members) p all (due_key members) (sym test ∙ lie) ∙ ap (λ (g : Frame). end_state i (inside p g)) (sym is)
 
 -- constructs that open
 
@@ -268,11 +297,12 @@ array_opens limits i gs hs items x is none which =
     pushed_due gs hs (frame.Elements i None items) is ∙ ap (λ (xs : List Item). due (at_element i None (terms_of (map view xs)) (place gs))) none
     ∙ ap (λ (y : Beginning). opened limits i (place gs) y) (sym which)
 
-pub map_opens : (limits : Limits) (i : ℕ) (gs hs : List Frame) (members : Members) (x : Beginning) → hs ≡ gs ++ frame.Keys i None members ∷ [] → members_view members ≡ no_pairs → x ≡ beginning.Members
+pub map_opens : (limits : Limits) (i : ℕ) (gs hs : List Frame) (members : Members) (x : Beginning) → hs ≡ gs ++ frame.Map i None members ∷ [] → members_view members ≡ no_pairs → due_key members ≡ None → x ≡ beginning.Members
     → due (place hs) ≡ opened limits i (place gs) x
 unfolding opened
-map_opens limits i gs hs members x is none which =
-    pushed_due gs hs (frame.Keys i None members) is ∙ ap (λ (ps : Pairs). due (at_key i None ps (place gs))) none
+map_opens limits i gs hs members x is none key which =
+    pushed_due gs hs (frame.Map i None members) is ∙ ap (λ (k : Option Term). due (map_place i None (members_view members) k (place gs))) key
+    ∙ ap (λ (ps : Pairs). due (at_key i None ps (place gs))) none
     ∙ ap (λ (y : Beginning). opened limits i (place gs) y) (sym which)
 
 -- low octets, as the code refuses them

@@ -1,10 +1,10 @@
 -- What the code makes of an item, as the machine does.
-use Rattle.std.proofs.Common.{◌≡◌, ℕ, List, [], ◌∷◌, ◌++◌, length, map, refl, sym, ap, ◌∙◌, Bool, true, false, Option}
-use Rattle.std.proofs.lemmas.List.{map_push, nil_from_length}
+use Rattle.std.proofs.Common.{◌≡◌, ℕ, suc, ◌+◌, ◌-◌, ◌<◌, get_or, set, take, arith, List, [], ◌∷◌, ◌++◌, length, map, refl, sym, ap, ◌∙◌, Bool, true, false, not, Option, None, Some}
+use Rattle.std.proofs.lemmas.List.{map_push, nil_from_length, set_split, drop_all, take_all, take_at, take_more, length-take-le}
 use Rattle.std.specs.Vec.{vec_len}
 use Rattle.std.specs.declared.vec.Vec.{Vec}
 use Rattle.std.specs.declared.alloc.Global.{Global}
-use Rattle.std.proofs.lemmas.Bool.{cond-true, cond-false}
+use Rattle.std.proofs.lemmas.Bool.{cond-true, cond-false, both_ways}
 use Rattle.cbor_det.specs.declared.item.Item.{Item}
 use Rattle.cbor_det.specs.declared.item.Item.TheVariants as code
 use Rattle.cbor_det.specs.declared.item.Pairs as pairs
@@ -16,7 +16,8 @@ use Rattle.cbor_det.specs.Canonical.{canon}
 use Rattle.cbor_det.specs.View.{view, terms_of, pairs_view}
 use Rattle.cbor_det.specs.Faults.{Place, top, at_chunk, at_element, at_key, at_value, at_content}
 use Rattle.cbor_det.specs.Machine.{State, due, whole, faulty, give, is_full, is_held, insert}
-use Rattle.cbor_det.specs.Frames.{inside, within, place}
+use Rattle.cbor_det.specs.Frames.{inside, within, place, map_place}
+use Rattle.cbor_det.specs.Open.{IsTaken, is_whole}
 use Rattle.cbor_det.proofs.Views.{view_array, view_map, view_tag, count_items}
 
 terms_plus : (ts : List Term) (t : Term) → terms_of (ts ++ t ∷ []) ≡ plus (terms_of ts) t
@@ -43,34 +44,39 @@ element_ends at all xs ys x n full p began is len test so =
     ap (λ (t : Term). give p at t) (view_array ys) ∙ ap (λ (ts : Terms). give p at (array ts)) (pushed xs ys x is)
     ∙ sym (cond-true _ _ _ (ap (λ (k : ℕ). is_full all k) (sym (count_pushed xs ys x n is len)) ∙ sym test ∙ so))
 
-pub key_held : (at : ℕ) (all : Option ℕ) (ps : Pairs) (item made : Item) (held : Bool) (p : Place) (began : ℕ) → made ≡ item
-    → held ≡ is_held ps (canon (view made)) → held ≡ true → faulty 8 began ≡ give (at_key at all ps p) began (view item)
-unfolding give
-key_held at all ps item made held p began is test so =
-    sym (cond-true _ _ _ (ap (λ (i : Item). is_held ps (canon (view i))) (sym is) ∙ sym test ∙ so))
+free_key : (held free : Bool) → free ≡ not held → free ≡ true → held ≡ false
+free_key false free test so = refl
+free_key true free test so = absurd (both_ways free test so)
 
-pub key_free : (at : ℕ) (all : Option ℕ) (ps : Pairs) (item made : Item) (held : Bool) (p : Place) (began : ℕ) → made ≡ item
-    → held ≡ is_held ps (canon (view made)) → held ≡ false → due (at_value at all ps (view made) p) ≡ give (at_key at all ps p) began (view item)
-unfolding give
-key_free at all ps item made held p began is test free =
-    ap (λ (i : Item). due (at_value at all ps (view i) p)) is
-    ∙ sym (cond-false _ _ _ (ap (λ (i : Item). is_held ps (canon (view i))) (sym is) ∙ sym test ∙ free))
+held_key : (held free : Bool) → free ≡ not held → free ≡ false → held ≡ true
+held_key true free test lie = refl
+held_key false free test lie = absurd (both_ways free lie test)
 
-pub value_open : (at : ℕ) (all : Option ℕ) (old new : Pairs) (key item : Item) (n : ℕ) (full : Bool) (p : Place) (began : ℕ)
-    → new ≡ insert (view key) (view item) old → n ≡ pair_count new → full ≡ is_full all n → full ≡ false
-    → due (at_key at all new p) ≡ give (at_value at all old (view key) p) began (view item)
-unfolding give
-value_open at all old new key item n full p began is len test free =
-    ap (λ (ps : Pairs). due (at_key at all ps p)) is
-    ∙ sym (cond-false _ _ _ (ap (λ (ps : Pairs). is_full all (pair_count ps)) (sym is) ∙ ap (λ (k : ℕ). is_full all k) (sym len) ∙ sym test ∙ free))
+-- an open map takes a key or a value
+module _ (at : ℕ) (all : Option ℕ) (ps more : Pairs) (t : Term) (p : Place) (began : ℕ) where
+  pub member_held : (key next : Option Term) (free : Bool) → IsTaken ps key t free more next → free ≡ false → faulty 8 began ≡ give (map_place at all ps key p) began t
+  unfolding give
+  member_held None next free taken lie = sym (cond-true _ _ _ (held_key (is_held ps (canon t)) free taken.0 lie))
+  member_held (Some k) next free taken lie = absurd (both_ways free lie taken.0)
 
-pub value_ends : (at : ℕ) (all : Option ℕ) (old new : Pairs) (key item : Item) (made : pairs.Pairs) (n : ℕ) (full : Bool) (p : Place) (began : ℕ)
-    → new ≡ insert (view key) (view item) old → n ≡ pair_count new → full ≡ is_full all n → full ≡ true
-    → pairs_view made ≡ new → give p at (view (code.Map made)) ≡ give (at_value at all old (view key) p) began (view item)
-unfolding give
-value_ends at all old new key item made n full p began is len test so pairs =
-    ap (λ (t : Term). give p at t) (view_map made) ∙ ap (λ (ps : Pairs). give p at (map_term ps)) (pairs ∙ is)
-    ∙ sym (cond-true _ _ _ (ap (λ (ps : Pairs). is_full all (pair_count ps)) (sym is) ∙ ap (λ (k : ℕ). is_full all k) (sym len) ∙ sym test ∙ so))
+  pub member_open : (key next : Option Term) (free all_in : Bool) → IsTaken ps key t free more next → free ≡ true → all_in ≡ is_whole all more next → all_in ≡ false
+      → due (map_place at all more next p) ≡ give (map_place at all ps key p) began t
+  unfolding give
+  member_open None next free all_in taken so test more_due =
+      ap (λ (k : Option Term). due (map_place at all more k p)) (taken.1 so).1 ∙ ap (λ (qs : Pairs). due (at_value at all qs t p)) (taken.1 so).0
+      ∙ sym (cond-false _ _ _ (free_key (is_held ps (canon t)) free taken.0 so))
+  member_open (Some k) next free all_in taken so test more_due =
+      ap (λ (o : Option Term). due (map_place at all more o p)) taken.2 ∙ ap (λ (qs : Pairs). due (at_key at all qs p)) taken.1
+      ∙ sym (cond-false _ _ _ (ap (λ (qs : Pairs). is_full all (pair_count qs)) (sym taken.1) ∙ ap (λ (o : Option Term). is_whole all more o) (sym taken.2) ∙ sym test ∙ more_due))
+
+  pub member_ends : (key next : Option Term) (free all_in : Bool) (made : pairs.Pairs) → IsTaken ps key t free more next → free ≡ true → all_in ≡ is_whole all more next → all_in ≡ true
+      → pairs_view made ≡ more → give p at (view (code.Map made)) ≡ give (map_place at all ps key p) began t
+  unfolding give
+  member_ends None next free all_in made taken so test ends is =
+      absurd (both_ways all_in (test ∙ ap (λ (o : Option Term). is_whole all more o) (taken.1 so).1) ends)
+  member_ends (Some k) next free all_in made taken so test ends is =
+      ap (λ (u : Term). give p at u) (view_map made) ∙ ap (λ (qs : Pairs). give p at (map_term qs)) (is ∙ taken.1)
+      ∙ sym (cond-true _ _ _ (ap (λ (qs : Pairs). is_full all (pair_count qs)) (sym taken.1) ∙ ap (λ (o : Option Term). is_whole all more o) (sym taken.2) ∙ sym test ∙ ends))
 
 pub content_ends : (at n : ℕ) (u : Item) (item : Item) (p : Place) (began : ℕ) → u ≡ item → give p at (view (code.Tag n u)) ≡ give (at_content at n p) began (view item)
 unfolding give
@@ -84,6 +90,23 @@ chunk_refused at kind s p began t = refl
 pub within_last : (p : Place) (fs : List Frame) (f : Frame) → within p (fs ++ f ∷ []) ≡ inside (within p fs) f
 within_last p [] f = refl
 within_last p (g ∷ fs) f = within_last (inside p g) fs f
+
+-- all frames but the last
+abbrev pub round : List Frame → ℕ → List Frame
+round fs len = take (len - 1) fs
+
+-- the last frame, and another in its place
+module _ (fs : List Frame) (len : ℕ) (f g : Frame) (is : len ≡ length fs) (some : 0 < length fs) (at : f ≡ get_or fs (len - 1) f) where
+  pub last_there : fs ≡ round fs len ++ f ∷ []
+  last_there = sym (take_all (len - 1 + 1) fs (omega arith)) ∙ take_more fs (len - 1) f (omega arith) ∙ ap (λ (h : Frame). round fs len ++ h ∷ []) (sym at)
+
+  pub last_put : set fs (len - 1) g ≡ round fs len ++ g ∷ []
+  last_put = set_split fs (len - 1) g (omega arith) ∙ ap (λ (hs : List Frame). round fs len ++ g ∷ hs) (drop_all (suc (len - 1)) fs (omega arith))
+
+  pub last_left : (n : ℕ) → n ≡ len - 1 → take n (set fs (len - 1) g) ≡ round fs len
+  last_left n e =
+      ap (λ (k : ℕ). take k (set fs (len - 1) g)) e ∙ ap (λ (hs : List Frame). take (len - 1) hs) last_put
+      ∙ take_at (round fs len) (g ∷ []) (len - 1) (length-take-le (len - 1) fs (omega arith))
 
 -- the innermost construct takes an item
 pub popped : (fs gs : List Frame) (f : Frame) (at : ℕ) (t : Term) (σ : State) → fs ≡ gs ++ f ∷ [] → σ ≡ give (inside (place gs) f) at t → σ ≡ give (place fs) at t

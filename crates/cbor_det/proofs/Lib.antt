@@ -24,3 +24,5 @@ pub mod Adds
 pub mod Under
 pub mod Others
 pub mod Puts
+pub mod Integers
+pub mod Rising

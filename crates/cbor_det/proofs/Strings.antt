@@ -1,5 +1,7 @@
 -- Strings and heads as the code takes them, as the machine does.
-use Rattle.std.proofs.Common.{◌≡◌, ℕ, List, [], ◌∷◌, ◌++◌, refl, sym, ap, ◌∙◌, subst, Bool, true, false, Some, None, map}
+use Rattle.std.proofs.Common.{◌≡◌, ℕ, ◌-◌, ◌<◌, length, get_or, set, List, [], ◌∷◌, ◌++◌, refl, sym, ap, ◌∙◌, subst, Bool, true, false, Option, Some, None, map}
+use Rattle.std.specs.Prelude.{◌≢◌, Result, Ok, Err}
+use Rattle.std.specs.Result.{OnOk}
 use Rattle.std.specs.Str.{IsUtf8, is_utf8}
 use Rattle.std.specs.String.{string_bytes, string_vec}
 use Rattle.std.specs.declared.string.String.{String}
@@ -21,11 +23,11 @@ use Rattle.cbor_det.specs.declared.members.Members.{Members}
 use Rattle.cbor_det.specs.Term.{Term, Pairs, octets, text, no_terms, no_pairs}
 use Rattle.cbor_det.specs.View.{view, terms_of}
 use Rattle.cbor_det.specs.Spelling.{string}
-use Rattle.cbor_det.specs.Held.{members_view}
+use Rattle.cbor_det.specs.Held.{members_view, due_key}
 use Rattle.cbor_det.specs.Faults.{Place, top, at_chunk, at_element, at_key, at_value, at_content}
 use Rattle.cbor_det.specs.Machine.{State, due, faulty, give, is_part, string_given, string_ended, argued, filled_array, filled_map}
-use Rattle.cbor_det.specs.Frames.{inside, place, chunk_kind}
-use Rattle.cbor_det.proofs.Gives.{within_last, pushed_due}
+use Rattle.cbor_det.specs.Frames.{inside, map_place, place, chunk_kind, chunk_joined}
+use Rattle.cbor_det.proofs.Gives.{within_last, pushed_due, round, last_there, last_put}
 
 view_bytes : (s : List ℕ) → view (code.Bytes s) ≡ octets s
 view_bytes s = search (rules, the_lemmas)
@@ -82,23 +84,27 @@ text_not v s not items =
     let P : List ℕ → Type 0 = λ o. IsUtf8 o in
     false_from_ne_true (is_utf8 s) (λ e. false≢true (not (subst P (sym items) (IsUtf8-from_is_utf8 s e))))
 
-pub chunk_put : (gs hs : List Frame) (a at : ℕ) (k kind : Kind) (t more x y s : List ℕ) (f : Frame) (r : Bool) → hs ≡ gs ++ frame.Chunks a k more ∷ [] → more ≡ t ++ x → x ≡ s
-    → r ≡ is_part kind y → y ≡ s → r ≡ true → f ≡ frame.Chunks a k t → due (place hs) ≡ string_ended (inside (place gs) f) at kind s
-chunk_put gs hs a at k kind t more x y s f r is joined same part here so which =
-    pushed_due gs hs (frame.Chunks a k more) is
-    ∙ ap (λ (o : List ℕ). due (at_chunk a k o (place gs))) (joined ∙ ap (λ (o : List ℕ). t ++ o) same)
-    ∙ sym (good (at_chunk a k t (place gs)) at kind s (ap (λ (o : List ℕ). is_part kind o) (sym here) ∙ sym part ∙ so))
-    ∙ ap (λ (g : Frame). string_ended (inside (place gs) g) at kind s) (sym which)
-
-pub other_frame : (f : Frame) (p : Place) → ((a : ℕ) (k : Kind) (j : List ℕ) → f ≡ frame.Chunks a k j → ⊥) → chunk_kind (inside p f) ≡ None
-other_frame (frame.Chunks a k j) p not = absurd (not a k j refl)
-other_frame (frame.Elements a all items) p not = refl
-other_frame (frame.Keys a all members) p not = refl
-other_frame (frame.Value a all members key) p not = refl
-other_frame (frame.Content a n) p not = refl
-
 pub pushed_place : (gs hs : List Frame) (f : Frame) → hs ≡ gs ++ f ∷ [] → place hs ≡ inside (place gs) f
 pushed_place gs hs f is = ap (λ (fs : List Frame). place fs) is ∙ within_last top gs f
+
+-- A chunk goes behind those of the string that is open.
+pub joined_last : {T E : Type 0} (r : Result T E) (fs : List Frame) (len : ℕ) (f g : Frame) (o : List ℕ) → len ≡ length fs → 0 < length fs → f ≡ get_or fs (len - 1) f
+    → OnOk r ((p : Place) → inside p g ≡ chunk_joined (inside p f) o) → OnOk r (place (set fs (len - 1) g) ≡ chunk_joined (place fs) o)
+joined_last (Ok t) fs len f g o is some at joins =
+    pushed_place (round fs len) (set fs (len - 1) g) g (last_put fs len f g is some at) ∙ joins (place (round fs len))
+    ∙ ap (λ (p : Place). chunk_joined p o) (sym (pushed_place (round fs len) fs f (last_there fs len f g is some at)))
+joined_last (Err e) fs len f g o is some at joins = tt
+
+pub chunk_put : (p q : Place) (at : ℕ) (kind : Kind) (x y s : List ℕ) (r : Bool) → chunk_kind p ≢ None → q ≡ chunk_joined p x → x ≡ s → r ≡ is_part kind y → y ≡ s → r ≡ true
+    → due q ≡ string_ended p at kind s
+chunk_put (at_chunk a k t p) q at kind x y s r chunk is same part here so =
+    ap (λ (z : Place). due z) is ∙ ap (λ (o : List ℕ). due (at_chunk a k (t ++ o) p)) same
+    ∙ sym (good (at_chunk a k t p) at kind s (ap (λ (o : List ℕ). is_part kind o) (sym here) ∙ sym part ∙ so))
+chunk_put top q at kind x y s r chunk is same part here so = absurd (chunk refl)
+chunk_put (at_element a all ts p) q at kind x y s r chunk is same part here so = absurd (chunk refl)
+chunk_put (at_key a all ps p) q at kind x y s r chunk is same part here so = absurd (chunk refl)
+chunk_put (at_value a all ps k p) q at kind x y s r chunk is same part here so = absurd (chunk refl)
+chunk_put (at_content a n p) q at kind x y s r chunk is same part here so = absurd (chunk refl)
 
 pub array_begun : (gs hs : List Frame) (at n : ℕ) (items : List Item) → hs ≡ gs ++ frame.Elements at (Some n) items ∷ [] → items ≡ [] → (n ≡ 0 → ⊥)
     → due (place hs) ≡ filled_array (place gs) at (Some n) no_terms
@@ -107,10 +113,11 @@ array_begun gs hs at n items is none some =
     ∙ ap (λ (xs : List Item). due (at_element at (Some n) (terms_of (map view xs)) (place gs))) none
     ∙ sym (cond-false _ _ _ (ne_eqb 0 n (λ e. some (sym e))))
 
-pub map_begun : (gs hs : List Frame) (at n : ℕ) (members : Members) → hs ≡ gs ++ frame.Keys at (Some n) members ∷ [] → members_view members ≡ no_pairs → (n ≡ 0 → ⊥)
+pub map_begun : (gs hs : List Frame) (at n : ℕ) (members : Members) → hs ≡ gs ++ frame.Map at (Some n) members ∷ [] → members_view members ≡ no_pairs → due_key members ≡ None → (n ≡ 0 → ⊥)
     → due (place hs) ≡ filled_map (place gs) at (Some n) no_pairs
-map_begun gs hs at n members is none some =
-    pushed_due gs hs (frame.Keys at (Some n) members) is
+map_begun gs hs at n members is none key some =
+    pushed_due gs hs (frame.Map at (Some n) members) is
+    ∙ ap (λ (k : Option Term). due (map_place at (Some n) (members_view members) k (place gs))) key
     ∙ ap (λ (ps : Pairs). due (at_key at (Some n) ps (place gs))) none
     ∙ sym (cond-false _ _ _ (ne_eqb 0 n (λ e. some (sym e))))
 

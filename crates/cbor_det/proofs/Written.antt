@@ -20,7 +20,7 @@ use Rattle.cbor_det.proofs.Outcome.{same_whole}
 
 -- heads
 
-short_fits : (n : ℕ) → n < 2 ^ 64 → n < bound (shortest n)
+pub short_fits : (n : ℕ) → n < 2 ^ 64 → n < bound (shortest n)
 short_fits n small =
     cond_both (nat_lt n 24) _ _ (λ (form : Form). n < bound form) (λ e. ltb-true n 24 e) (λ e0.
     cond_both (nat_lt n (2 ^ 8)) _ _ (λ (form : Form). n < bound form) (λ e. ltb-true n (2 ^ 8) e) (λ e1.

@@ -56,8 +56,8 @@ abbrev pub keys : Pairs → List (List ℕ)
 keys no_pairs = []
 keys (pair k v ps) = canon k ∷ keys ps
 
--- After these octets an initial byte is due at this place: no item has ended, and rows 2 to 8 of the table show nothing.
--- (This does not look at the limit on octets.)
+-- After these octets an initial byte is due at this place: no item has ended, and nothing that is malformed, a float, a simple
+-- value, out of range, too deep, not UTF-8 or a doubled key has come. (This does not look at the limit on octets.)
 pub data Upto (limits : Limits) : Place → List ℕ → Type 0 where
   start : Upto limits top []
   chunk_due : (p : Place) (kind : Kind) (o s r : List ℕ) → Upto limits p o → Admits limits p 1

@@ -1,5 +1,5 @@
 -- The state of the machine as the code has it: frames, of which the last is the innermost, and what is read there.
-use Rattle.std.specs.Prelude.{◌<◌, ◌≤◌, ◌-◌, ◌^◌, ℕ, List, [], ◌∷◌, map, Option, Some, None}
+use Rattle.std.specs.Prelude.{◌<◌, ◌≤◌, ◌-◌, ◌^◌, ℕ, List, [], ◌∷◌, ◌++◌, map, Option, Some, None}
 use Rattle.cbor_det.specs.declared.frame.Frame.{Frame}
 use Rattle.cbor_det.specs.declared.frame.Frame.TheVariants as frame
 use Rattle.cbor_det.specs.declared.frame.Phase.{Phase}
@@ -7,8 +7,9 @@ use Rattle.cbor_det.specs.declared.frame.Phase.TheVariants as phase
 use Rattle.cbor_det.specs.declared.frame.Stepped.{Stepped}
 use Rattle.cbor_det.specs.declared.frame.Stepped.TheVariants as stepped
 use Rattle.cbor_det.specs.declared.kind.Kind.{Kind}
+use Rattle.cbor_det.specs.Term.{Term, Pairs}
 use Rattle.cbor_det.specs.View.{view, terms_of}
-use Rattle.cbor_det.specs.Held.{members_view}
+use Rattle.cbor_det.specs.Held.{members_view, due_key}
 use Rattle.cbor_det.specs.Faults.{Place, top, at_chunk, at_element, at_key, at_value, at_content}
 use Rattle.cbor_det.specs.declared.initial.Beginning.{Beginning}
 use Rattle.cbor_det.specs.declared.initial.Beginning.TheVariants as beginning
@@ -16,11 +17,15 @@ use Rattle.cbor_det.specs.declared.initial.Initial.{Initial}
 use Rattle.cbor_det.specs.declared.initial.Initial.TheVariants as initial
 use Rattle.cbor_det.specs.Machine.{State, due, argument, content, whole, faulty, string_ended, broken}
 
+-- A key is due in a map, or the value of this one.
+abbrev pub map_place : ℕ → Option ℕ → Pairs → Option Term → Place → Place
+map_place at all ps None p = at_key at all ps p
+map_place at all ps (Some k) p = at_value at all ps k p
+
 abbrev pub inside : Place → Frame → Place
 inside p (frame.Chunks at kind joined) = at_chunk at kind joined p
 inside p (frame.Elements at all items) = at_element at all (terms_of (map view items)) p
-inside p (frame.Keys at all members) = at_key at all (members_view members) p
-inside p (frame.Value at all members key) = at_value at all (members_view members) (view key.item) p
+inside p (frame.Map at all members) = map_place at all (members_view members) (due_key members) p
 inside p (frame.Content at number) = at_content at number p
 
 abbrev pub within : Place → List Frame → Place
@@ -66,6 +71,11 @@ EndsBehindSome (stepped.Fault fault) used = Unit {0}
 abbrev pub chunk_kind : Place → Option Kind
 chunk_kind (at_chunk at kind joined round) = Some kind
 chunk_kind p = None
+
+-- one chunk more, where one is due
+abbrev pub chunk_joined : Place → List ℕ → Place
+chunk_joined (at_chunk at kind joined round) s = at_chunk at kind (joined ++ s) round
+chunk_joined p s = p
 
 -- the kind of the fault that a low octet is, where a chunk is due or an item
 abbrev pub low_kind : Place → ℕ → ℕ

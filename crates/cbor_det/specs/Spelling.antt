@@ -35,7 +35,7 @@ abbrev pub string : Kind → List ℕ → Term
 string ByteString s = octets s
 string TextString s = text s
 
--- Chunks one after another, which joined are the string.
+-- Chunks one after another, which joined are the string (section 3.2.3).
 pub data Chunks (kind : Kind) : List ℕ → List ℕ → Type 0 where
   no_chunks : Chunks kind [] []
   chunk : (t s o h : List ℕ) → Chunks kind t o → IsPart kind s → IsHead (major_of kind) (length s) h → Chunks kind (t ++ s) (o ++ h ++ s)
@@ -54,6 +54,8 @@ pub data PutsIn (k v : Term) : Pairs → Pairs → Type 0 where
   here : (ps : Pairs) → PutsIn k v ps (pair k v ps)
   later : (l w : Term) (ps more : Pairs) → PutsIn k v ps more → PutsIn k v (pair l w ps) (pair l w more)
 
+-- The rules of an item: definite lengths by section 3.1, arrays and maps that a break ends by 3.2.2, strings of chunks by
+-- 3.2.3, false and true by 3.3, and tags by 3.4.
 mutual
   pub data Spelling : Term → List ℕ → Type 0 where
     unsigned : (n : ℕ) (h : List ℕ) → n < 2 ^ 63 → IsHead 0 n h → Spelling (integer (pos n)) h

@@ -11,16 +11,15 @@ ghost use Rattle.cbor_det.specs.declared.frame.Stepped.TheVariants as stepped;
 
 use crate::fault::{CborFault, DEPTH, FLOAT, MALFORMED, SIMPLE};
 use crate::frame::{Frame, PartialHead, Phase, Stepped};
-use crate::give::give;
+use crate::give::{give, opens};
 use crate::head::argued;
 use crate::initial::{Beginning, Initial, Major};
 use crate::item::Item;
 use crate::kind::Kind;
 use crate::limits::Limits;
-use crate::members::Members;
 use crate::string::string_ended;
 use std::alloc::Global;
-use wire_base::{List, Memory};
+use wire_base::Memory;
 
 /// Begins or ends what the initial byte says, after `taken` octets of the item.
 pub(crate) fn begun(
@@ -58,7 +57,7 @@ fn refused(stack: &[Frame], at: u64, kind: u8) -> Stepped
 }
 
 /// The kind of the string of which a chunk is due; `None` where an item is.
-fn chunk_due(stack: &[Frame]) -> Option<Kind>
+pub(crate) fn chunk_due(stack: &[Frame]) -> Option<Kind>
     ensures kind { result ≡ chunk_kind (place stack.now) }
 {
     match stack.last() {
@@ -74,8 +73,7 @@ fn kind_of(frame: &Frame) -> Option<Kind>
     match frame {
         Frame::Chunks { kind, .. } => Some(*kind),
         Frame::Elements { .. } => None,
-        Frame::Keys { .. } => None,
-        Frame::Value { .. } => None,
+        Frame::Map { .. } => None,
         Frame::Content { .. } => None,
     }
 }
@@ -192,33 +190,9 @@ fn opened(
             left,
             number: 0,
         }))),
-        Beginning::Chunks(kind) => {
-            let joined = List::new(alloc);
-            stack.push(Frame::Chunks {
-                at: taken,
-                kind,
-                joined,
-            })?;
-            Ok(Stepped::Goes(Phase::Due))
-        }
-        Beginning::Elements => {
-            let items = List::new(alloc);
-            stack.push(Frame::Elements {
-                at: taken,
-                all: None,
-                items,
-            })?;
-            Ok(Stepped::Goes(Phase::Due))
-        }
-        Beginning::Members => {
-            let members = Members::new(alloc);
-            stack.push(Frame::Keys {
-                at: taken,
-                all: None,
-                members,
-            })?;
-            Ok(Stepped::Goes(Phase::Due))
-        }
+        Beginning::Chunks(kind) => Ok(opens(stack, Frame::chunks(alloc, taken, kind))?),
+        Beginning::Elements => Ok(opens(stack, Frame::elements(alloc, taken, None))?),
+        Beginning::Members => Ok(opens(stack, Frame::map(alloc, taken, None))?),
         Beginning::Bool(value) => Ok(give(alloc, stack, taken, Item::Bool(value))?),
     }
 }
@@ -256,13 +230,15 @@ fn end_of(
             }
             Ok(give(alloc, stack, at, Item::Array(items))?)
         }
-        Frame::Keys { at, all, members } => {
+        Frame::Map { at, all, members } => {
             if all.is_some() {
+                return Ok(unended(taken));
+            }
+            if !members.is_key_due() {
                 return Ok(unended(taken));
             }
             Ok(give(alloc, stack, at, Item::Map(members.into_pairs(alloc)?))?)
         }
-        Frame::Value { .. } => Ok(unended(taken)),
         Frame::Content { .. } => Ok(unended(taken)),
     }
 }

@@ -1,11 +1,17 @@
 //! What is open round the place at which a reader stands, and what it reads there.
 
+ghost use Rattle.std.specs.Prelude.{◌≡◌, []};
+ghost use Rattle.cbor_det.specs.Faults.{Place, at_chunk, at_element, at_key};
+ghost use Rattle.cbor_det.specs.Frames.{inside};
+ghost use Rattle.cbor_det.specs.Term.{no_terms, no_pairs};
+
 use crate::fault::CborFault;
 use crate::initial::Major;
 use crate::item::{Item, Items};
 use crate::kind::Kind;
-use crate::members::{Key, Members};
-use wire_base::Octets;
+use crate::members::Members;
+use std::alloc::Global;
+use wire_base::{List, Octets};
 
 /// A construct that is open, with what stands in it whole. `at` is the offset of its initial byte, and `all` is how many
 /// items or pairs its head counts, or `None` where a break ends it.
@@ -23,24 +29,43 @@ pub(crate) enum Frame {
         all: Option<u64>,
         items: Items,
     },
-    /// A map whose next key is due.
-    Keys {
+    /// A map.
+    Map {
         at: u64,
         all: Option<u64>,
         members: Members,
-    },
-    /// A map in which the value of a key is due.
-    Value {
-        at: u64,
-        all: Option<u64>,
-        members: Members,
-        key: Key,
     },
     /// A tag whose content is due.
     Content {
         at: u64,
         number: u64,
     },
+}
+
+impl Frame {
+    /// A string of indefinite length with no chunk so far. It takes no memory.
+    pub(crate) fn chunks(alloc: Global, at: u64, kind: Kind) -> Self
+        ensures made { (p : Place) → inside p result ≡ at_chunk at kind [] p }
+    {
+        let joined = List::new(alloc);
+        Frame::Chunks { at, kind, joined }
+    }
+
+    /// An array with nothing in it so far. It takes no memory.
+    pub(crate) fn elements(alloc: Global, at: u64, all: Option<u64>) -> Self
+        ensures made { (p : Place) → inside p result ≡ at_element at all no_terms p }
+    {
+        let items = List::new(alloc);
+        Frame::Elements { at, all, items }
+    }
+
+    /// A map with nothing in it so far. It takes no memory.
+    pub(crate) fn map(alloc: Global, at: u64, all: Option<u64>) -> Self
+        ensures made { (p : Place) → inside p result ≡ at_key at all no_pairs p }
+    {
+        let members = Members::new(alloc);
+        Frame::Map { at, all, members }
+    }
 }
 
 /// A head, begun at the offset `at`, of whose argument `left` more octets are due; those that came stand for `number`.

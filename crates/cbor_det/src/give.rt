@@ -1,29 +1,40 @@
 //! Taking an item that ended into what is open round it.
 
 ghost use Rattle.std.specs.Prelude.{◌≡◌, ℕ, map, IfOk};
-ghost use Rattle.cbor_det.specs.Faults.{Place, at_element, at_key, at_value};
-ghost use Rattle.cbor_det.specs.Held.{members_view};
-ghost use Rattle.cbor_det.specs.Frames.{inside, place, state_of, StepFits};
+ghost use Rattle.cbor_det.specs.Faults.{Place, at_element};
+ghost use Rattle.cbor_det.specs.Frames.{inside, map_place, place, state_of, StepFits};
 ghost use Rattle.cbor_det.specs.Giving.{taken_state};
-ghost use Rattle.cbor_det.specs.Machine.{give, is_full};
+ghost use Rattle.cbor_det.specs.Machine.{due, give, is_full};
+ghost use Rattle.cbor_det.specs.Held.{due_key, members_view};
 ghost use Rattle.cbor_det.specs.View.{view, terms_of};
+ghost use Rattle.cbor_det.specs.declared.frame.Frame.TheVariants as frame;
 
 use crate::fault::{CborFault, DUPLICATE_KEY, MALFORMED};
 use crate::frame::{Frame, Phase, Stepped};
 use crate::item::{Item, Items};
-use crate::members::{Key, Members};
+use crate::members::Members;
 use std::alloc::Global;
-use wire_base::{Boxed, Memory};
+use std::mem;
+use wire_base::{Boxed, List, Memory};
 
 /// What a construct that is open makes of an item.
 #[derive(Drop)]
 pub(crate) enum Taken {
     /// It is still open.
-    Open(Frame),
+    Open,
     /// It ended too: an item that began at the offset.
     Ended(u64, Item),
     /// A fault showed.
     Fault(CborFault),
+}
+
+/// Opens a construct, inside of what is open.
+pub(crate) fn opens(stack: &mut Vec<Frame>, frame: Frame) -> Result<Stepped, Memory>
+    ensures due { IfOk result (λ came. state_of (place stack.new.items) came ≡ due (inside (place stack.old.items) frame)) }
+    ensures fits { IfOk result StepFits }
+{
+    stack.push(frame)?;
+    Ok(Stepped::Goes(Phase::Due))
 }
 
 /// Takes an item that began at `at` into the innermost construct that is open, and each one that ends by it into the
@@ -39,24 +50,23 @@ pub(crate) fn give(
 {
     let mut began = at;
     let mut item = item;
-    while let Some(frame) = stack.pop() {
+    while let Some(frame) = stack.last_mut() {
         match take_in(alloc, frame, began, item)? {
-            Taken::Open(frame) => {
-                stack.push(frame)?;
-                return Ok(Stepped::Goes(Phase::Due));
-            }
+            Taken::Open => return Ok(Stepped::Goes(Phase::Due)),
             Taken::Ended(at, made) => {
                 began = at;
                 item = made;
             }
             Taken::Fault(fault) => return Ok(Stepped::Fault(fault)),
         }
+        stack.truncate(stack.len().saturating_sub(1));
     }
     Ok(Stepped::Whole(item))
 }
 
-fn take_in(alloc: Global, frame: Frame, at: u64, item: Item) -> Result<Taken, Memory>
-    ensures taken { IfOk result (λ came. (p : Place) → taken_state p came ≡ give (inside p frame) at (view item)) }
+/// Takes an item into the construct. Where the construct ended too, what stood in it is in the item.
+fn take_in(alloc: Global, frame: &mut Frame, at: u64, item: Item) -> Result<Taken, Memory>
+    ensures taken { IfOk result (λ came. (p : Place) → taken_state p frame.new came ≡ give (inside p frame.old) at (view item)) }
 {
     match frame {
         // No item is read where a chunk is due.
@@ -68,84 +78,62 @@ fn take_in(alloc: Global, frame: Frame, at: u64, item: Item) -> Result<Taken, Me
             at: began,
             all,
             items,
-        } => Ok(take_element(began, all, items, item)?),
-        Frame::Keys {
+        } => Ok(take_element(alloc, *began, *all, items, item)?),
+        Frame::Map {
             at: began,
             all,
             members,
-        } => Ok(take_key(alloc, began, all, members, at, item)?),
-        Frame::Value {
-            at: began,
-            all,
-            members,
-            key,
-        } => Ok(take_value(alloc, began, all, members, key, item)?),
+        } => Ok(take_member(alloc, *began, *all, members, at, item)?),
         Frame::Content { at: began, number } => {
-            Ok(Taken::Ended(began, Item::Tag(number, Boxed::new(alloc, item)?)))
+            Ok(Taken::Ended(*began, Item::Tag(*number, Boxed::new(alloc, item)?)))
         }
     }
 }
 
 /// An element of an array that began at `at`.
-fn take_element(at: u64, all: Option<u64>, items: Items, item: Item) -> Result<Taken, Memory>
-    ensures taken { IfOk result
-        (λ came. (p : Place) → (began : ℕ) → taken_state p came
-        ≡ give (at_element at all (terms_of (map view items)) p) began (view item)) }
-{
-    let mut items = items;
-    items.push(item)?;
-    if is_full(all, items.len()) {
-        return Ok(Taken::Ended(at, Item::Array(items)));
-    }
-    Ok(Taken::Open(Frame::Elements { at, all, items }))
-}
-
-/// A key that began at `began`, of a map that began at `at`.
-fn take_key(
+fn take_element(
     alloc: Global,
     at: u64,
     all: Option<u64>,
-    members: Members,
+    items: &mut Items,
+    item: Item,
+) -> Result<Taken, Memory>
+    ensures taken { IfOk result
+        (λ came. (p : Place) → (began : ℕ) → taken_state p (frame.Elements at all items.new) came
+        ≡ give (at_element at all (terms_of (map view items.old)) p) began (view item)) }
+{
+    items.push(item)?;
+    if is_full(all, items.len()) {
+        let whole = mem::replace(items, List::new(alloc));
+        return Ok(Taken::Ended(at, Item::Array(whole)));
+    }
+    Ok(Taken::Open)
+}
+
+/// A key or a value that began at `began`, of a map that began at `at`.
+fn take_member(
+    alloc: Global,
+    at: u64,
+    all: Option<u64>,
+    members: &mut Members,
     began: u64,
     item: Item,
 ) -> Result<Taken, Memory>
     ensures taken { IfOk result
-        (λ came. (p : Place) → taken_state p came ≡ give (at_key at all (members_view members) p) began (view item)) }
+        (λ came. (p : Place) → taken_state p (frame.Map at all members.new) came
+        ≡ give (map_place at all (members_view members.old) (due_key members.old) p) began (view item)) }
 {
-    let key = Key::new(alloc, item)?;
-    if members.holds(&key) {
+    if !members.take(alloc, item)? {
         return Ok(Taken::Fault(CborFault {
             kind: DUPLICATE_KEY,
             at: began,
         }));
     }
-    Ok(Taken::Open(Frame::Value {
-        at,
-        all,
-        members,
-        key,
-    }))
-}
-
-/// The value of a key.
-fn take_value(
-    alloc: Global,
-    at: u64,
-    all: Option<u64>,
-    members: Members,
-    key: Key,
-    item: Item,
-) -> Result<Taken, Memory>
-    ensures taken { IfOk result
-        (λ came. (p : Place) → (began : ℕ) → taken_state p came
-        ≡ give (at_value at all (members_view members) (view key.item) p) began (view item)) }
-{
-    let mut members = members;
-    members.insert(key, item)?;
-    if is_full(all, members.len()) {
-        return Ok(Taken::Ended(at, Item::Map(members.into_pairs(alloc)?)));
+    if members.is_whole(all) {
+        let whole = mem::replace(members, Members::new(alloc));
+        return Ok(Taken::Ended(at, Item::Map(whole.into_pairs(alloc)?)));
     }
-    Ok(Taken::Open(Frame::Keys { at, all, members }))
+    Ok(Taken::Open)
 }
 
 /// Whether so many are all that the head counts.

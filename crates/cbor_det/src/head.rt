@@ -9,12 +9,11 @@ ghost use Rattle.std.specs.Prelude.{Some};
 
 use crate::fault::{CborFault, RANGE, TOO_LONG};
 use crate::frame::{Frame, PartialString, Phase, Stepped};
-use crate::give::give;
+use crate::give::{give, opens};
 use crate::initial::Major;
-use crate::item::Item;
+use crate::item::{Item, Pairs};
 use crate::kind::Kind;
 use crate::limits::Limits;
-use crate::members::Members;
 use crate::string::string_ended;
 use std::alloc::Global;
 use wire_base::{List, Memory};
@@ -52,11 +51,8 @@ pub(crate) fn argued(
         Major::Array => Ok(begin_array(alloc, stack, at, argument)?),
         Major::Map => Ok(begin_map(alloc, stack, at, argument)?),
         Major::Tag => {
-            stack.push(Frame::Content {
-                at,
-                number: argument,
-            })?;
-            Ok(Stepped::Goes(Phase::Due))
+            let number = argument;
+            Ok(opens(stack, Frame::Content { at, number })?)
         }
     }
 }
@@ -103,16 +99,10 @@ fn begin_array(
         (λ came. state_of (place stack.new.items) came ≡ filled_array (place stack.old.items) at (Some count) no_terms) }
     ensures fits { IfOk result StepFits }
 {
-    let items = List::new(alloc);
     if count == 0 {
-        return Ok(give(alloc, stack, at, Item::Array(items))?);
+        return Ok(give(alloc, stack, at, Item::Array(List::new(alloc)))?);
     }
-    stack.push(Frame::Elements {
-        at,
-        all: Some(count),
-        items,
-    })?;
-    Ok(Stepped::Goes(Phase::Due))
+    Ok(opens(stack, Frame::elements(alloc, at, Some(count)))?)
 }
 
 /// A map of `count` pairs.
@@ -121,14 +111,8 @@ fn begin_map(alloc: Global, stack: &mut Vec<Frame>, at: u64, count: u64) -> Resu
         (λ came. state_of (place stack.new.items) came ≡ filled_map (place stack.old.items) at (Some count) no_pairs) }
     ensures fits { IfOk result StepFits }
 {
-    let members = Members::new(alloc);
     if count == 0 {
-        return Ok(give(alloc, stack, at, Item::Map(members.into_pairs(alloc)?))?);
+        return Ok(give(alloc, stack, at, Item::Map(Pairs::new(alloc)))?);
     }
-    stack.push(Frame::Keys {
-        at,
-        all: Some(count),
-        members,
-    })?;
-    Ok(Stepped::Goes(Phase::Due))
+    Ok(opens(stack, Frame::map(alloc, at, Some(count)))?)
 }

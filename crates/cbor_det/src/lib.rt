@@ -16,6 +16,7 @@ mod give;
 mod head;
 mod initial;
 mod item;
+mod key_order;
 mod kind;
 pub mod laws;
 mod limits;

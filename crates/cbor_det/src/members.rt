@@ -1,16 +1,21 @@
 //! The pairs of a map that is still read.
 
-ghost use Rattle.std.specs.Prelude.{◌≡◌, IfOk, OnOk, map};
+ghost use Rattle.std.specs.Prelude.{◌≡◌, true, false, IfOk, OnOk, None, map};
+ghost use Rattle.std.specs.Option.{option_map, is_none};
 ghost use Rattle.cbor_det.specs.Canonical.{canon};
-ghost use Rattle.cbor_det.specs.Machine.{is_held, insert};
-ghost use Rattle.cbor_det.specs.Open.{AreSpelled};
-ghost use Rattle.cbor_det.specs.Term.{pair_count, no_pairs};
-ghost use Rattle.cbor_det.specs.View.{view, pairs_view};
+ghost use Rattle.cbor_det.specs.Machine.{insert};
+ghost use Rattle.cbor_det.specs.Open.{AreSpelled, IsTaken, MayCome, RisesTo, entries_view, is_whole, rises_to_prop};
+ghost use Rattle.cbor_det.specs.Spelling.{Rises};
+ghost use Rattle.cbor_det.specs.Term.{no_pairs};
+ghost use Rattle.cbor_det.specs.View.{view, pairs_view, listed};
 
+use crate::give::is_full;
 use crate::item::{Item, Pair, Pairs};
+use crate::key_order::is_above;
 use crate::write::spell;
 use std::alloc::Global;
 use std::collections::BTreeMap;
+use std::mem;
 use wire_base::{List, Memory};
 
 /// A key with its canonical spelling.
@@ -46,56 +51,194 @@ impl Key {
     }
 }
 
-/// The pairs of a map that is still read, in order of their keys' canonical spellings, so that each key is found among
-/// n others in steps that grow with log n.
+/// Pairs whose keys came in rising order, and the key whose value is due.
 #[derive(Drop)]
-pub(crate) struct Members {
+pub(crate) struct Rising {
+    pairs: List<Pair>,
+    key: Option<Item>,
+    ghost rises: { RisesTo (listed pairs) (option_map view key) } by { rises_to_prop (listed pairs) (option_map view key) },
+}
+
+/// Pairs whose keys came in any order, under their keys' canonical spellings, so that each key is found among n others in
+/// steps that grow with log n; and the key whose value is due.
+#[derive(Drop)]
+pub(crate) struct Ordered {
     entries: BTreeMap<Vec<u8>, Pair>,
+    key: Option<Key>,
     ghost are_spelled: { AreSpelled entries.entries },
 }
 
-impl Members {
-    ghost use Rattle.cbor_det.specs.Held.{members_view};
+/// The pairs of a map that is still read, in order of their keys' canonical spellings.
+#[derive(Drop)]
+pub(crate) enum Members {
+    /// As long as the keys rise, as they do in a canonical spelling.
+    Rising(Rising),
+    /// From the first key on that does not.
+    Ordered(Ordered),
+}
 
-    /// No pairs. It takes no memory.
-    pub(crate) fn new(alloc: Global) -> Self
-        ensures empty { members_view result ≡ no_pairs }
+impl Rising {
+    /// No pairs, and a key is due. It takes no memory.
+    fn new(alloc: Global) -> Self
+        ensures empty { listed result.pairs ≡ no_pairs }
+        ensures key { result.key ≡ None }
     {
-        Members {
-            entries: BTreeMap::new(alloc),
+        Rising {
+            pairs: List::new(alloc),
+            key: None,
         }
     }
 
-    /// How many pairs there are.
-    pub(crate) fn len(&self) -> usize
-        ensures len { result ≡ pair_count (members_view self.now) }
+    /// Whether the item is a value that is due, or a key above all that are held.
+    fn admits(&self, alloc: Global, item: &Item) -> Result<bool, Memory>
+        ensures admits { IfOk result (λ admits. admits ≡ true → MayCome (listed self.now.pairs) (option_map view self.now.key) (view item.now)) }
+        ensures key { IfOk result (λ admits. admits ≡ false → self.now.key ≡ None) }
     {
-        self.entries.len()
+        if self.key.is_some() {
+            return Ok(true);
+        }
+        match self.pairs.as_slice().last() {
+            None => Ok(true),
+            Some(last) => is_above(alloc, item, &last.key),
+        }
     }
 
-    /// Whether the key is held.
-    pub(crate) fn holds(&self, key: &Key) -> bool
-        ensures held { result ≡ is_held (members_view self.now) (canon (view key.now.item)) }
+    /// Takes the value that is due, or a key above all that are held.
+    fn take(&mut self, item: Item) -> Result<(), Memory>
+        requires may_come { MayCome (listed self.old.pairs) (option_map view self.old.key) (view item) }
+        ensures taken { OnOk result
+            (IsTaken (listed self.old.pairs) (option_map view self.old.key) (view item) true (listed self.new.pairs) (option_map view self.new.key)) }
     {
-        self.entries.contains_key(key.spelled.as_slice())
+        match self.key.take() {
+            None => {
+                self.key = Some(item);
+                Ok(())
+            }
+            Some(key) => self.pairs.push(Pair { key, value: item }),
+        }
+    }
+}
+
+impl Ordered {
+    ghost use Rattle.cbor_det.specs.Held.{key_view};
+
+    /// The same pairs, and a key is due.
+    fn of(alloc: Global, pairs: List<Pair>) -> Result<Self, Memory>
+        requires rises { Rises (listed pairs) }
+        ensures same { IfOk result (λ made. entries_view made.entries.entries ≡ listed pairs) }
+        ensures key { IfOk result (λ made. made.key ≡ None) }
+    {
+        let mut ordered = Ordered {
+            entries: BTreeMap::new(alloc),
+            key: None,
+        };
+        let mut rest = pairs.into_vec();
+        while let Some(pair) = rest.pop() {
+            let Pair { key, value } = pair;
+            ordered.insert(Key::new(alloc, key)?, value)?;
+        }
+        Ok(ordered)
     }
 
     /// Puts a pair at its place.
-    pub(crate) fn insert(&mut self, key: Key, value: Item) -> Result<(), Memory>
-        ensures puts { OnOk result (members_view self.new ≡ insert (view key.item) (view value) (members_view self.old)) }
+    fn insert(&mut self, key: Key, value: Item) -> Result<(), Memory>
+        ensures puts { OnOk result
+            (entries_view self.new.entries.entries ≡ insert (view key.item) (view value) (entries_view self.old.entries.entries)) }
+        ensures key { self.new.key ≡ self.old.key }
     {
         let Key { spelled, item } = key;
         self.entries.insert(spelled, Pair { key: item, value })?;
         Ok(())
     }
 
+    /// Takes the value that is due, or a key; false where the key is held.
+    fn take(&mut self, alloc: Global, item: Item) -> Result<bool, Memory>
+        ensures taken { IfOk result
+            (λ free. IsTaken (entries_view self.old.entries.entries) (option_map key_view self.old.key) (view item) free (entries_view self.new.entries.entries) (option_map key_view self.new.key)) }
+    {
+        match self.key.take() {
+            None => {
+                let key = Key::new(alloc, item)?;
+                if self.entries.contains_key(key.spelled.as_slice()) {
+                    return Ok(false);
+                }
+                self.key = Some(key);
+            }
+            Some(key) => self.insert(key, item)?,
+        }
+        Ok(true)
+    }
+}
+
+impl Members {
+    ghost use Rattle.cbor_det.specs.Held.{due_key, members_view};
+
+    /// No pairs, and a key is due. It takes no memory.
+    pub(crate) fn new(alloc: Global) -> Self
+        ensures empty { members_view result ≡ no_pairs }
+        ensures key { due_key result ≡ None }
+    {
+        Members::Rising(Rising::new(alloc))
+    }
+
+    /// Takes the value that is due, or a key; false where the key is held.
+    pub(crate) fn take(&mut self, alloc: Global, item: Item) -> Result<bool, Memory>
+        ensures taken { IfOk result
+            (λ free. IsTaken (members_view self.old) (due_key self.old) (view item) free (members_view self.new) (due_key self.new)) }
+    {
+        match self {
+            Members::Ordered(ordered) => ordered.take(alloc, item),
+            Members::Rising(rising) => {
+                if rising.admits(alloc, &item)? {
+                    rising.take(item)?;
+                    return Ok(true);
+                }
+                let pairs = mem::replace(&mut rising.pairs, List::new(alloc));
+                let mut ordered = Ordered::of(alloc, pairs)?;
+                let free = ordered.take(alloc, item)?;
+                *self = Members::Ordered(ordered);
+                Ok(free)
+            }
+        }
+    }
+
+    /// Whether a key is due and these are all pairs that the head counts.
+    pub(crate) fn is_whole(&self, all: Option<u64>) -> bool
+        ensures whole { result ≡ is_whole all (members_view self.now) (due_key self.now) }
+    {
+        match self {
+            Members::Rising(rising) => rising.key.is_none() && is_full(all, rising.pairs.len()),
+            Members::Ordered(ordered) => {
+                ordered.key.is_none() && is_full(all, ordered.entries.len())
+            }
+        }
+    }
+
+    /// Whether a key is due.
+    pub(crate) fn is_key_due(&self) -> bool
+        ensures due { result ≡ is_none (due_key self.now) }
+    {
+        match self {
+            Members::Rising(rising) => rising.key.is_none(),
+            Members::Ordered(ordered) => ordered.key.is_none(),
+        }
+    }
+
     /// The pairs of the map, which has been read whole.
     pub(crate) fn into_pairs(self, alloc: Global) -> Result<Pairs, Memory>
         ensures pairs { IfOk result (λ made. pairs_view made ≡ members_view self) }
     {
-        let Members { entries } = self;
-        let pairs = List::from_vec(values(alloc, entries)?);
-        Ok(Pairs { pairs })
+        match self {
+            Members::Rising(rising) => {
+                let Rising { pairs, .. } = rising;
+                Ok(Pairs { pairs })
+            }
+            Members::Ordered(ordered) => {
+                let Ordered { entries, .. } = ordered;
+                let pairs = List::from_vec(values(alloc, entries)?);
+                Ok(Pairs { pairs })
+            }
+        }
     }
 }
 

@@ -1,11 +1,12 @@
 //! Definite strings that ended: items, and chunks of indefinite strings.
 
-ghost use Rattle.std.specs.Prelude.{◌≡◌, IfOk, OnOk, MatchOption, false, true, None};
+ghost use Rattle.std.specs.Prelude.{◌≡◌, ◌≢◌, IfOk, OnOk, MatchOption, false, true, None};
 ghost use Rattle.std.specs.Str.{is_utf8};
-ghost use Rattle.cbor_det.specs.Faults.{at_chunk};
-ghost use Rattle.cbor_det.specs.Frames.{inside, place, state_of, StepFits, chunk_kind};
+ghost use Rattle.cbor_det.specs.Faults.{Place};
+ghost use Rattle.cbor_det.specs.Frames.{inside, place, state_of, StepFits, chunk_kind, chunk_joined};
 ghost use Rattle.cbor_det.specs.Machine.{string_ended, is_part};
 
+use crate::begin::chunk_due;
 use crate::fault::{CborFault, NOT_UTF8};
 use crate::frame::{Frame, Phase, Stepped};
 use crate::give::give;
@@ -26,47 +27,49 @@ pub(crate) fn string_ended(
     ensures ended { IfOk result (λ came. state_of (place stack.new.items) came ≡ string_ended (place stack.old.items) at kind octets) }
     ensures fits { IfOk result StepFits }
 {
-    match stack.pop() {
+    match chunk_due(stack.as_slice()) {
         None => Ok(string_item(alloc, stack, at, kind, octets)?),
-        Some(frame) => Ok(string_in(alloc, stack, frame, at, kind, octets)?),
+        Some(_) => Ok(chunk_ended(stack, at, kind, octets)?),
     }
 }
 
-/// Takes a definite string where `frame` is the innermost construct that is open.
-fn string_in(
-    alloc: Global,
+/// Takes a definite string as a chunk.
+fn chunk_ended(
     stack: &mut Vec<Frame>,
-    frame: Frame,
     at: u64,
     kind: Kind,
     octets: Octets,
 ) -> Result<Stepped, Memory>
-    ensures ended { IfOk result
-        (λ came. state_of (place stack.new.items) came ≡ string_ended (inside (place stack.old.items) frame) at kind octets) }
+    requires chunk { chunk_kind (place stack.old.items) ≢ None }
+    ensures ended { IfOk result (λ came. state_of (place stack.new.items) came ≡ string_ended (place stack.old.items) at kind octets) }
     ensures fits { IfOk result StepFits }
 {
+    if !is_part(kind, octets.as_slice()) {
+        return Ok(Stepped::Fault(CborFault { kind: NOT_UTF8, at }));
+    }
+    join_chunk(stack, octets.as_slice())?;
+    Ok(Stepped::Goes(Phase::Due))
+}
+
+/// Puts the octets behind those of the string that is open.
+fn join_chunk(stack: &mut Vec<Frame>, octets: &[u8]) -> Result<(), Memory>
+    ensures joined { OnOk result (place stack.new.items ≡ chunk_joined (place stack.old.items) octets.now) }
+{
+    match stack.last_mut() {
+        None => Ok(()),
+        Some(frame) => join(frame, octets),
+    }
+}
+
+/// Puts the octets behind those of the construct, where it is a string.
+fn join(frame: &mut Frame, octets: &[u8]) -> Result<(), Memory>
+    ensures joined { OnOk result ((p : Place) → inside p frame.new ≡ chunk_joined (inside p frame.old) octets.now) }
+{
     match frame {
-        Frame::Chunks {
-            at: began,
-            kind: of,
-            joined,
-        } => {
-            if !is_part(kind, octets.as_slice()) {
-                return Ok(Stepped::Fault(CborFault { kind: NOT_UTF8, at }));
-            }
-            let mut joined = joined;
-            joined.extend(octets.as_slice())?;
-            stack.push(Frame::Chunks {
-                at: began,
-                kind: of,
-                joined,
-            })?;
-            Ok(Stepped::Goes(Phase::Due))
-        }
-        other => {
-            stack.push(other)?;
-            Ok(string_item(alloc, stack, at, kind, octets)?)
-        }
+        Frame::Chunks { joined, .. } => joined.extend(octets),
+        Frame::Elements { .. } => Ok(()),
+        Frame::Map { .. } => Ok(()),
+        Frame::Content { .. } => Ok(()),
     }
 }
 

@@ -13,8 +13,8 @@ returns-in-Chunks c = record {
       ∙ ap (λ (f : Frame). give (inside p f) c.args.at (view c.args.item)) (sym c.in-Chunks.is);
 }
 
-pub returns : goal.returns
-returns c = record {
+pub returns-in_ok-new-in-Content : goal.returns-in_ok-new-in-Content
+returns-in_ok-new-in-Content c = record {
   taken = λ p. content_ends c.in-Content.began c.in-Content.number c.in_ok-new-in-Content.field-0 c.args.item p c.args.at c.in_ok-new-in-Content.ensures.value
       ∙ ap (λ (f : Frame). give (inside p f) c.args.at (view c.args.item)) (sym c.in-Content.is);
 }
