@@ -14,8 +14,8 @@ One item of at most MIB times 1048576 octets, and the shapes are
     deep      an array of arrays, maps, keys and tags in each other down to the depth of 64, in a mixture
     keyed     an array of zeros as the key of a map that is the key of a map, and so on, down to the depth of 64
 
-or, for the shape `tags`, software identification tags (RFC 9393) one after another, each with 60 files, of as many octets in all
-that no tag more finds room.
+or, for the shapes `tags` and `links`, software identification tags (RFC 9393) one after another, each with 60 files or with 60
+links, of as many octets in all that no tag more finds room.
 """
 
 import random
@@ -84,6 +84,9 @@ SHAPES = {
 }
 
 
+TAGS = {"tags": lambda room: tags(room, 2, True), "links": lambda room: tags(room, 60, False)}
+
+
 def text(string):
     octets = string.encode()
     return head(3, len(octets)) + octets
@@ -96,31 +99,36 @@ def file_of(chance, index):
     return head(5, 3) + head(0, 7) + digest + head(0, 20) + head(0, chance.randrange(1 << 24)) + head(0, 24) + name
 
 
-def tag(chance, index):
-    """A primary tag with its creator, two links, and its files (RFC 9393, section 2)."""
+def payload(chance):
+    """Files, as a field of a tag."""
+    return 6, head(5, 1) + head(0, 17) + head(4, 60) + b"".join(file_of(chance, place) for place in range(60))
+
+
+def tag(chance, index, links, has_files):
+    """A primary tag with its creator, so many links, and its files, if it has any (RFC 9393, section 2)."""
     entity = head(5, 3) + head(0, 31) + text("Example Software Limited") + head(0, 32) + head(6, 32) + text("example.com")
     entity += head(0, 33) + head(4, 2) + b"\1\2"
-    links = b"".join(
-        head(5, 2) + head(0, 38) + head(6, 32) + text(f"swid:example.com/component-{chance.randrange(9999)}") + head(0, 40) + b"\7" for _ in range(2)
+    link = b"".join(
+        head(5, 2) + head(0, 38) + head(6, 32) + text(f"swid:example.com/component-{chance.randrange(9999)}") + head(0, 40) + b"\7" for _ in range(links)
     )
-    files = head(4, 60) + b"".join(file_of(chance, place) for place in range(60))
+    files = [payload(chance)] if has_files else []
     fields = [
         (0, head(2, 16) + chance.randbytes(16)),
         (1, text(f"Example Package {index}")),
         (2, entity),
-        (4, head(4, 2) + links),
-        (6, head(5, 1) + head(0, 17) + files),
+        (4, head(4, links) + link),
+        *files,
         (12, b"\0"),
         (13, text(f"{index % 7}.{index % 13}.{index % 101}")),
     ]
     return head(6, 1398229316) + head(5, len(fields)) + b"".join(head(0, key) + value for key, value in fields)
 
 
-def tags(room):
+def tags(room, links, has_files):
     chance = random.Random(1)
     parts, used, index = [], 0, 0
     while True:
-        part = tag(chance, index)
+        part = tag(chance, index, links, has_files)
         if used + len(part) > room:
             return b"".join(parts)
         parts.append(part)
@@ -129,10 +137,10 @@ def tags(room):
 
 
 def main():
-    if len(sys.argv) != 4 or not sys.argv[2].isdigit() or sys.argv[1] not in (*SHAPES, "tags"):
+    if len(sys.argv) != 4 or not sys.argv[2].isdigit() or sys.argv[1] not in (*SHAPES, *TAGS):
         sys.exit(__doc__)
     shape, room = sys.argv[1], int(sys.argv[2]) << 20
-    octets = tags(room) if shape == "tags" else SHAPES[shape](room)
+    octets = (SHAPES | TAGS)[shape](room)
     with open(sys.argv[3], "wb") as file:
         file.write(octets)
 

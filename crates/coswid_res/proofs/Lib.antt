@@ -1,2 +1,5 @@
 pub mod Elements
 pub mod Hashes
+pub mod Keys
+pub mod Lines
+pub mod Maps

@@ -1,9 +1,9 @@
 -- The first form fault of an item: what is missing or written in no form that its key has, and where (RFC 9393, section 2).
-use Rattle.std.specs.Prelude.{ℕ, ◌+◌, ◌==◌, ℤ, pos, negsuc, Bool, true, false, List, [], ◌∷◌, length, Option, Some, None, if◌then◌else◌}
+use Rattle.std.specs.Prelude.{ℕ, ◌+◌, ◌==◌, ℤ, pos, Bool, true, false, List, [], ◌∷◌, length, Option, Some, None, if◌then◌else◌}
 use Rattle.cbor_det.specs.Term.{Term, Terms, Pairs, integer, octets, text, array, map, tagged, boolean, no_terms, term, no_pairs, pair}
-use Rattle.cbor_det.specs.Lookup.{value_under}
+use Rattle.cbor_det.specs.Lookup.{value_under, is_unsigned}
 use Rattle.coswid_res.specs.declared.fault.FormFault.{FormFault}
-use Rattle.coswid_res.specs.Schema.{Form, Field, Line, one, one_or_more, a_text, a_boolean, an_integer, an_identifier, a_code, a_uri, a_hash, a_map, anything, nothing, table, key_of, field_of, required_keys}
+use Rattle.coswid_res.specs.Schema.{Form, Field, Line, one, one_or_more, a_text, a_boolean, an_integer, an_identifier, a_code, a_uri, a_hash, a_map, anything, table, key_of, field_of, required_keys}
 
 -- A fault has a kind, and the keys and indices that lead to it from the top.
 abbrev pub fault : ℕ → List ℤ → Option FormFault
@@ -32,28 +32,10 @@ abbrev pub missing : List ℕ → Pairs → Option FormFault
 missing [] ps = None
 missing (k ∷ ks) ps = or_else (absent k (value_under k ps)) (missing ks ps)
 
--- what stands under a key of a map: a key that is not listed has any value
-abbrev pub look_up : List Line → ℕ → Field
-look_up [] k = one anything
-look_up (line ∷ lines) k = if key_of line == k then field_of line else look_up lines k
-
-abbrev pub field_at : List Line → Term → Field
-field_at lines (integer (pos k)) = look_up lines k
-field_at lines other = one anything
-
--- the number that a known key has in a path
-abbrev pub place_of : Term → ℕ
-place_of (integer (pos k)) = k
-place_of other = 0
-
 -- The form of one value. One of several may stand alone.
 abbrev pub form_of : Field → Form
 form_of (one form) = form
 form_of (one_or_more form) = form
-
-abbrev pub lines_of : Form → List Line
-lines_of (a_map name) = table name
-lines_of other = []
 
 -- What is neither an array nor a map is in one of these forms.
 abbrev pub is_plain : Form → Term → Bool
@@ -98,17 +80,22 @@ array_fault (one form) ts first = single_fault form ts
 array_fault (one_or_more form) no_terms first = wrong_form
 array_fault (one_or_more form) (term t ts) first = first
 
--- a map, of whose known pairs this is the first fault: a missing key is told before it
-abbrev pub map_fault : Form → Pairs → Option FormFault → Option FormFault
+-- The first fault of what stands under the keys of these lines, where it is known for each key.
+abbrev pub lines_first : (ℕ → Field → Option FormFault) → List Line → Option FormFault
+lines_first first [] = None
+lines_first first (line ∷ lines) = or_else (first (key_of line) (field_of line)) (lines_first first lines)
+
+-- a map, where this is the first fault under each key: a missing key is told before it
+abbrev pub map_fault : Form → Pairs → (ℕ → Field → Option FormFault) → Option FormFault
 map_fault anything ps first = None
-map_fault (a_map name) ps first = or_else (missing (required_keys (table name)) ps) first
+map_fault (a_map name) ps first = or_else (missing (required_keys (table name)) ps) (lines_first first (table name))
 map_fault other ps first = wrong_form
 
--- The pairs of a proper map stand in key order, so their known keys rise.
+-- The known keys of a map are looked at as its table lists them: they rise.
 abbrev mutual
   pub field_fault : Field → Term → Option FormFault
   field_fault field (array ts) = array_fault field ts (elements_fault (form_of field) 0 ts)
-  field_fault field (map ps) = map_fault (form_of field) ps (pairs_fault (lines_of (form_of field)) ps)
+  field_fault field (map ps) = map_fault (form_of field) ps (λ k f. key_fault k f ps)
   field_fault field (integer z) = unless_wrong (is_plain (form_of field) (integer z))
   field_fault field (octets s) = unless_wrong (is_plain (form_of field) (octets s))
   field_fault field (text s) = unless_wrong (is_plain (form_of field) (text s))
@@ -119,6 +106,26 @@ abbrev mutual
   elements_fault form i no_terms = None
   elements_fault form i (term t ts) = or_else (under i (field_fault (one form) t)) (elements_fault form (i + 1) ts)
 
-  pub pairs_fault : List Line → Pairs → Option FormFault
-  pairs_fault lines no_pairs = None
-  pairs_fault lines (pair k v ps) = or_else (under (place_of k) (field_fault (field_at lines k) v)) (pairs_fault lines ps)
+  -- the fault of what stands under a key
+  pub key_fault : ℕ → Field → Pairs → Option FormFault
+  key_fault k field no_pairs = None
+  key_fault k field (pair key v ps) = if is_unsigned k key then under k (field_fault field v) else key_fault k field ps
+
+-- what stands under a key of a map: a key that is not listed has any value
+abbrev pub look_up : List Line → ℕ → Field
+look_up [] k = one anything
+look_up (line ∷ lines) k = if key_of line == k then field_of line else look_up lines k
+
+abbrev pub field_at : List Line → Term → Field
+field_at lines (integer (pos k)) = look_up lines k
+field_at lines other = one anything
+
+-- the number that a known key has in a path
+abbrev pub place_of : Term → ℕ
+place_of (integer (pos k)) = k
+place_of other = 0
+
+-- the first fault of the known pairs as they stand
+abbrev pub pairs_fault : List Line → Pairs → Option FormFault
+pairs_fault lines no_pairs = None
+pairs_fault lines (pair k v ps) = or_else (under (place_of k) (field_fault (field_at lines k) v)) (pairs_fault lines ps)

@@ -1,0 +1,40 @@
+-- What is proved of each form of values, and of each map: a reader and a writer of it agree.
+use Rattle.std.proofs.Common.{◌≡◌, ◌≤◌, ℕ, None, Bool, true, false, refl, sym}
+use Rattle.std.proofs.lemmas.Option.{none-some}
+use Rattle.cbor_det.specs.Term.{Term, Pairs, depth, pairs_depth}
+use Rattle.cbor_det.specs.Proper.{IsProper, IsProperMap}
+use Rattle.coswid_res.specs.Schema.{Name, Field}
+use Rattle.coswid_res.specs.Fault.{field_fault, unless_wrong, wrong_form}
+use Rattle.coswid_res.specs.Reading.{keys_fault}
+
+-- of a value and an item from which it may be read; `least` is the depth that the written item may have in any case
+pub record Told {A : Type 0} (field : Field) (Is : A → Term → Type 0) (item : A → Term) (least : ℕ) (v : A) (t : Term) : Type 0 where
+  pub none : field_fault field t ≡ None
+  pub again : Is v (item v)
+  pub proper : IsProper t → IsProper (item v)
+  pub within : (n : ℕ) → least ≤ n → depth t ≤ n → depth (item v) ≤ n
+
+pub record Lawful {A : Type 0} (field : Field) (Is : A → Term → Type 0) (item : A → Term) (least : ℕ) : Type 0 where
+  pub told : (v : A) (t : Term) → Is v t → Told field Is item least v t
+  pub same : (v w : A) (t : Term) → Is v t → Is w t → item v ≡ item w
+  pub some : (t : Term) → field_fault field t ≡ None → (v : A) × Is v t
+
+-- the same of a map
+pub record MapTold {A : Type 0} (name : Name) (Keys : A → Pairs → Type 0) (pairs : A → Pairs) (least : ℕ) (v : A) (ps : Pairs) : Type 0 where
+  pub none : keys_fault name ps ≡ None
+  pub again : Keys v (pairs v)
+  pub proper : IsProperMap ps → IsProperMap (pairs v)
+  pub within : (n : ℕ) → least ≤ n → pairs_depth ps ≤ n → pairs_depth (pairs v) ≤ n
+
+pub record MapLawful {A : Type 0} (name : Name) (Keys : A → Pairs → Type 0) (pairs : A → Pairs) (least : ℕ) : Type 0 where
+  pub told : (v : A) (ps : Pairs) → Keys v ps → MapTold name Keys pairs least v ps
+  pub same : (v w : A) (ps : Pairs) → Keys v ps → Keys w ps → pairs v ≡ pairs w
+  pub some : (ps : Pairs) → keys_fault name ps ≡ None → (v : A) × Keys v ps
+
+-- A wrong form is a fault.
+pub wrong : {A : Type 0} → wrong_form ≡ None → A
+wrong {A} e = absurd (none-some _ (sym e))
+
+pub right : (b : Bool) → unless_wrong b ≡ None → b ≡ true
+right true e = refl
+right false e = wrong e

@@ -1,0 +1,162 @@
+-- What each line of a table gives: of a map that is written again, of two values read from one map, and of a map without a fault.
+use Rattle.std.proofs.Common.{◌≡◌, ◌≤◌, ◌+◌, ◌-◌, ℕ, List, [], ◌∷◌, Option, Some, None, refl, sym, ap, ◌∙◌, subst, arith}
+use Rattle.std.specs.Option.{option_map}
+use Rattle.cbor_det.specs.Lookup.{value_under}
+use Rattle.cbor_det.specs.Term.{Term, Pairs, integer, octets, text, array, map, tagged, boolean, pairs_depth}
+use Rattle.coswid_res.specs.declared.fault.FormFault.{FormFault}
+use Rattle.coswid_res.specs.Fault.{or_else, under, absent, missing, field_fault, wrong_form}
+use Rattle.coswid_res.specs.Items.{required_pair, optional_pair, put_all}
+use Rattle.coswid_res.specs.Reading.{value_fault, line_fault, lines_fault, keys_fault}
+use Rattle.coswid_res.specs.Schema.{Name, table, Line, Field, one, a_map, nothing, required, optional, required_keys}
+use Rattle.coswid_res.specs.Words.{Agree, Required, Optional, Absent, IsMap}
+use Rattle.coswid_res.proofs.Maps.{or_none, map_told}
+use Rattle.coswid_codec.proofs.Lawful.{Told, Lawful, MapLawful, wrong}
+use Rattle.coswid_codec.proofs.Tables.{there}
+
+-- read again from what is written
+
+pub required_again : {A : Type 0} (field : Field) (Is : A → Term → Type 0) (item : A → Term) (most k : ℕ) (v : A) (ps qs : Pairs) → Lawful field Is item most → Required k Is v ps
+    → value_under k qs ≡ Some (item v) → Required k Is v qs
+required_again field Is item most k v ps qs law is e =
+    let at = there Is v (value_under k ps) is in
+    let P : Option Term → Type 0 = λ o. Agree Is (Some v) o in
+    subst P (sym e) (law.told v at.0 at.2).again
+
+optional_by : {A : Type 0} (field : Field) (Is : A → Term → Type 0) (item : A → Term) (most : ℕ) (x : Option A) (o : Option Term) → Lawful field Is item most → Agree Is x o → Agree Is x (option_map item x)
+optional_by field Is item most None None law is = tt
+optional_by field Is item most (Some v) (Some t) law is = (law.told v t is).again
+optional_by field Is item most None (Some t) law is = absurd is
+optional_by field Is item most (Some v) None law is = absurd is
+
+pub optional_again : {A : Type 0} (field : Field) (Is : A → Term → Type 0) (item : A → Term) (most k : ℕ) (x : Option A) (ps qs : Pairs) → Lawful field Is item most → Optional k Is x ps
+    → value_under k qs ≡ option_map item x → Optional k Is x qs
+optional_again field Is item most k x ps qs law is e =
+    let P : Option Term → Type 0 = λ o. Agree Is x o in
+    subst P (sym e) (optional_by field Is item most x (value_under k ps) law is)
+
+-- of two values read from one map
+
+pub required_same : {A : Type 0} (field : Field) (Is : A → Term → Type 0) (item : A → Term) (most k : ℕ) (v w : A) (ps : Pairs) → Lawful field Is item most → Required k Is v ps → Required k Is w ps
+    → (qs : Pairs) → required_pair k item v qs ≡ required_pair k item w qs
+required_same field Is item most k v w ps law first second qs =
+    let at = there Is v (value_under k ps) first in
+    let P : Option Term → Type 0 = λ o. Agree Is (Some w) o in
+    let e : item v ≡ item w = law.same v w at.0 at.2 (subst P at.1 second) in
+    ap (λ (t : Term). required_pair k (λ (u : Term). u) t qs) e
+
+same_by : {A : Type 0} (field : Field) (Is : A → Term → Type 0) (item : A → Term) (most k : ℕ) (x y : Option A) (o : Option Term) → Lawful field Is item most → Agree Is x o → Agree Is y o
+    → (qs : Pairs) → optional_pair k item x qs ≡ optional_pair k item y qs
+same_by field Is item most k None None None law first second qs = refl
+same_by field Is item most k (Some v) (Some w) (Some t) law first second qs = ap (λ (u : Term). required_pair k (λ (r : Term). r) u qs) (law.same v w t first second)
+same_by field Is item most k None y (Some t) law first second qs = absurd first
+same_by field Is item most k (Some v) y None law first second qs = absurd first
+same_by field Is item most k None (Some w) None law first second qs = absurd second
+same_by field Is item most k (Some v) None (Some t) law first second qs = absurd second
+
+pub optional_same : {A : Type 0} (field : Field) (Is : A → Term → Type 0) (item : A → Term) (most k : ℕ) (x y : Option A) (ps : Pairs) → Lawful field Is item most → Optional k Is x ps → Optional k Is y ps
+    → (qs : Pairs) → optional_pair k item x qs ≡ optional_pair k item y qs
+optional_same field Is item most k x y ps law first second qs = same_by field Is item most k x y (value_under k ps) law first second qs
+
+abbrev pub AllSame : List (Pairs → Pairs) → List (Pairs → Pairs) → Type 0
+AllSame [] [] = Unit {0}
+AllSame (f ∷ fs) (g ∷ gs) = ((qs : Pairs) → f qs ≡ g qs) × AllSame fs gs
+AllSame fs gs = ⊥
+
+pub put_same : (fs gs : List (Pairs → Pairs)) (ps qs : Pairs) → AllSame fs gs → ps ≡ qs → put_all fs ps ≡ put_all gs qs
+put_same [] [] ps qs same e = e
+put_same (f ∷ fs) (g ∷ gs) ps qs same e = put_same fs gs (f ps) (g qs) same.1 (ap (λ (rs : Pairs). f rs) e ∙ same.0 qs)
+put_same [] (g ∷ gs) ps qs same e = absurd same
+put_same (f ∷ fs) [] ps qs same e = absurd same
+
+-- of a map without a fault
+
+abbrev pub EachNone : List Line → Pairs → Type 0
+EachNone [] ps = Unit {0}
+EachNone (line ∷ lines) ps = (line_fault line ps ≡ None) × EachNone lines ps
+
+each_none : (lines : List Line) (ps : Pairs) → lines_fault lines ps ≡ None → EachNone lines ps
+each_none [] ps none = tt
+each_none (line ∷ lines) ps none = let both = or_none (line_fault line ps) (lines_fault lines ps) none in (both.0, each_none lines ps both.1)
+
+pub lines_of : (name : Name) (ps : Pairs) → keys_fault name ps ≡ None → EachNone (table name) ps
+lines_of name ps none = each_none (table name) ps (or_none (missing (required_keys (table name)) ps) (lines_fault (table name) ps) none).1
+
+under_none : (k : ℕ) (o : Option FormFault) → under k o ≡ None → o ≡ None
+under_none k None e = refl
+under_none k (Some f) e = absurd cc
+
+required_by : {A : Type 0} (field : Field) (Is : A → Term → Type 0) (item : A → Term) (most k : ℕ) (o : Option Term) → Lawful field Is item most
+    → or_else (absent k o) (value_fault k field o) ≡ None → (v : A) × Agree Is (Some v) o
+required_by field Is item most k (Some t) law none = law.some t (under_none k (field_fault field t) none)
+required_by field Is item most k None law none = absurd cc
+
+pub required_some : {A : Type 0} (field : Field) (Is : A → Term → Type 0) (item : A → Term) (most k : ℕ) (ps : Pairs) → Lawful field Is item most → line_fault (required k field) ps ≡ None
+    → (v : A) × Required k Is v ps
+required_some field Is item most k ps law none = required_by field Is item most k (value_under k ps) law none
+
+some_by : {A : Type 0} (field : Field) (Is : A → Term → Type 0) (item : A → Term) (most k : ℕ) (o : Option Term) → Lawful field Is item most → value_fault k field o ≡ None
+    → (x : Option A) × Agree Is x o
+some_by field Is item most k None law none = (None, tt)
+some_by field Is item most k (Some t) law none = let found = law.some t (under_none k (field_fault field t) none) in (Some found.0, found.1)
+
+pub optional_some : {A : Type 0} (field : Field) (Is : A → Term → Type 0) (item : A → Term) (most k : ℕ) (ps : Pairs) → Lawful field Is item most → line_fault (optional k field) ps ≡ None
+    → (x : Option A) × Optional k Is x ps
+optional_some field Is item most k ps law none = some_by field Is item most k (value_under k ps) law none
+
+never : (t : Term) → field_fault (one nothing) t ≡ wrong_form
+never (integer z) = refl
+never (octets s) = refl
+never (text s) = refl
+never (array ts) = refl
+never (map ps) = refl
+never (tagged n t) = refl
+never (boolean b) = refl
+
+nothing_by : (k : ℕ) (o : Option Term) → value_fault k (one nothing) o ≡ None → o ≡ None
+nothing_by k None none = refl
+nothing_by k (Some t) none = wrong (sym (never t) ∙ under_none k (field_fault (one nothing) t) none)
+
+pub absent_some : (k : ℕ) (ps : Pairs) → line_fault (optional k (one nothing)) ps ≡ None → Absent k ps
+absent_some k ps none = nothing_by k (value_under k ps) none
+
+-- A map is read and written by its pairs.
+
+module _ {A : Type 0} (name : Name) (Keys : A → Pairs → Type 0) (pairs : A → Pairs) (least : ℕ) (law : MapLawful name Keys pairs least) where
+  told : (v : A) (t : Term) → IsMap (Keys v) t → Told (one (a_map name)) (λ (w : A). IsMap (Keys w)) (λ (w : A). map (pairs w)) (least + 1) v t
+  told v (map ps) is =
+      let it = law.told v ps is in
+      record {
+        none = map_told name ps ∙ it.none;
+        again = it.again;
+        proper = it.proper;
+        within = λ n le deep.
+            let l : pairs_depth (pairs v) ≤ n - 1 = it.within (n - 1) (omega (arith, le)) (omega (arith, deep)) in
+            omega (arith, l, le);
+      }
+  told v (integer z) is = absurd is
+  told v (octets s) is = absurd is
+  told v (text s) is = absurd is
+  told v (array ts) is = absurd is
+  told v (tagged n t) is = absurd is
+  told v (boolean b) is = absurd is
+
+  same : (v w : A) (t : Term) → IsMap (Keys v) t → IsMap (Keys w) t → map (pairs v) ≡ map (pairs w)
+  same v w (map ps) first second = ap (λ (qs : Pairs). map qs) (law.same v w ps first second)
+  same v w (integer z) first second = absurd first
+  same v w (octets s) first second = absurd first
+  same v w (text s) first second = absurd first
+  same v w (array ts) first second = absurd first
+  same v w (tagged n t) first second = absurd first
+  same v w (boolean b) first second = absurd first
+
+  some : (t : Term) → field_fault (one (a_map name)) t ≡ None → (v : A) × IsMap (Keys v) t
+  some (map ps) none = law.some ps (sym (map_told name ps) ∙ none)
+  some (integer z) none = wrong none
+  some (octets s) none = wrong none
+  some (text s) none = wrong none
+  some (array ts) none = wrong none
+  some (tagged n t) none = wrong none
+  some (boolean b) none = wrong none
+
+  pub map_law : Lawful (one (a_map name)) (λ (v : A). IsMap (Keys v)) (λ (v : A). map (pairs v)) (least + 1)
+  map_law = record { told = told; same = same; some = some }

@@ -1,0 +1,219 @@
+-- The forms of single values.
+use Rattle.std.proofs.Common.{◌≡◌, inl, inr, ℕ, ℤ, Bool, List, ◌==◌, length, None, refl, sym, ap, ◌∙◌, subst, arith}
+use Rattle.std.proofs.lemmas.Bool.{eqb-true, eq-eqb}
+use Rattle.cbor_det.specs.Term.{Term, Terms, integer, octets, text, array, map, tagged, boolean, no_terms, term}
+use Rattle.coswid_res.specs.declared.hash.HashEntry.{HashEntry}
+use Rattle.coswid_res.specs.Schema.{one, a_text, a_boolean, an_integer, an_identifier, a_code, a_uri, a_hash}
+use Rattle.coswid_res.specs.Fault.{field_fault, hash_fault, under, unless_wrong, is_integer, is_octets}
+use Rattle.coswid_res.specs.Items.{uri_item, hash_item}
+use Rattle.coswid_res.specs.Words.{Text, Boolean, Integer, Uri, Hash}
+use Rattle.coswid_res.proofs.Maps.{or_none}
+use Rattle.coswid_tag.specs.declared.value.CodeValue.{CodeValue}
+use Rattle.coswid_tag.specs.declared.value.CodeValue.TheVariants as code
+use Rattle.coswid_tag.specs.declared.value.TagId.{TagId}
+use Rattle.coswid_tag.specs.declared.value.TagId.TheVariants as identifier
+use Rattle.coswid_codec.specs.Forms.{Identifier, Code}
+use Rattle.coswid_codec.specs.Items.{identifier_item, code_item}
+use Rattle.coswid_codec.proofs.Lawful.{Told, Lawful, wrong, right}
+
+-- what is written just as it is read
+as_read : {A : Type 0} (field : _) (Is : A → Term → Type 0) (item : A → Term) (v : A) (t : Term) → Is v (item v) → field_fault field (item v) ≡ None → t ≡ item v
+    → Told field Is item 0 v t
+as_read {A} field Is item v t again none is =
+    let P : Term → Type 0 = λ u. Told field Is item 0 v u in
+    subst P (sym is) (record { none = none; again = again; proper = λ p. p; within = λ n le d. d })
+
+-- texts
+
+text_some : (t : Term) → field_fault (one a_text) t ≡ None → (s : List ℕ) × Text s t
+text_some (text s) none = (s, refl)
+text_some (integer z) none = wrong none
+text_some (octets s) none = wrong none
+text_some (array ts) none = wrong none
+text_some (map ps) none = wrong none
+text_some (tagged n t) none = wrong none
+text_some (boolean b) none = wrong none
+
+pub text_law : Lawful (one a_text) Text text 0
+text_law = record {
+  told = λ s t is. as_read (one a_text) Text text s t refl refl is;
+  same = λ s r t first second. sym first ∙ second;
+  some = text_some;
+}
+
+-- false and true
+
+boolean_some : (t : Term) → field_fault (one a_boolean) t ≡ None → (b : Bool) × Boolean b t
+boolean_some (boolean b) none = (b, refl)
+boolean_some (integer z) none = wrong none
+boolean_some (octets s) none = wrong none
+boolean_some (text s) none = wrong none
+boolean_some (array ts) none = wrong none
+boolean_some (map ps) none = wrong none
+boolean_some (tagged n t) none = wrong none
+
+pub boolean_law : Lawful (one a_boolean) Boolean boolean 0
+boolean_law = record {
+  told = λ b t is. as_read (one a_boolean) Boolean boolean b t refl refl is;
+  same = λ b c t first second. sym first ∙ second;
+  some = boolean_some;
+}
+
+-- integers
+
+integer_some : (t : Term) → field_fault (one an_integer) t ≡ None → (z : ℤ) × Integer z t
+integer_some (integer z) none = (z, refl)
+integer_some (boolean b) none = wrong none
+integer_some (octets s) none = wrong none
+integer_some (text s) none = wrong none
+integer_some (array ts) none = wrong none
+integer_some (map ps) none = wrong none
+integer_some (tagged n t) none = wrong none
+
+pub integer_law : Lawful (one an_integer) Integer integer 0
+integer_law = record {
+  told = λ z t is. as_read (one an_integer) Integer integer z t refl refl is;
+  same = λ z y t first second. sym first ∙ second;
+  some = integer_some;
+}
+
+-- identifiers
+
+identifier_told : (i : TagId) (t : Term) → Identifier i t → Told (one an_identifier) Identifier identifier_item 0 i t
+identifier_told (identifier.Text s) t is = as_read (one an_identifier) Identifier identifier_item (identifier.Text s) t refl refl is
+identifier_told (identifier.Uuid s) t is =
+    let none : field_fault (one an_identifier) (octets s) ≡ None = ap (λ (b : Bool). unless_wrong b) (eq-eqb (length s) 16 is.0) in
+    as_read (one an_identifier) Identifier identifier_item (identifier.Uuid s) t (is.0, refl) none is.1
+
+identifier_is : (i : TagId) (t : Term) → Identifier i t → t ≡ identifier_item i
+identifier_is (identifier.Text s) t is = is
+identifier_is (identifier.Uuid s) t is = is.1
+
+identifier_some : (t : Term) → field_fault (one an_identifier) t ≡ None → (i : TagId) × Identifier i t
+identifier_some (text s) none = (identifier.Text s, refl)
+identifier_some (octets s) none = (identifier.Uuid s, (eqb-true (length s) 16 (right (length s == 16) none), refl))
+identifier_some (integer z) none = wrong none
+identifier_some (boolean b) none = wrong none
+identifier_some (array ts) none = wrong none
+identifier_some (map ps) none = wrong none
+identifier_some (tagged n t) none = wrong none
+
+pub identifier_law : Lawful (one an_identifier) Identifier identifier_item 0
+identifier_law = record {
+  told = identifier_told;
+  same = λ i j t first second. sym (identifier_is i t first) ∙ identifier_is j t second;
+  some = identifier_some;
+}
+
+-- codes
+
+code_told : (c : CodeValue) (t : Term) → Code c t → Told (one a_code) Code code_item 0 c t
+code_told (code.Int z) t is = as_read (one a_code) Code code_item (code.Int z) t refl refl is
+code_told (code.Text s) t is = as_read (one a_code) Code code_item (code.Text s) t refl refl is
+
+code_is : (c : CodeValue) (t : Term) → Code c t → t ≡ code_item c
+code_is (code.Int z) t is = is
+code_is (code.Text s) t is = is
+
+code_some : (t : Term) → field_fault (one a_code) t ≡ None → (c : CodeValue) × Code c t
+code_some (text s) none = (code.Text s, refl)
+code_some (integer z) none = (code.Int z, refl)
+code_some (octets s) none = wrong none
+code_some (boolean b) none = wrong none
+code_some (array ts) none = wrong none
+code_some (map ps) none = wrong none
+code_some (tagged n t) none = wrong none
+
+pub code_law : Lawful (one a_code) Code code_item 0
+code_law = record {
+  told = code_told;
+  same = λ c d t first second. sym (code_is c t first) ∙ code_is d t second;
+  some = code_some;
+}
+
+-- URIs
+
+bare : (s : List ℕ) → Told (one a_uri) Uri uri_item 2 s (text s)
+bare s = record { none = refl; again = inl refl; proper = λ p. (omega arith, p); within = λ n le d. le }
+
+tagged_uri : (s : List ℕ) → Told (one a_uri) Uri uri_item 2 s (tagged 32 (text s))
+tagged_uri s = record { none = refl; again = inl refl; proper = λ p. p; within = λ n le d. d }
+
+uri_told : (s : List ℕ) (t : Term) → Uri s t → Told (one a_uri) Uri uri_item 2 s t
+uri_told s t (inl is) = let P : Term → Type 0 = λ u. Told (one a_uri) Uri uri_item 2 s u in subst P (sym is) (tagged_uri s)
+uri_told s t (inr is) = let P : Term → Type 0 = λ u. Told (one a_uri) Uri uri_item 2 s u in subst P (sym is) (bare s)
+
+uri_same : (s r : List ℕ) (t : Term) → Uri s t → Uri r t → uri_item s ≡ uri_item r
+uri_same s r t (inl first) (inl second) = sym first ∙ second
+uri_same s r t (inr first) (inr second) = ap (λ (u : Term). tagged 32 u) (sym first ∙ second)
+uri_same s r t (inl first) (inr second) = cc
+uri_same s r t (inr first) (inl second) = cc
+
+under_32 : (n : ℕ) (s : List ℕ) → unless_wrong (n == 32) ≡ None → Uri s (tagged n (text s))
+under_32 n s none = inl (ap (λ (m : ℕ). tagged m (text s)) (eqb-true n 32 (right (n == 32) none)))
+
+uri_some : (t : Term) → field_fault (one a_uri) t ≡ None → (s : List ℕ) × Uri s t
+uri_some (text s) none = (s, inr refl)
+uri_some (tagged n (text s)) none = (s, under_32 n s none)
+uri_some (tagged n (integer z)) none = wrong none
+uri_some (tagged n (octets s)) none = wrong none
+uri_some (tagged n (array ts)) none = wrong none
+uri_some (tagged n (map ps)) none = wrong none
+uri_some (tagged n (tagged m t)) none = wrong none
+uri_some (tagged n (boolean b)) none = wrong none
+uri_some (integer z) none = wrong none
+uri_some (octets s) none = wrong none
+uri_some (boolean b) none = wrong none
+uri_some (array ts) none = wrong none
+uri_some (map ps) none = wrong none
+
+pub uri_law : Lawful (one a_uri) Uri uri_item 2
+uri_law = record { told = uri_told; same = uri_same; some = uri_some }
+
+-- hashes
+
+integer_first : (t : Term) → under 0 (unless_wrong (is_integer t)) ≡ None → (z : ℤ) × (t ≡ integer z)
+integer_first (integer z) none = (z, refl)
+integer_first (text s) none = absurd cc
+integer_first (octets s) none = absurd cc
+integer_first (array ts) none = absurd cc
+integer_first (map ps) none = absurd cc
+integer_first (tagged n t) none = absurd cc
+integer_first (boolean b) none = absurd cc
+
+octets_second : (t : Term) → under 1 (unless_wrong (is_octets t)) ≡ None → (s : List ℕ) × (t ≡ octets s)
+octets_second (octets s) none = (s, refl)
+octets_second (text s) none = absurd cc
+octets_second (integer z) none = absurd cc
+octets_second (array ts) none = absurd cc
+octets_second (map ps) none = absurd cc
+octets_second (tagged n t) none = absurd cc
+octets_second (boolean b) none = absurd cc
+
+parts_some : (ts : Terms) → hash_fault ts ≡ None → (h : HashEntry) × Hash h (array ts)
+parts_some no_terms none = wrong none
+parts_some (term a no_terms) none = wrong none
+parts_some (term a (term v (term w ts))) none = wrong none
+parts_some (term a (term v no_terms)) none =
+    let both = or_none (under 0 (unless_wrong (is_integer a))) (under 1 (unless_wrong (is_octets v))) none in
+    let first = integer_first a both.0 in
+    let second = octets_second v both.1 in (
+      record { algorithm = first.0; value = second.0 },
+      ap (λ (u : Term). array (term u (term v no_terms))) first.1 ∙ ap (λ (u : Term). array (term (integer first.0) (term u no_terms))) second.1,
+    )
+
+hash_some : (t : Term) → field_fault (one a_hash) t ≡ None → (h : HashEntry) × Hash h t
+hash_some (array ts) none = parts_some ts none
+hash_some (text s) none = wrong none
+hash_some (integer z) none = wrong none
+hash_some (octets s) none = wrong none
+hash_some (boolean b) none = wrong none
+hash_some (map ps) none = wrong none
+hash_some (tagged n t) none = wrong none
+
+pub hash_law : Lawful (one a_hash) Hash hash_item 0
+hash_law = record {
+  told = λ h t is. as_read (one a_hash) Hash hash_item h t refl refl is;
+  same = λ h i t first second. sym first ∙ second;
+  some = hash_some;
+}

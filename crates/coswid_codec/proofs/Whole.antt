@@ -1,0 +1,91 @@
+-- Items that are tags: what is read, what is written, and what is read again.
+use Rattle.std.proofs.Common.{◌≡◌, ◌≤◌, ◌<◌, ◌==◌, ◌+◌, ◌&&◌, ℕ, Bool, true, false, not, nat_le, List, [], None, if◌then◌else◌, refl, ap, ◌∙◌, arith}
+use Rattle.std.proofs.lemmas.Bool.{cond-false, leb-false}
+use Rattle.cbor_det.specs.Canonical.{canon}
+use Rattle.cbor_det.specs.Proper.{IsProper}
+use Rattle.cbor_det.specs.Term.{Term, integer, octets, text, array, map, tagged, boolean, depth}
+use Rattle.cbor_det.proofs.Written.{spelled_proper, written_begins, canon_same}
+use Rattle.coswid_res.specs.Fault.{field_fault, fault}
+use Rattle.coswid_res.specs.Schema.{one, a_map}
+use Rattle.coswid_res.specs.Schema as schema
+use Rattle.coswid_res.specs.Words.{IsMap}
+use Rattle.coswid_tag.specs.declared.tag.Tag.{Tag}
+use Rattle.coswid_codec.specs.Answers.{limits, BeginsTag}
+use Rattle.coswid_codec.specs.Forms.{TagKeys, TagForm}
+use Rattle.coswid_codec.specs.Items.{tag_pairs, tag_item}
+use Rattle.coswid_codec.specs.Laws.{NoFaultOrNoTag, OneTag, ReadIsWritten, OneTagOneSpelling}
+use Rattle.coswid_codec.specs.Marked.{coswid, content, is_deep}
+use Rattle.coswid_codec.specs.TagFault.{tag_fault}
+use Rattle.coswid_codec.proofs.Lawful.{Lawful}
+use Rattle.coswid_codec.proofs.Lines.{map_law}
+use Rattle.coswid_codec.proofs.Tags.{tag_law}
+
+law : Lawful (one (a_map schema.tag)) (λ (g : Tag). IsMap (TagKeys g)) (λ (g : Tag). map (tag_pairs g)) 5
+law = map_law schema.tag TagKeys tag_pairs 4 tag_law
+
+-- What a tag is read from has no fault.
+pub form_none : (g : Tag) (t : Term) → TagForm g t → tag_fault t ≡ None
+form_none g t form = cond-false _ _ _ form.shallow ∙ (law.told g (content t) form.keys).none
+
+pub one_tag : OneTag
+one_tag g h t first second = ap (λ (u : Term). tagged coswid u) (law.same g h (content t) first.keys second.keys)
+
+some_by : (b : Bool) (t : Term) → is_deep t ≡ b → (if b then fault 4 [] else field_fault (one (a_map schema.tag)) (content t)) ≡ None → (g : Tag) × TagForm g t
+some_by true t deep none = absurd cc
+some_by false t deep none = let found = law.some (content t) none in (found.0, record { keys = found.1; shallow = deep })
+
+pub no_fault_or_no_tag : NoFaultOrNoTag
+no_fault_or_no_tag t = (some_by (is_deep t) t refl, λ found. form_none found.0 t found.1)
+
+-- How deep the written item is.
+
+under_tag : (b : Bool) (n : ℕ) (t : Term) → (not b && nat_le 64 (depth (tagged n t))) ≡ false → depth (tagged n t) ≤ 64 → depth (if b then t else tagged n t) ≤ 63
+under_tag true n t shallow deep = omega (arith, deep)
+under_tag false n t shallow deep = let l : depth t + 1 < 64 = leb-false 64 (depth t + 1) shallow in omega (arith, l)
+
+content_depth : (t : Term) → is_deep t ≡ false → depth t ≤ 64 → depth (content t) ≤ 63
+content_depth (tagged n t) shallow deep = under_tag (n == coswid) n t shallow deep
+content_depth (integer z) shallow deep = omega arith
+content_depth (octets s) shallow deep = omega arith
+content_depth (text s) shallow deep = omega arith
+content_depth (array ts) shallow deep = let l : depth (array ts) < 64 = leb-false 64 (depth (array ts)) shallow in omega (arith, l)
+content_depth (map ps) shallow deep = let l : depth (map ps) < 64 = leb-false 64 (depth (map ps)) shallow in omega (arith, l)
+content_depth (boolean b) shallow deep = omega arith
+
+pub written_depth : (g : Tag) (t : Term) → depth t ≤ 64 → TagForm g t → depth (tag_item g) ≤ 64
+written_depth g t deep form =
+    let l : depth (map (tag_pairs g)) ≤ 63 = (law.told g (content t) form.keys).within 63 (omega arith) (content_depth t form.shallow deep) in
+    omega (arith, l)
+
+-- What is written is read again.
+
+proper_by : (b : Bool) (n : ℕ) (t : Term) → IsProper (tagged n t) → IsProper (if b then t else tagged n t)
+proper_by true n t proper = proper.1
+proper_by false n t proper = proper
+
+content_proper : (t : Term) → IsProper t → IsProper (content t)
+content_proper (tagged n t) proper = proper_by (n == coswid) n t proper
+content_proper (integer z) proper = proper
+content_proper (octets s) proper = proper
+content_proper (text s) proper = proper
+content_proper (array ts) proper = proper
+content_proper (map ps) proper = proper
+content_proper (boolean b) proper = proper
+
+written_proper : (g : Tag) (n : ℕ) (input : List ℕ) → BeginsTag input g n → IsProper (tag_item g)
+written_proper g n input is =
+    let proper : IsProper is.item = spelled_proper is.item _ is.begins.spelled in
+    (omega arith, (law.told g (content is.item) is.form.keys).proper (content_proper is.item proper))
+
+pub read_is_written : ReadIsWritten
+read_is_written g n input tail is room = record {
+  item = tag_item g;
+  begins = written_begins limits (tag_item g) tail (written_proper g n input is) (omega (arith, room)) room (written_depth g is.item is.begins.shallow is.form);
+  form = record { keys = (law.told g (content is.item) is.form.keys).again; shallow = refl };
+}
+
+pub one_tag_one_spelling : OneTagOneSpelling
+one_tag_one_spelling g h n m input other first second small = (
+  (λ e. canon_same (tag_item g) (tag_item h) (written_proper g n input first) (written_proper h m other second) small e),
+  (λ same. ap (λ (t : Term). canon t) same),
+)

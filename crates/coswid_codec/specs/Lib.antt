@@ -1,0 +1,7 @@
+pub mod Marked
+pub mod Forms
+pub mod Items
+pub mod TagFault
+pub mod Answers
+pub mod Laws
+pub mod TagText

@@ -1,0 +1,47 @@
+//! Entities: RFC 9393, section 2.6.
+
+ghost use Rattle.coswid_codec.specs.Forms.{EntityKeys};
+ghost use Rattle.coswid_codec.specs.Items.{entity_pairs};
+ghost use Rattle.coswid_res.specs.Schema as schema;
+
+use crate::key;
+use crate::map_form::Mapped;
+use cbor_det::Pairs;
+use coswid_res::FormRefused;
+use coswid_tag::Entity;
+use std::alloc::Global;
+use wire_base::{Memory, TryCopy};
+
+impl Mapped for Entity {
+    ghost name = { schema.entity };
+
+    ghost keys = { EntityKeys };
+
+    ghost written = { entity_pairs };
+
+    fn read(alloc: Global, pairs: &Pairs) -> Result<Self, FormRefused> {
+        key::EntityName::expect(alloc, pairs)?;
+        key::Role::expect(alloc, pairs)?;
+        let entity_name = key::EntityName::required(alloc, pairs)?;
+        let reg_id = key::RegId::optional(alloc, pairs)?;
+        let role = key::Role::required_row(alloc, pairs)?;
+        let thumbprint = key::Thumbprint::optional(alloc, pairs)?;
+        let extras = pairs.other_than(&key::ENTITY_KEYS)?;
+        Ok(Entity {
+            entity_name,
+            reg_id,
+            role,
+            thumbprint,
+            extras,
+        })
+    }
+
+    fn write(&self) -> Result<Pairs, Memory> {
+        let mut pairs = self.extras.copy()?;
+        key::EntityName::put(&mut pairs, &self.entity_name)?;
+        key::RegId::put_optional(&mut pairs, &self.reg_id)?;
+        key::Role::put_row(&mut pairs, &self.role)?;
+        key::Thumbprint::put_optional(&mut pairs, &self.thumbprint)?;
+        Ok(pairs)
+    }
+}

@@ -1,0 +1,23 @@
+//! Laws of tags. The functions do nothing: their contracts are the laws.
+
+ghost use Rattle.coswid_codec.specs.Laws.{NoFaultOrNoTag, OneTag, ReadIsWritten, OneTagOneSpelling};
+
+/// An item has no form fault exactly where some tag is read from it.
+pub fn no_fault_where_some_tag()
+    ensures tag { NoFaultOrNoTag }
+{}
+
+/// An item is read as one tag at most.
+pub fn item_is_one_tag()
+    ensures one { OneTag }
+{}
+
+/// What is read is written and read again, whatever follows.
+pub fn read_is_written()
+    ensures again { ReadIsWritten }
+{}
+
+/// Two spellings are read as one tag exactly where their canonical octets are equal.
+pub fn one_tag_has_one_spelling()
+    ensures one { OneTagOneSpelling }
+{}

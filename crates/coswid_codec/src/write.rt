@@ -1,0 +1,32 @@
+//! Writing tags.
+
+ghost use Rattle.std.specs.Prelude.{◌≡◌, ◌≤◌, IfOk};
+ghost use Rattle.cbor_det.specs.Canonical.{canon};
+ghost use Rattle.cbor_det.specs.Term.{depth};
+ghost use Rattle.cbor_det.specs.View.{view};
+ghost use Rattle.coswid_codec.specs.Items.{tag_item};
+
+use crate::map_form::Mapped;
+use cbor_det::{Item, write_item};
+use coswid_tag::Tag;
+use std::alloc::Global;
+use wire_base::{Boxed, Memory, Octets};
+
+/// The tag of CoSWID tags (RFC 9393, section 8).
+pub(crate) const COSWID: u64 = 1398229316;
+
+/// The canonical spelling of the tag's item, under the tag of CoSWID tags; `Memory` where there is no room.
+pub fn write_tag(alloc: Global, tag: &Tag) -> Result<Octets, Memory>
+    requires depth { depth (tag_item tag.now) ≤ 64 }
+    ensures canonical { IfOk result (λ written. written ≡ canon (tag_item tag.now)) }
+{
+    let item = tag_item(alloc, tag)?;
+    write_item(alloc, &item)
+}
+
+fn tag_item(alloc: Global, tag: &Tag) -> Result<Item, Memory>
+    ensures item { IfOk result (λ made. view made ≡ tag_item tag.now) }
+{
+    let pairs = tag.write()?;
+    Ok(Item::Tag(COSWID, Boxed::new(alloc, Item::Map(pairs))?))
+}

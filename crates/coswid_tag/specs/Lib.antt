@@ -1,0 +1,4 @@
+pub mod Kind
+pub mod Codes
+pub mod Findings
+pub mod Identifier

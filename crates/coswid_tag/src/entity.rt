@@ -1,0 +1,37 @@
+//! Entities of a tag.
+
+use crate::copied::copy_option;
+use crate::value::CodeValues;
+use cbor_det::Pairs;
+use coswid_res::HashEntry;
+use wire_base::{List, Memory, Text, TryCopy};
+
+/// Entities in order.
+pub type Entities = List<Entity>;
+
+/// Who made, owns or hands out the software or the tag (RFC 9393, section 2.6).
+#[derive(Debug, Drop)]
+pub struct Entity {
+    /// Its name (31).
+    pub entity_name: Text,
+    /// The URI of its registration (32).
+    pub reg_id: Option<Text>,
+    /// Its roles, at least one (33): tag creator 1, software creator 2, aggregator 3, distributor 4, licensor 5, maintainer 6.
+    pub role: CodeValues,
+    /// The hash of a certificate that is its own (34).
+    pub thumbprint: Option<HashEntry>,
+    /// The pairs under all other keys.
+    pub extras: Pairs,
+}
+
+impl TryCopy for Entity {
+    fn copy(&self) -> Result<Self, Memory> {
+        Ok(Entity {
+            entity_name: self.entity_name.copy()?,
+            reg_id: copy_option(&self.reg_id)?,
+            role: self.role.copy()?,
+            thumbprint: copy_option(&self.thumbprint)?,
+            extras: self.extras.copy()?,
+        })
+    }
+}

@@ -1,0 +1,121 @@
+//! What is wrong with a tag by itself.
+
+ghost use Rattle.std.specs.Prelude.{◌≡◌, ◌++◌, IfOk, OnOk};
+ghost use Rattle.std.specs.List.{list_any};
+ghost use Rattle.coswid_tag.specs.Codes.{is_named, is_number};
+ghost use Rattle.coswid_tag.specs.Findings.{findings, finding, created, all_of};
+
+use crate::entity::Entity;
+use crate::link::{LinkEntries, LinkEntry};
+use crate::sort::is_true;
+use crate::tag::Tag;
+use crate::value::CodeValue;
+use std::alloc::Global;
+use wire_base::{List, Memory};
+
+/// Numbers of findings, 1 to 6, in order, by the table of `docs/tags.md`.
+pub type Findings = List<u8>;
+
+/// All that is wrong with the tag by itself, in order; `Memory` where there is no room.
+pub fn constraints(alloc: Global, tag: &Tag) -> Result<Findings, Memory>
+    ensures findings { IfOk result (λ found. found ≡ findings tag.now) }
+{
+    let corpus = is_true(tag.corpus);
+    let patch = is_true(tag.patch);
+    let supplemental = is_true(tag.supplemental);
+    let versioned = tag.software_version.is_some();
+    let mut found = List::new(alloc);
+    note(&mut found, 1, patch && supplemental)?;
+    note(
+        &mut found,
+        2,
+        !(corpus || patch || supplemental) && !versioned,
+    )?;
+    note(&mut found, 3, corpus && !versioned)?;
+    note(&mut found, 4, patch && !any_link(&tag.link, 7, "patches"))?;
+    note(
+        &mut found,
+        5,
+        supplemental && !any_link(&tag.link, 11, "supplemental"),
+    )?;
+    note(&mut found, 6, !has_creator(tag.entity.as_slice()))?;
+    Ok(found)
+}
+
+/// Notes the finding where it shows.
+fn note(found: &mut Findings, number: u8, shows: bool) -> Result<(), Memory>
+    ensures noted { OnOk result (found.new ≡ found.old ++ finding number shows) }
+{
+    if shows {
+        found.push(number)?;
+    }
+    Ok(())
+}
+
+/// Whether a link's rel is this number, or the text that names it.
+fn any_link(links: &Option<LinkEntries>, number: u64, name: &str) -> bool
+    ensures any { result ≡ list_any (λ l. is_named number name.now l.rel) (all_of links.now) }
+{
+    match links {
+        None => false,
+        Some(links) => has_rel(links.as_slice(), number, name),
+    }
+}
+
+fn has_rel(links: &[LinkEntry], number: u64, name: &str) -> bool
+    ensures any { result ≡ list_any (λ l. is_named number name.now l.rel) links.now }
+{
+    for link in links {
+        if is_named(&link.rel, number, name) {
+            return true;
+        }
+    }
+    false
+}
+
+/// Whether the code is this number, or the text that names it.
+fn is_named(code: &CodeValue, number: u64, name: &str) -> bool
+    ensures named { result ≡ is_named number name.now code.now }
+{
+    match code {
+        CodeValue::Int(_) => is_number(code, number),
+        CodeValue::Text(text) => text.as_str() == name,
+    }
+}
+
+/// Whether the code is this number.
+fn is_number(code: &CodeValue, number: u64) -> bool
+    ensures number { result ≡ is_number number code.now }
+{
+    match code {
+        CodeValue::Int(found) => *found >= 0 && *found as u64 == number,
+        CodeValue::Text(_) => false,
+    }
+}
+
+/// Whether an entity created the tag.
+fn has_creator(entities: &[Entity]) -> bool
+    ensures any { result ≡ list_any created entities.now }
+{
+    for entity in entities {
+        if is_creator(entity) {
+            return true;
+        }
+    }
+    false
+}
+
+/// The number of the role of a tag's creator (RFC 9393, section 4.2).
+const TAG_CREATOR: u64 = 1;
+
+/// Whether the entity created the tag.
+pub(crate) fn is_creator(entity: &Entity) -> bool
+    ensures created { result ≡ created entity.now }
+{
+    for role in entity.role.as_slice() {
+        if is_number(role, TAG_CREATOR) {
+            return true;
+        }
+    }
+    false
+}

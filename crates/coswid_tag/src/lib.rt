@@ -1,0 +1,30 @@
+//! CoSWID tags as values (RFC 9393, section 2), what kind a tag is, what is wrong with it by plain rules, and its software
+//! identifier (RFC 8412, section 3.4.1).
+//!
+//! It stands on `coswid_res` and `cbor_det` for hashes and for pairs that no field tells, on `wire_base`, on `uuid` for the
+//! text of a UUID, and on `thiserror` for the texts of errors. The crates above rest on `kind` of `kind`, on `findings` of
+//! `constraints`, on `identifier` of `software_identifier`, and on `equal` of the copies. The words of these clauses are in
+//! `specs/`: `Kind`, `Findings`, `Identifier`.
+#![tactic(auto)]
+
+mod copied;
+mod entity;
+mod finding;
+mod identifier;
+mod link;
+mod meta;
+mod sort;
+mod tag;
+mod value;
+
+pub use entity::{Entities, Entity};
+pub use finding::{Findings, constraints};
+pub use identifier::{IdentRefused, software_identifier};
+pub use link::{LinkEntries, LinkEntry};
+pub use meta::{SoftwareMeta, SoftwareMetas};
+pub use sort::{TagKind, kind};
+pub use tag::Tag;
+pub use value::{CodeValue, CodeValues, TagId};
+
+#[cfg(test)]
+mod tests;

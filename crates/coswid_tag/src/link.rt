@@ -1,0 +1,46 @@
+//! Links of a tag.
+
+use crate::copied::copy_option;
+use crate::value::CodeValue;
+use cbor_det::Pairs;
+use wire_base::{List, Memory, Text, TryCopy};
+
+/// Links in order.
+pub type LinkEntries = List<LinkEntry>;
+
+/// A link to another tag or to anything else (RFC 9393, section 2.7).
+#[derive(Debug, Drop)]
+pub struct LinkEntry {
+    /// For which media it is meant, as a query (10).
+    pub media: Option<Text>,
+    /// The canonical name of what the link leads to (37).
+    pub artifact: Option<Text>,
+    /// Where it leads, a URI (38).
+    pub href: Text,
+    /// How strong the two own one another (39): abandon 1, private 2, shared 3.
+    pub ownership: Option<CodeValue>,
+    /// How the two are related (40): ancestor 1, component 2, feature 3, installation media 4, package installer 5, parent 6,
+    /// patches 7, requires 8, see also 9, supersedes 10, supplemental 11.
+    pub rel: CodeValue,
+    /// The media type of what it leads to (41).
+    pub media_type: Option<Text>,
+    /// Whether it has to be installed (42): optional 1, required 2, recommended 3.
+    pub link_use: Option<CodeValue>,
+    /// The pairs under all other keys.
+    pub extras: Pairs,
+}
+
+impl TryCopy for LinkEntry {
+    fn copy(&self) -> Result<Self, Memory> {
+        Ok(LinkEntry {
+            media: copy_option(&self.media)?,
+            artifact: copy_option(&self.artifact)?,
+            href: self.href.copy()?,
+            ownership: copy_option(&self.ownership)?,
+            rel: self.rel.copy()?,
+            media_type: copy_option(&self.media_type)?,
+            link_use: copy_option(&self.link_use)?,
+            extras: self.extras.copy()?,
+        })
+    }
+}

@@ -1,0 +1,64 @@
+//! Tags.
+
+use crate::copied::copy_option;
+use crate::entity::Entities;
+use crate::link::LinkEntries;
+use crate::meta::SoftwareMetas;
+use crate::value::{CodeValue, TagId};
+use cbor_det::Pairs;
+use wire_base::{Memory, Text, TryCopy};
+
+/// A concise software identification tag (RFC 9393, section 2.3). Payload and evidence are not read yet.
+#[derive(Debug, Drop)]
+pub struct Tag {
+    /// What identifies the tag, everywhere and always (0).
+    pub tag_id: TagId,
+    /// The software's name (1).
+    pub software_name: Text,
+    /// Who made, owns or hands out the software and the tag, at least one (2).
+    pub entity: Entities,
+    /// Links, at least one (4).
+    pub link: Option<LinkEntries>,
+    /// Descriptions of the software, at least one (5).
+    pub software_meta: Option<SoftwareMetas>,
+    /// Whether it describes software that is not installed yet (8).
+    pub corpus: Option<bool>,
+    /// Whether it describes a patch (9).
+    pub patch: Option<bool>,
+    /// For which media the software is meant, as a query (10).
+    pub media: Option<Text>,
+    /// Whether it adds to another tag (11).
+    pub supplemental: Option<bool>,
+    /// Which release of the tag it is (12).
+    pub tag_version: i64,
+    /// The software's version (13).
+    pub software_version: Option<Text>,
+    /// How the version is built (14): multipart numeric 1, multipart numeric with suffix 2, alphanumeric 3, decimal 4, semantic
+    /// version 16384.
+    pub version_scheme: Option<CodeValue>,
+    /// The language of its texts (15).
+    pub lang: Option<Text>,
+    /// The pairs under all other keys.
+    pub extras: Pairs,
+}
+
+impl TryCopy for Tag {
+    fn copy(&self) -> Result<Self, Memory> {
+        Ok(Tag {
+            tag_id: self.tag_id.copy()?,
+            software_name: self.software_name.copy()?,
+            entity: self.entity.copy()?,
+            link: copy_option(&self.link)?,
+            software_meta: copy_option(&self.software_meta)?,
+            corpus: self.corpus,
+            patch: self.patch,
+            media: copy_option(&self.media)?,
+            supplemental: self.supplemental,
+            tag_version: self.tag_version,
+            software_version: copy_option(&self.software_version)?,
+            version_scheme: copy_option(&self.version_scheme)?,
+            lang: copy_option(&self.lang)?,
+            extras: self.extras.copy()?,
+        })
+    }
+}
