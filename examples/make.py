@@ -1,9 +1,10 @@
 #!/usr/bin/env python3
-"""Writes the example files of this folder, each with the words, the output and the status that belong to it.
+"""Writes the example files of this folder and of tags/, each with the words, the output and the status that belong to it.
 
-Each example is a kind of mirror and a list of values. `formats.py` says what octets and what output belong to
-them. NAME.patnc has the octets, NAME.args the words after `swid`, NAME.out the output, and NAME.status the
-status where it is not 0. The program is not run.
+Each example of this folder is a kind of mirror and a list of values. `formats.py` says what octets and what output belong
+to them. NAME.patnc has the octets, NAME.args the words after `swid`, NAME.out the output, and NAME.status the status
+where it is not 0. The examples of tags/ are the values of `tag_values.py`, and `coswid.py` says the same of them:
+tags/NAME.coswid has the octets, and tags/NAME.diag says them in words. The program is not run.
 """
 
 import os
@@ -14,6 +15,8 @@ sys.dont_write_bytecode = True
 
 from formats import ALTERATION, COSWID, CREATION, DELETION, FULFILMENT, FULL, IDS, NOSKIP, SWID_2009, SWID_2015
 from formats import Event, Events, Inventory, Record, Refused, Skipped, Torn, attribute, replaced, run
+import coswid
+import tag_values
 
 HERE = os.path.dirname(os.path.abspath(__file__))
 
@@ -175,14 +178,23 @@ def write(name, octets):
         it.write(octets)
 
 
+def write_answer(name, words, output, status):
+    write(f"{name}.args", f"{words}\n".encode("ascii"))
+    write(f"{name}.out", output.encode("ascii"))
+    if status:
+        write(f"{name}.status", f"{status}\n".encode("ascii"))
+
+
 def main():
     for name, (kind, parts) in EXAMPLES.items():
         octets, output, status = run(kind, parts)
         write(f"{name}.patnc", octets)
-        write(f"{name}.args", f"mirror {kind}\n".encode("ascii"))
-        write(f"{name}.out", output.encode("ascii"))
-        if status:
-            write(f"{name}.status", f"{status}\n".encode("ascii"))
+        write_answer(name, f"mirror {kind}", output, status)
+    for name, case in tag_values.CASES.items():
+        octets, notation, output, status = coswid.run(case)
+        write(f"tags/{name}.coswid", octets)
+        write(f"tags/{name}.diag", notation.encode("utf-8"))
+        write_answer(f"tags/{name}", "tag", output, status)
 
 
 if __name__ == "__main__":

@@ -26,7 +26,8 @@ fn run(rt: &HostRuntime) -> Result<u8, Memory> {
     }
     let mut input = StdinSource::new(rt.stdin());
     let mut output = StdoutSink::new(rt.stdout());
-    Ok(run_plain(alloc, &words, &mut input, &mut output, &mut MemFiles))
+    let mut files = MemFiles::empty(alloc);
+    Ok(run_plain(alloc, &words, &mut input, &mut output, &mut files))
 }
 
 /// The words of the command line without the program's name; none where one of them is no text.

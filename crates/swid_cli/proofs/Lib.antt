@@ -7,4 +7,5 @@ pub mod Stepping
 pub mod Running
 pub mod FirstLaws
 pub mod Answered
-pub mod Bodies
+pub mod Telling
+pub mod OneText

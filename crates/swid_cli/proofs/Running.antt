@@ -9,11 +9,8 @@ use Rattle.validator_core.specs.Held.{empty_mirror}
 use Rattle.swid_cli.specs.declared.step.Ending.{Ending}
 use Rattle.swid_cli.specs.declared.step.Ending.TheVariants as ending
 use Rattle.swid_cli.specs.Run.{Prints, Ran, ending_status, status_of}
-use Rattle.swid_cli.specs.Stream.{stream_text}
-use Rattle.swid_cli.specs.Commands.{Says}
+use Rattle.swid_cli.specs.Stream.{Printed, stream_text}
 use Rattle.swid_cli.specs.Words.{IsMirror, kind_word}
-use Rattle.swid_cli.specs.declared.command.Command.{Command}
-use Rattle.swid_cli.specs.declared.command.Command.TheVariants.{Mirror}
 use Rattle.swid_cli.proofs.Streaming.{nothing_left}
 
 -- A text was written, or the call failed.
@@ -25,22 +22,28 @@ written_or Text Rose Calm (Err fault) text cause = inr cause
 pub is_whole : (how : Ending) → ending_status how ≡ 0 → how ≡ ending.Whole
 is_whole ending.Whole zero = refl
 is_whole ending.Refused zero = absurd (omega arith)
+is_whole ending.Findings zero = absurd (omega arith)
 
 -- A command that ended printed all, with its status.
-pub prints : (kind : Kind) (told left-after before after : Option (List ℕ)) (result : Result Ending Stopped) (status : ℕ) → status ≡ status_of result → status ≢ 3 → status ≢ 4
-    → IfSome told (λ octets. Ran (stream_text kind octets) left-after before after result) → IfSome told (λ octets. Prints (stream_text kind octets) left-after before after status)
-prints kind None left-after before after result status is fault memory ran = tt
-prints kind (Some octets) left-after before after (Ok how) status is fault memory ran = record {
+pub prints_of : (printed : Printed) (left-after before after : Option (List ℕ)) (result : Result Ending Stopped) (status : ℕ) → status ≡ status_of result → status ≢ 3 → status ≢ 4
+    → (printed.ending ≡ ending.Whole → printed.left ≡ []) → Ran printed left-after before after result → Prints printed left-after before after status
+prints_of printed left-after before after (Ok how) status is fault memory whole ran = record {
   text = ran.0;
   ending = is ∙ ap ending_status ran.1;
   left = ran.2;
-  ended = λ zero. ran.2 ∙ ap (λ (o : List ℕ). Some o) (nothing_left 0 (empty_mirror kind) octets (sym ran.1 ∙ is_whole how (sym is ∙ zero)));
+  ended = λ zero. ran.2 ∙ ap (λ (o : List ℕ). Some o) (whole (sym ran.1 ∙ is_whole how (sym is ∙ zero)));
 }
-prints kind (Some octets) left-after before after (Err stopped.Fault) status is fault memory ran = absurd (fault is)
-prints kind (Some octets) left-after before after (Err stopped.Memory) status is fault memory ran = absurd (memory is)
+prints_of printed left-after before after (Err stopped.Fault) status is fault memory whole ran = absurd (fault is)
+prints_of printed left-after before after (Err stopped.Memory) status is fault memory whole ran = absurd (memory is)
+
+pub prints : (kind : Kind) (told left-after before after : Option (List ℕ)) (result : Result Ending Stopped) (status : ℕ) → status ≡ status_of result → status ≢ 3 → status ≢ 4
+    → IfSome told (λ octets. Ran (stream_text kind octets) left-after before after result) → IfSome told (λ octets. Prints (stream_text kind octets) left-after before after status)
+prints kind None left-after before after result status is fault memory ran = tt
+prints kind (Some octets) left-after before after result status is fault memory ran =
+    prints_of (stream_text kind octets) left-after before after result status is fault memory (nothing_left 0 (empty_mirror kind) octets) ran
 
 -- Words are of one kind.
-one_kind : (one other : Kind) (words : List (List ℕ)) → IsMirror one words → IsMirror other words → one ≡ other
+pub one_kind : (one other : Kind) (words : List (List ℕ)) → IsMirror one words → IsMirror other words → one ≡ other
 one_kind Ids Ids words a b = refl
 one_kind Ids Full words a b = absurd (differ (sym a ∙ b))
   where
@@ -51,7 +54,3 @@ one_kind Full Ids words a b = absurd (differ (sym a ∙ b))
     differ : (codes "mirror" ∷ kind_word Full ∷ []) ≡ (codes "mirror" ∷ kind_word Ids ∷ []) → ⊥
     differ e = absurd cc
 one_kind Full Full words a b = refl
-
--- A command that words of a kind say is of this kind.
-pub one_command : (command : Command) (kind : Kind) (words : List (List ℕ)) → Says command words → IsMirror kind words → command ≡ Mirror kind
-one_command (Mirror one) kind words said is = ap (λ (k : Kind). Mirror k) (one_kind one kind words said is)

@@ -9,7 +9,7 @@ use Rattle.pa_attrs.specs.declared.attr.Attr.{Attr}
 use Rattle.pa_attrs.specs.declared.fault.AttrFault.{AttrFault}
 use Rattle.pa_attrs.specs.declared.feed.AttrFed.{AttrFed}
 use Rattle.pa_attrs.specs.declared.feed.AttrFed.TheVariants as fed
-use Rattle.pa_attrs.specs.declared.feed.Stop.{Stop}
+use Rattle.pa_attrs.specs.declared.refused.Refused.{Refused}
 use Rattle.pa_attrs.specs.declared.header.Header.{Header}
 use Rattle.pa_attrs.specs.Numbers.{HEADER, MOST_OCTETS}
 use Rattle.pa_attrs.specs.Header.{header_of}
@@ -164,7 +164,7 @@ nothing = []
 
 -- A feed that goes on answers by the octets joined.
 pub takes_of : (before : Feeding) (piece : List ℕ) (answer : AttrFed) (after : Feeding) → before.stopped ≡ None → Feeds before piece answer after → TakesPiece before.octets piece answer after
-takes_of before piece answer after goes feeds = subst (λ (stopped : Option Stop). FeedsIn stopped before piece answer after) goes feeds
+takes_of before piece answer after goes feeds = subst (λ (stopped : Option (Refused AttrFault)). FeedsIn stopped before piece answer after) goes feeds
 
 -- So does a feed that has taken nothing.
 pub fresh_takes : (before after : Feeding) (piece held : List ℕ) (answer : AttrFed) → before ≡ fresh → piece ≡ held → Feeds before piece answer after → TakesPiece [] held answer after

@@ -8,3 +8,5 @@ pub mod Steps
 pub mod Run
 pub mod Causes
 pub mod Answering
+pub mod Tagging
+pub mod TagLaws

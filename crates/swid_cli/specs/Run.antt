@@ -17,6 +17,7 @@ usage = line (codes "usage" ∷ [])
 abbrev pub ending_status : Ending → ℕ
 ending_status ending.Whole = 0
 ending_status ending.Refused = 1
+ending_status ending.Findings = 1
 
 -- The status of a command.
 abbrev pub status_of : Result Ending Stopped → ℕ

@@ -1,10 +1,11 @@
 -- The lines that commands print. Numbers are decimal.
-use Rattle.std.specs.Prelude.{◌+◌, ◌/◌, ◌%◌, ◌==◌, ◌&&◌, ℕ, Bool, not, List, [], ◌∷◌, ◌++◌, Option, Some, None, length, codes, nat_lt, nat_le, if◌then◌else◌}
+use Rattle.std.specs.Prelude.{◌+◌, ℕ, List, [], ◌∷◌, ◌++◌, Option, Some, None, length, codes}
 use Rattle.std.specs.List.{flat_map}
 use Rattle.std.specs.Fmt.{decimal}
 use Rattle.hex.specs.Hex.{encode_lower}
 use Rattle.sha2.specs.Sha256.{sha256}
 use Rattle.swima_model.specs.DataModel.{DataModel}
+use Rattle.swima_model.specs.declared.record.Content.{Content}
 use Rattle.swima_model.specs.declared.record.Record.{Record}
 use Rattle.swima_model.specs.declared.report.Kind.{Kind}
 use Rattle.swima_model.specs.declared.report.Kind.TheVariants.{Ids, Full}
@@ -14,29 +15,13 @@ use Rattle.swima_model.specs.declared.report.Report.TheVariants.{Inventory, Even
 use Rattle.validator_core.specs.declared.mirror.Taken.{Taken}
 use Rattle.validator_core.specs.declared.mirror.Taken.TheVariants as taken
 use Rattle.validator_core.specs.Held.{Held}
+use Rattle.wire_base.specs.Escaped.{escaped}
 
 -- A line: words with one space between them, and a line feed.
 abbrev pub line : List (List ℕ) → List ℕ
 line [] = 10 ∷ []
 line (word ∷ []) = word ++ 10 ∷ []
 line (word ∷ next ∷ others) = word ++ 32 ∷ line (next ∷ others)
-
--- A digit of a number to the base 16.
-abbrev pub hex_digit : ℕ → ℕ
-hex_digit number = if nat_lt number 10 then 48 + number else 87 + number
-
--- The octet is printed as itself: from 21 to 7e, but the backslash.
-abbrev pub is_plain : ℕ → Bool
-is_plain octet = nat_le 33 octet && nat_le octet 126 && not (octet == 92)
-
--- An octet of an octet text: itself, or a backslash, an `x` and two hexadecimal digits.
-abbrev pub escaped_octet : ℕ → List ℕ
-escaped_octet octet = if is_plain octet then octet ∷ [] else 92 ∷ 120 ∷ hex_digit (octet / 16) ∷ hex_digit (octet % 16) ∷ []
-
--- An octet text. No octets are a backslash and an `e`.
-abbrev pub escaped : List ℕ → List ℕ
-escaped [] = codes "\\e"
-escaped (octet ∷ octets) = flat_map escaped_octet (octet ∷ octets)
 
 -- The epoch of a mirror, which may have none.
 abbrev pub epoch_text : Option ℕ → List ℕ
@@ -71,9 +56,13 @@ abbrev pub body_text : Kind → List ℕ → List ℕ
 body_text Ids body = codes "-"
 body_text Full body = decimal (length body) ++ codes ":" ++ encode_lower (sha256 body)
 
+-- The words on a record's content, behind that of its data model.
+abbrev pub content_words : Kind → Content → List (List ℕ)
+content_words kind content = decimal content.source ∷ escaped content.ident ∷ escaped content.locator ∷ body_text kind content.body ∷ []
+
 -- A record of a mirror.
 unfoldable pub record_line : Kind → Record → List ℕ
-record_line kind r = line (codes "record" ∷ decimal r.id ∷ model_text r.content.model ∷ decimal r.content.source ∷ escaped r.content.ident ∷ escaped r.content.locator ∷ body_text kind r.content.body ∷ [])
+record_line kind r = line (codes "record" ∷ decimal r.id ∷ model_text r.content.model ∷ content_words kind r.content)
 
 -- A mirror whose records stood at a point, or that has none yet.
 abbrev pub mirror_at : Kind → Option Point → List Record → List ℕ

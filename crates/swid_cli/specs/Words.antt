@@ -12,6 +12,10 @@ kind_word Full = codes "full"
 abbrev pub IsMirror : Kind → List (List ℕ) → Type 0
 IsMirror kind words = words ≡ codes "mirror" ∷ kind_word kind ∷ []
 
+-- The word is `tag`.
+abbrev pub IsTag : List (List ℕ) → Type 0
+IsTag words = words ≡ codes "tag" ∷ []
+
 -- The words are a command line.
 abbrev pub IsCommandLine : List (List ℕ) → Type 0
-IsCommandLine words = IsMirror Ids words ⊎ IsMirror Full words
+IsCommandLine words = IsMirror Ids words ⊎ IsMirror Full words ⊎ IsTag words

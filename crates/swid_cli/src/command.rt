@@ -11,6 +11,8 @@ use swima_model::Kind;
 pub enum Command {
     /// `mirror ids` or `mirror full`: take the reports of a kind that come in, and show what a mirror holds then.
     Mirror(Kind),
+    /// `tag`: say what a tag tells and what is wrong with it.
+    Tag,
 }
 
 /// The command that the words say; `None` exactly where they are no command line.
@@ -21,6 +23,7 @@ pub fn command_of(words: &[&str]) -> Option<Command>
     match words {
         ["mirror", "ids"] => Some(Command::Mirror(Kind::Ids)),
         ["mirror", "full"] => Some(Command::Mirror(Kind::Full)),
+        ["tag"] => Some(Command::Tag),
         _ => None,
     }
 }

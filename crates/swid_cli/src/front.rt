@@ -8,12 +8,11 @@ ghost use Rattle.wire_base.specs.Outside.{HasCause};
 ghost use Rattle.wire_base.specs.Passing.{is_fault};
 
 use crate::supported::is_refused;
-use pa_attrs::{Attr, AttrFault, AttrFed, AttrFeed, UNSUPPORTED_ATTRIBUTE, read_header};
+use pa_attrs::{
+    Attr, AttrFault, AttrFed, AttrFeed, HEADER_OCTETS, UNSUPPORTED_ATTRIBUTE, read_header,
+};
 use std::alloc::Global;
 use wire_base::{List, Source, Stopped, fill};
-
-/// How many octets the header of an attribute has (RFC 5792, section 4.1).
-pub const HEADER: usize = 12;
 
 /// How many octets of a value one call of the input is asked for at most.
 const PIECE: usize = 4096;
@@ -43,8 +42,8 @@ pub fn take_front<S: Source>(alloc: Global, input: &mut S, room: usize) -> Resul
     ensures cause { HasCause (S.faults input.old) (S.faults input.new) (is_fault result) }
 {
     let mut start = List::new(alloc);
-    fill(input, &mut start, HEADER.min(room + 1))?;
-    if start.len().min(room) < HEADER {
+    fill(input, &mut start, HEADER_OCTETS.min(room + 1))?;
+    if start.len().min(room) < HEADER_OCTETS {
         return Ok(cut(room, start.len()));
     }
     let header = read_header(start.as_slice());

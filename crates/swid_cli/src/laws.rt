@@ -3,6 +3,7 @@
 ghost use Rattle.swid_cli.specs.Answering.{PrintedMirrorIsRight};
 ghost use Rattle.swid_cli.specs.FirstLaws.{EndIsNothing, FaultyShows, LimitIsBeyond, TornIsUnfinished, WholeIsAttribute};
 ghost use Rattle.swid_cli.specs.Stream.{StreamGoesOn};
+ghost use Rattle.swid_cli.specs.TagLaws.{OneTagText, SomeTagText, ToldAlike};
 
 /// What a stream prints is what its first attribute makes, and behind it what the stream behind that attribute prints.
 pub fn stream_goes_on()
@@ -40,4 +41,19 @@ pub fn whole_is_attribute()
 /// the text of a mirror of the kind that holds exactly what this history has live at the mirror's point.
 pub fn printed_mirror_is_right()
     ensures law { PrintedMirrorIsRight }
+{}
+
+/// Of an input `tag` prints one text at most, with one ending.
+pub fn one_tag_text()
+    ensures law { OneTagText }
+{}
+
+/// Of each input `tag` prints some text.
+pub fn some_tag_text()
+    ensures law { SomeTagText }
+{}
+
+/// Tags that are written as one item have one text, in whatever spellings they came.
+pub fn tags_are_told_alike()
+    ensures law { ToldAlike }
 {}

@@ -1,24 +1,28 @@
 //! The commands, over any source, sink and files.
 //!
-//! It stands on `validator_core`, `swima_reports`, `pa_attrs`, `swima_model` and `wire_base`. The program rests on the clauses of
-//! `run_plain`: status 2 exactly where the words are no command line; else status 3 exactly where a count of faults rose;
-//! else what is printed, the status and what is left of the input are, of an input that tells its octets, `stream_text`
-//! of them (`specs/Stream.antt`). The functions of `laws` say what the definitions mean.
+//! It stands on `validator_core`, `swima_reports`, `pa_attrs` and `swima_model` for `mirror`, on `coswid_codec`, `coswid_tag`,
+//! `coswid_res` and `cbor_det` for `tag`, and on `wire_base`. The program rests on the clauses of `run_plain`: status 2 exactly
+//! where the words are no command line; else status 3 exactly where a count of faults rose; else what is printed, the status and
+//! what is left of the input are, of an input that tells its octets, for `mirror` `stream_text` of them (`specs/Stream.antt`), and
+//! for `tag` by `TagTells` (`specs/Tagging.antt`). The functions of `laws` say what the definitions mean.
 #![tactic(auto)]
 
 mod command;
 #[cfg(test)]
 mod cut_tests;
-mod escape;
 mod front;
 pub mod laws;
 mod mirror;
 mod run;
 mod step;
 mod supported;
+mod tag;
+mod tag_line;
 mod text;
 
 pub use run::run_plain;
 
+#[cfg(test)]
+mod tag_tests;
 #[cfg(test)]
 mod tests;

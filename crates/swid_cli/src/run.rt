@@ -3,8 +3,9 @@
 ghost use Rattle.std.specs.Prelude.{◌≡◌, ◌≢◌, ◌≤◌, ◌⊎◌, ◌↔◌, List, ℕ, IfSome, map};
 ghost use Rattle.swid_cli.specs.Answering.{AllAnswer, PrintsRight};
 ghost use Rattle.swid_cli.specs.Run.{Prints, status_of, usage};
-ghost use Rattle.swid_cli.specs.Stream.{stream_text};
-ghost use Rattle.swid_cli.specs.Words.{IsCommandLine, IsMirror};
+ghost use Rattle.swid_cli.specs.Stream.{Printed, stream_text};
+ghost use Rattle.swid_cli.specs.Tagging.{TagPrints, TagPrintsFront};
+ghost use Rattle.swid_cli.specs.Words.{IsCommandLine, IsMirror, IsTag};
 ghost use Rattle.swima_model.specs.History.{History, IsHonest};
 ghost use Rattle.swima_model.specs.declared.report.Kind.{Kind as KindValue};
 ghost use Rattle.wire_base.specs.Outside.{Adds, Rose};
@@ -13,6 +14,7 @@ ghost use Rattle.wire_base.specs.Passing.{AddsFront};
 use crate::command::{Command, command_of};
 use crate::mirror::mirror;
 use crate::step::Ending;
+use crate::tag::tag;
 use std::alloc::Global;
 use wire_base::{Files, Sink, Source, Stopped, write_all};
 
@@ -21,7 +23,8 @@ const USAGE: &[u8; 6] = b"usage\n";
 
 /// Does what the words of the command line say, over the objects of the outside that it is lent, and answers the
 /// status: 2 exactly where the words are no command line; else 4 at want of memory; else 3 exactly where a count of
-/// faults rose; else 1 exactly where the input was refused; else 0, and then the input was read to its end.
+/// faults rose; else 1 exactly where the input was refused, or `tag` found something wrong; else 0, and then the input was read
+/// to its end.
 pub fn run_plain<S: Source, K: Sink, F: Files>(
     alloc: Global,
     words: &[&str],
@@ -51,7 +54,16 @@ pub fn run_plain<S: Source, K: Sink, F: Files>(
         AddsFront (K.written output.old) (K.written output.new)
         (stream_text kind octets).text) }
 
-    // At status 0 what was printed ends with a mirror that is right over each honest history from which the reports answer.
+    // Where the word is `tag`, likewise by the rules of `TagTells`, of which one fits.
+    ensures tag { result ≢ 3 → result ≢ 4
+        → IsTag (map (λ word. word.now) words.now)
+        → IfSome (S.left input.old) (λ octets. (told : Printed) × TagPrints octets told
+        × Prints told (S.left input.new) (K.written output.old) (K.written output.new) result) }
+    ensures tag_front { IsTag (map (λ word. word.now) words.now)
+        → IfSome (S.left input.old) (λ octets.
+        TagPrintsFront octets (K.written output.old) (K.written output.new)) }
+
+    // At status 0 what `mirror` printed ends with a mirror that is right over each honest history from which the reports answer.
     ensures right { result ≡ 0 → (kind : KindValue)
         → IsMirror kind (map (λ word. word.now) words.now)
         → IfSome (S.left input.old) (λ octets. (history : History)
@@ -77,6 +89,7 @@ pub fn run_plain<S: Source, K: Sink, F: Files>(
             2
         }
         Some(Command::Mirror(kind)) => status(mirror(alloc, kind, input, output)),
+        Some(Command::Tag) => status(tag(alloc, input, output)),
     }
 }
 
@@ -87,6 +100,7 @@ fn status(ended: Result<Ending, Stopped>) -> u8
     match ended {
         Ok(Ending::Whole) => 0,
         Ok(Ending::Refused) => 1,
+        Ok(Ending::Findings) => 1,
         Err(Stopped::Fault) => 3,
         Err(Stopped::Memory) => 4,
     }

@@ -1,20 +1,22 @@
 //! One attribute of the input: what is printed of it.
 
 ghost use Rattle.std.specs.Prelude.{◌≡◌, ◌+◌, ◌≤◌, ◌<◌, ◌^◌, List, ℕ, IfOk, length};
-ghost use Rattle.pa_attrs.specs.Numbers.{HEADER as HEADER_OCTETS};
+ghost use Rattle.pa_attrs.specs.Numbers.{HEADER};
 ghost use Rattle.swid_cli.specs.Steps.{Advances, IsStep, TakesStep};
 ghost use Rattle.swid_cli.specs.Stream.{INPUT_OCTETS, attribute_step, report_step};
-ghost use Rattle.swid_cli.specs.Text.{fault_line, refusal};
+ghost use Rattle.swid_cli.specs.Text.{fault_line, mirror_text, refusal};
 ghost use Rattle.swima_reports.specs.ReportReading.{read_report};
+ghost use Rattle.swima_reports.specs.ReportType.{IsReportType};
 ghost use Rattle.wire_base.specs.Reading.{whole};
 ghost use Rattle.wire_base.specs.Outside.{HasCause};
 ghost use Rattle.wire_base.specs.Passing.{is_fault};
 
-use crate::front::{Front, HEADER, take_front};
+use crate::front::{Front, take_front};
 use crate::supported::carries_report;
 use crate::text::{fault_line, mirror_text, point_and_count, refusal, skipped_line, took_line};
-use pa_attrs::{Attr, INVALID_PARAMETER};
+use pa_attrs::{Attr, HEADER_OCTETS, INVALID_PARAMETER};
 use std::alloc::Global;
+use std::mem;
 use swima_reports::read_report;
 use validator_core::Mirror;
 use wire_base::{FieldRefused, Memory, Octets, Source, Stopped};
@@ -29,6 +31,8 @@ pub enum Ending {
     Whole,
     /// The input was refused.
     Refused,
+    /// The input was read to its end, and something is wrong with what it tells.
+    Findings,
 }
 
 /// What is printed next.
@@ -55,7 +59,7 @@ pub fn next_step<S: Source>(
 {
     let first = take_front(alloc, input, (MOST_INPUT_OCTETS - at) as usize)?;
     match first {
-        Front::End => Ok(Step::Ends(mirror_text(alloc, mirror)?, Ending::Whole)),
+        Front::End => Ok(Step::Ends(last_text(alloc, mirror)?, Ending::Whole)),
         Front::Torn(have) => Ok(refuse(alloc, "torn", have)?),
         Front::Limit => Ok(refuse(alloc, "limit", MOST_INPUT_OCTETS)?),
         Front::Faulty(fault) => Ok(fault_at(alloc, fault.code, at + fault.at as u32)?),
@@ -63,18 +67,26 @@ pub fn next_step<S: Source>(
     }
 }
 
+/// The text of a mirror, which gives up all that it holds.
+fn last_text(alloc: Global, mirror: &mut Mirror) -> Result<Octets, Memory>
+    ensures text { IfOk result (λ made. made ≡ mirror_text mirror.old) }
+{
+    let empty = Mirror::new(alloc, mirror.kind());
+    mirror_text(alloc, mem::replace(mirror, empty))
+}
+
 fn refuse(alloc: Global, word: &str, number: u32) -> Result<Step, Memory>
     ensures refused { IfOk result
         (λ made. made ≡ Step.Ends (refusal word.now number) Ending.Refused) }
 {
-    Ok(Step::Ends(refusal(alloc, word, number)?, Ending::Refused))
+    Ok(Step::Ends(refusal(alloc, word, number as u64)?, Ending::Refused))
 }
 
 fn fault_at(alloc: Global, code: u32, place: u32) -> Result<Step, Memory>
     ensures refused { IfOk result
         (λ made. made ≡ Step.Ends (fault_line code place) Ending.Refused) }
 {
-    Ok(Step::Ends(fault_line(alloc, code, place)?, Ending::Refused))
+    Ok(Step::Ends(fault_line(alloc, code, place as u64)?, Ending::Refused))
 }
 
 /// Takes a whole attribute of `len` octets that begins at `at`: one that carries no report is skipped.
@@ -85,7 +97,7 @@ fn take_attribute(
     at: u32,
     mirror: &mut Mirror,
 ) -> Result<Step, Memory>
-    requires counted { len ≡ HEADER_OCTETS + length attr.now.value }
+    requires counted { len ≡ HEADER + length attr.now.value }
     requires places { at + len ≤ INPUT_OCTETS }
     ensures step { IfOk result (λ made. (octets : List ℕ) → IsStep
         (attribute_step at mirror.old octets attr.now len) made mirror.new) }
@@ -106,17 +118,16 @@ fn take_report(
     at: u32,
     mirror: &mut Mirror,
 ) -> Result<Step, Memory>
-    requires from { 14 ≤ attr.now.kind }
-    requires to { attr.now.kind ≤ 17 }
-    requires counted { len ≡ HEADER_OCTETS + length attr.now.value }
+    requires kind { IsReportType attr.now.kind }
+    requires counted { len ≡ HEADER + length attr.now.value }
     requires places { at + len ≤ INPUT_OCTETS }
     ensures step { IfOk result (λ made. (octets : List ℕ) → IsStep
         (report_step mirror.old octets len
-        (whole (read_report attr.now.kind) (at + HEADER_OCTETS) attr.now.value))
+        (whole (read_report attr.now.kind) (at + HEADER) attr.now.value))
         made mirror.new) }
     ensures advances { IfOk result (λ made. Advances at made) }
 {
-    let base = at + HEADER as u32;
+    let base = at + HEADER_OCTETS as u32;
     match read_report(alloc, attr.kind, attr.value.as_slice(), base) {
         Err(FieldRefused::Memory) => Err(Memory),
         Err(FieldRefused::Fault { offset }) => fault_at(alloc, INVALID_PARAMETER, offset),

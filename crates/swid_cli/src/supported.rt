@@ -6,7 +6,7 @@ ghost use Rattle.pa_attrs.specs.Faults.{is_refused};
 ghost use Rattle.swid_cli.specs.Front.{REPORT_TYPES, carries_report};
 ghost use Rattle.swima_reports.specs.ReportType.{IsReportType};
 
-use pa_attrs::Header;
+use pa_attrs::{Header, IETF};
 use swima_reports::{
     SOFTWARE_EVENTS, SOFTWARE_IDENTIFIER_EVENTS, SOFTWARE_IDENTIFIER_INVENTORY, SOFTWARE_INVENTORY,
 };
@@ -16,7 +16,7 @@ pub fn carries_report(vendor: u32, kind: u32) -> bool
     ensures report { result ≡ carries_report vendor kind }
     ensures listed { IsTrue result → IsReportType kind }
 {
-    vendor == 0 && is_report_type(kind)
+    vendor == IETF && is_report_type(kind)
 }
 
 /// Whether an attribute with the header carries no report and may not be passed over (RFC 5792, section 4.1).

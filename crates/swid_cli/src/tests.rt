@@ -20,7 +20,8 @@ pub fn run(
     let octets = List::from_vec(Vec::from_slice(alloc, input)?);
     let mut input = MemSource::new(alloc, octets, failing_reads)?;
     let mut output = MemSink::new(alloc, 4194304, failing_writes)?;
-    let status = run_plain(alloc, words, &mut input, &mut output, &mut MemFiles);
+    let mut files = MemFiles::empty(alloc);
+    let status = run_plain(alloc, words, &mut input, &mut output, &mut files);
     let written = List::from_vec(Vec::from_slice(alloc, output.written())?);
     Ok((status, written))
 }
@@ -385,9 +386,12 @@ fn tells_what_is_refused(rt: HostRuntime) -> Result<(), Fail> {
 
 #[test]
 fn refuses_other_words(rt: HostRuntime) -> Result<(), Fail> {
-    let cases: [&[&str]; 6] = [
+    let cases: [&[&str]; 9] = [
         &[],
         &["mirror"],
+        &["tag", "all"],
+        &["tag", "verify"],
+        &["tags"],
         &["mirror", "tags"],
         &["make", "39"],
         &["mirror", "ids", "full"],

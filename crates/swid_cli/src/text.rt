@@ -2,15 +2,17 @@
 
 ghost use Rattle.std.specs.Prelude.{◌≡◌, ◌≢◌, ◌∷◌, ◌++◌, [], IfOk, OnOk, string_bytes};
 ghost use Rattle.std.specs.List.{flat_map};
+ghost use Rattle.std.specs.Fmt.{decimal};
+ghost use Rattle.swima_model.specs.declared.report.Kind.TheVariants as kinds;
 ghost use Rattle.validator_core.specs.declared.mirror.Taken.{Taken as TakenValue};
-ghost use Rattle.swid_cli.specs.Text.{body_text, fault_line, mirror_text, record_line, refusal, skipped_line, took, took_line};
+ghost use Rattle.swid_cli.specs.Text.{body_text, content_words, fault_line, line, mirror_text, model_text, record_line, refusal, skipped_line, took, took_line};
 
-use crate::escape::push_escaped;
+use itoa::Buffer;
 use sha2::{Digest, Sha256};
 use std::alloc::Global;
-use swima_model::{Kind, Point, Record, Report};
+use swima_model::{Content, Kind, Model, Point, Record, Records, Report};
 use validator_core::{Mirror, Taken};
-use wire_base::{List, Memory, Octets};
+use wire_base::{List, Memory, Octets, push_escaped};
 
 /// The point of a report, and how many records or events it has.
 pub fn point_and_count(report: &Report) -> (Point, usize)
@@ -76,22 +78,22 @@ pub fn skipped_line(alloc: Global, vendor: u32, attr_type: u32) -> Result<Octets
 }
 
 /// The line of a fault: the number of its error code, and its place in the input.
-pub fn fault_line(alloc: Global, code: u32, place: u32) -> Result<Octets, Memory>
+pub fn fault_line(alloc: Global, code: u32, place: u64) -> Result<Octets, Memory>
     ensures line { IfOk result (λ made. made ≡ fault_line code place) }
 {
     Ok(from_string(format!(in alloc; "fault {code} {place}\n")?))
 }
 
 /// The line of another refusal: a word and a number.
-pub fn refusal(alloc: Global, word: &str, number: u32) -> Result<Octets, Memory>
+pub fn refusal(alloc: Global, word: &str, number: u64) -> Result<Octets, Memory>
     ensures line { IfOk result (λ made. made ≡ refusal word.now number) }
 {
     Ok(from_string(format!(in alloc; "{word} {number}\n")?))
 }
 
 /// What a mirror holds: its point and how many records, and a line for each record.
-pub fn mirror_text(alloc: Global, mirror: &Mirror) -> Result<Octets, Memory>
-    ensures text { IfOk result (λ made. made ≡ mirror_text mirror.now) }
+pub fn mirror_text(alloc: Global, mirror: Mirror) -> Result<Octets, Memory>
+    ensures text { IfOk result (λ made. made ≡ mirror_text mirror) }
 {
     let Some(point) = mirror.point() else {
         return Ok(from_string(format!(in alloc; "mirror none\n")?));
@@ -100,51 +102,79 @@ pub fn mirror_text(alloc: Global, mirror: &Mirror) -> Result<Octets, Memory>
     let eid = point.eid;
     let count = mirror.count();
     let mut out = from_string(format!(in alloc; "mirror {epoch} {eid} {count}\n")?);
-    push_records(alloc, &mut out, mirror.kind(), mirror.records())?;
+    let kind = mirror.kind();
+    push_records(&mut out, kind, mirror.into_records())?;
     Ok(out)
 }
 
-fn push_records(
-    alloc: Global,
-    out: &mut Octets,
-    kind: Kind,
-    records: &[Record],
-) -> Result<(), Memory>
-    ensures lines { OnOk result (out.new ≡ out.old ++ flat_map (record_line kind) records.now) }
+/// Puts a line for each record at the end of `out`. A record is let go of behind its line, while its octets are near.
+fn push_records(out: &mut Octets, kind: Kind, records: Records) -> Result<(), Memory>
+    ensures lines { OnOk result (out.new ≡ out.old ++ flat_map (record_line kind) records) }
 {
-    for record in records {
-        push_record(alloc, out, kind, record)?;
+    for record in records.into_vec() {
+        push_record(out, kind, &record)?;
     }
     Ok(())
 }
 
 #[tactic(auto, unfolding(crate::specs::Text::record_line))]
-fn push_record(alloc: Global, out: &mut Octets, kind: Kind, added: &Record) -> Result<(), Memory>
+fn push_record(out: &mut Octets, kind: Kind, added: &Record) -> Result<(), Memory>
     ensures line { OnOk result (out.new ≡ out.old ++ record_line kind added.now) }
 {
-    let id = added.id;
-    let pen = added.content.model.pen;
-    let model = added.content.model.kind;
-    let source = added.content.source;
-    let numbers = format!(in alloc; "record {id} {pen}/{model} {source} ")?;
-    out.extend(numbers.as_bytes())?;
-    push_escaped(out, added.content.ident.bytes())?;
+    out.extend(b"record ")?;
+    push_number(out, added.id as u64)?;
     out.push(b' ')?;
-    push_escaped(out, added.content.locator.bytes())?;
-    push_body(alloc, out, kind, added.content.body.bytes())
+    push_model(out, added.content.model)?;
+    out.push(b' ')?;
+    push_content(out, kind, &added.content)
+}
+
+/// Puts the end of a record's line at the end of `out`: the words behind that of its data model.
+fn push_content(out: &mut Octets, kind: Kind, added: &Content) -> Result<(), Memory>
+    ensures content { OnOk result (out.new ≡ out.old ++ line (content_words kind added.now)) }
+{
+    push_number(out, added.source as u64)?;
+    out.push(b' ')?;
+    push_escaped(out, added.ident.bytes())?;
+    out.push(b' ')?;
+    push_escaped(out, added.locator.bytes())?;
+    push_body(out, kind, added.body.bytes())
+}
+
+fn push_model(out: &mut Octets, model: Model) -> Result<(), Memory>
+    ensures model { OnOk result (out.new ≡ out.old ++ model_text model) }
+{
+    push_number(out, model.pen as u64)?;
+    out.push(b'/')?;
+    push_number(out, model.kind as u64)
 }
 
 /// Puts the last word of a record's line at the end of `out`, with the space before it and the line feed behind it.
-fn push_body(alloc: Global, out: &mut Octets, kind: Kind, body: &[u8]) -> Result<(), Memory>
+fn push_body(out: &mut Octets, kind: Kind, body: &[u8]) -> Result<(), Memory>
     ensures body { OnOk result (out.new ≡ out.old ++ 32 ∷ (body_text kind body.now ++ 10 ∷ [])) }
 {
     match kind {
         Kind::Ids => out.extend(b" -\n"),
-        Kind::Full => {
-            let length = body.len();
-            let digest = hex::encode(alloc, Sha256::digest(body))?;
-            let text = format!(in alloc; " {length}:{digest}\n")?;
-            out.extend(text.as_bytes())
-        }
+        Kind::Full => push_digest(out, body),
     }
+}
+
+/// Puts the length and the digest of a body at the end of `out`, with the space before them and the line feed behind.
+fn push_digest(out: &mut Octets, body: &[u8]) -> Result<(), Memory>
+    ensures body { OnOk result (out.new ≡ out.old ++ 32 ∷ (body_text kinds.Full body.now ++ 10 ∷ [])) }
+{
+    let mut digest = [0u8; 64];
+    hex::encode_to_slice(Sha256::digest(body), &mut digest).unwrap();
+    out.push(b' ')?;
+    push_number(out, body.len() as u64)?;
+    out.push(b':')?;
+    out.extend(&digest)?;
+    out.push(b'\n')
+}
+
+fn push_number(out: &mut Octets, number: u64) -> Result<(), Memory>
+    ensures number { OnOk result (out.new ≡ out.old ++ decimal number) }
+{
+    let mut buffer = Buffer::new();
+    out.extend(buffer.format(number).as_bytes())
 }

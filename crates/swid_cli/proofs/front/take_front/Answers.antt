@@ -12,20 +12,20 @@ use Rattle.swid_cli.proofs.Fronts.{first_read, is_faulty, is_header, is_short, i
 use Rattle.swid_cli.proofs.Wanting.{fresh_takes, header_whole, if_ok}
 use Rattle.swid_cli.proofs.front.take_front.Goals as goal
 
-pub returns-then-min-lt-HEADER-clause-front : goal.returns-then-min-lt-HEADER-clause-front
-returns-then-min-lt-HEADER-clause-front g c = λ octets told.
+pub returns-then-min-lt-HEADER_OCTETS-clause-front : goal.returns-then-min-lt-HEADER_OCTETS-clause-front
+returns-then-min-lt-HEADER_OCTETS-clause-front g c = λ octets told.
     let room = c.args.room in
     let held = c.fill.new.held in
     let read = first_read (min 12 (room + 1)) _ octets _ held _ _ c.min.ensures c.new-start.ensures.empty told c.in_ok-fill.ensures.fills in
-    let short : min (length held) room < HEADER = omega (arith, c.if-min-lt-HEADER.true, c.min-2.ensures, c.len.ensures.len) in
-    rw (c.cut.ensures.front ∙ ap (λ (n : ℕ). cut room n) c.len-then-min-lt-HEADER.ensures.len) (is_short room octets _ held read short)
+    let short : min (length held) room < HEADER = omega (arith, c.if-min-lt-HEADER_OCTETS.true, c.min-2.ensures, c.len.ensures.len) in
+    rw (c.cut.ensures.front ∙ ap (λ (n : ℕ). cut room n) c.len-then-min-lt-HEADER_OCTETS.ensures.len) (is_short room octets _ held read short)
 
 pub returns-then-is_refused-clause-front : goal.returns-then-is_refused-clause-front
 returns-then-is_refused-clause-front g c = λ octets told.
     let room = c.args.room in
     let held = c.fill.new.held in
     let read = first_read (min 12 (room + 1)) _ octets _ held _ _ c.min.ensures c.new-start.ensures.empty told c.in_ok-fill.ensures.fills in
-    let long : HEADER ≤ min (length held) room = omega (arith, c.if-min-lt-HEADER.false, c.min-2.ensures, c.len.ensures.len) in
+    let long : HEADER ≤ min (length held) room = omega (arith, c.if-min-lt-HEADER_OCTETS.false, c.min-2.ensures, c.len.ensures.len) in
     let said : c.read_header-header.result ≡ header_of held = c.read_header-header.ensures.header ∙ ap header_of c.as_slice.ensures.items in
     is_unsupported room octets _ held read long (ap (is_refused REPORT_TYPES) (sym said) ∙ sym c.is_refused.ensures.refused ∙ c.if-is_refused.true)
 
@@ -44,7 +44,7 @@ returns-in-Done-clause-front g c = λ octets told.
     let room = c.args.room in
     let held = c.fill.new.held in
     let read = first_read (min 12 (room + 1)) _ octets _ held _ _ c.min.ensures c.new-start.ensures.empty told c.in_ok-fill.ensures.fills in
-    let long : HEADER ≤ min (length held) room = omega (arith, c.if-min-lt-HEADER.false, c.min-2.ensures, c.len.ensures.len) in
+    let long : HEADER ≤ min (length held) room = omega (arith, c.if-min-lt-HEADER_OCTETS.false, c.min-2.ensures, c.len.ensures.len) in
     let said : c.read_header-header.result ≡ header_of held = c.read_header-header.ensures.header ∙ ap header_of c.as_slice.ensures.items in
     let passed : is_refused REPORT_TYPES (header_of held) ≡ false = ap (is_refused REPORT_TYPES) (sym said) ∙ sym c.is_refused.ensures.refused ∙ c.if-is_refused.false in
     let takes = fresh_takes c.new-feed.result c.feed.new.self _ held _ c.new-feed.ensures.fresh c.as_slice-2.ensures.items c.in-Done.ensures.fed in
@@ -57,7 +57,7 @@ pub returns-in-Done-clause-within : goal.returns-in-Done-clause-within
 returns-in-Done-clause-within g c =
     let room = c.args.room in
     let held = c.fill.new.held in
-    let long : HEADER ≤ min (length held) room = omega (arith, c.if-min-lt-HEADER.false, c.min-2.ensures, c.len.ensures.len) in
+    let long : HEADER ≤ min (length held) room = omega (arith, c.if-min-lt-HEADER_OCTETS.false, c.min-2.ensures, c.len.ensures.len) in
     let said : c.read_header-header.result ≡ header_of held = c.read_header-header.ensures.header ∙ ap header_of c.as_slice.ensures.items in
     let takes = fresh_takes c.new-feed.result c.feed.new.self _ held _ c.new-feed.ensures.fresh c.as_slice-2.ensures.items c.in-Done.ensures.fed in
     let size : length held ≡ HEADER = omega (arith, c.in_ok-fill.ensures.within, c.min.ensures, long) in
@@ -70,7 +70,7 @@ returns-in-Fault-clause-front g c = λ octets told.
     let room = c.args.room in
     let held = c.fill.new.held in
     let read = first_read (min 12 (room + 1)) _ octets _ held _ _ c.min.ensures c.new-start.ensures.empty told c.in_ok-fill.ensures.fills in
-    let long : HEADER ≤ min (length held) room = omega (arith, c.if-min-lt-HEADER.false, c.min-2.ensures, c.len.ensures.len) in
+    let long : HEADER ≤ min (length held) room = omega (arith, c.if-min-lt-HEADER_OCTETS.false, c.min-2.ensures, c.len.ensures.len) in
     let said : c.read_header-header.result ≡ header_of held = c.read_header-header.ensures.header ∙ ap header_of c.as_slice.ensures.items in
     let passed : is_refused REPORT_TYPES (header_of held) ≡ false = ap (is_refused REPORT_TYPES) (sym said) ∙ sym c.is_refused.ensures.refused ∙ c.if-is_refused.false in
     let takes = fresh_takes c.new-feed.result c.feed.new.self _ held _ c.new-feed.ensures.fresh c.as_slice-2.ensures.items c.in-Fault.ensures.fed in
