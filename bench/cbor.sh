@@ -9,12 +9,13 @@
 # Needs python3, awk, sha256sum and GNU time (/usr/bin/time).
 #
 # The first table has one item of 1, 4 and 16 MiB of each shape, read at once (`read`) and fed in pieces of 64 octets
-# (`feed 64`). Columns: the shape; its MiB; what was done; the wall time, the lowest of all runs; the time for each octet,
-# and the same over that of 1 MiB, which grows as the logarithm where the time grows as n log n; the peak memory, the
-# highest of all runs; and the octets of it for each octet of input. The input is held whole, and is in the figures.
+# (`feed 64`). Columns: the shape; its MiB; what was done; the time of the processor, user and system, the lowest of all
+# runs; the time for each octet, and the same over that of 1 MiB, which grows as the logarithm where the time grows as
+# n log n; the peak memory, the highest of all runs; and the octets of it for each octet of input. The input is held whole,
+# and is in the figures.
 #
 # The second table has 50 MB of tags, which are read one after another (`read`), and written again too (`write`), beside
-# `sha256sum` of the same octets. The goal of the last row is a ratio below 4.
+# `sha256sum` of the same octets, in the same time. The three are run in turns. The goal is a ratio below 4.
 
 set -u
 
@@ -41,18 +42,22 @@ folder=$(mktemp -d) || exit 1
 trap 'rm -rf -- "$folder"' EXIT
 input=$folder/input
 
-# Runs a command on the input, and prints its lowest microseconds, its highest KiB, and the last line that it printed.
+# Runs a command on the input, and prints its microseconds, its KiB, and the last line that it printed.
+once() {
+    local TIMEFORMAT='%3U %3S' took user system
+    took=$({ time /usr/bin/time -q -f %M -o "$folder/kib" "$@" <"$input" >"$folder/output"; } 2>&1)
+    read -r user system <<<"${took//[.,]/}"
+    printf '%s\t%s\t%s\n' "$(((10#$user + 10#$system) * 1000))" "$(<"$folder/kib")" "$(tail -n 1 "$folder/output")"
+}
+
+# The lowest time and the highest memory of lines that `once` printed.
+summary() {
+    awk -F '\t' 'NR == 1 || $1 < best { best = $1 } $2 > peak { peak = $2 } END { printf "%d\t%d\t%s\n", best, peak, $3 }'
+}
+
+# Runs a command on the input as often as is asked for, and prints the summary.
 run() {
-    local best='' peak=0 start took used
-    for ((run = 0; run < runs; run++)); do
-        start=${EPOCHREALTIME/[.,]/}
-        /usr/bin/time -q -f %M -o "$folder/kib" "$@" <"$input" >"$folder/output"
-        took=$((${EPOCHREALTIME/[.,]/} - start))
-        used=$(<"$folder/kib")
-        if [ -z "$best" ] || [ "$took" -lt "$best" ]; then best=$took; fi
-        if [ "$used" -gt "$peak" ]; then peak=$used; fi
-    done
-    printf '%s\t%s\t%s\n' "$best" "$peak" "$(tail -n 1 "$folder/output")"
+    for ((turn = 0; turn < runs; turn++)); do once "$@"; done | summary
 }
 
 # Prints a line for each way to read a shape: shape, MiB, octets, way, microseconds, KiB, what it printed.
@@ -80,9 +85,11 @@ for shape in keys rising fronts maps array chunks deep keyed; do hostile "$shape
 
 python3 "$top/bench/cbor_items.py" tags 48 "$input" || exit 1
 {
-    printf 'sha256sum\t%s\n' "$(run sha256sum)"
-    printf 'read\t%s\n' "$(run "$program" read)"
-    printf 'write\t%s\n' "$(run "$program" write)"
+    for ((turn = 0; turn < runs; turn++)); do
+        once sha256sum >>"$folder/sha256sum"
+        for way in read write; do once "$program" "$way" >>"$folder/$way"; done
+    done
+    for way in sha256sum read write; do printf '%s\t%s\n' "$way" "$(summary <"$folder/$way")"; done
 } | awk -F '\t' -v octets="$(stat -c %s -- "$input")" '
     BEGIN {
         printf "\n%d octets of tags\n\n%-10s %9s %9s %6s %9s\n", octets, "", "ms", "ns/octet", "ratio", "KiB"

@@ -1,6 +1,6 @@
 -- Runs of the code over pieces, as the machine's.
 use Rattle.std.proofs.Common.{◌≡◌, ℕ, zero, suc, ◌+◌, ◌-◌, ◌*◌, ◌^◌, ◌<◌, ◌≤◌, List, [], ◌∷◌, ◌++◌, length, get_or, take, drop, refl, sym, ap, ◌∙◌, arith, subst, true, false, append_assoc}
-use Rattle.std.proofs.lemmas.List.{append-nil, take-append-drop, drop-drop, drop_all}
+use Rattle.std.proofs.lemmas.List.{append-nil, take-append-drop, drop-drop, drop_all, length-take-le, length-drop}
 use Rattle.cbor_det.specs.declared.kind.Kind.{Kind}
 use Rattle.cbor_det.specs.declared.limits.Limits.{Limits}
 use Rattle.cbor_det.specs.declared.initial.Major.{Major}
@@ -13,22 +13,25 @@ use Rattle.std.proofs.lemmas.Bool.{cond-true, cond-false}
 use Rattle.cbor_det.proofs.Completes.{content_reads}
 use Rattle.cbor_det.proofs.Outcome.{Same}
 
--- One octet of a piece.
-pub one_step : (limits : Limits) (i : ℕ) (σ τ : State) (b : ℕ) (piece : List ℕ) → 0 < length piece → b ≡ get_or piece 0 0 → is_over σ ≡ false → τ ≡ step limits i σ b
-    → run limits i σ piece ≡ run limits (i + 1) τ (drop 1 piece)
-one_step limits i σ τ b [] some at going is = absurd (omega arith)
-one_step limits i σ τ b (x ∷ xs) some at going is =
-    cond-false _ _ _ going ∙ ap (λ (y : ℕ). run limits (i + 1) (step limits i σ y) xs) (sym at) ∙ ap (λ (s : State). run limits (i + 1) s xs) (sym is)
+-- One octet.
+pub one_step : (limits : Limits) (i : ℕ) (σ τ : State) (b : ℕ) (octets rest : List ℕ) → length octets ≡ 1 → b ≡ get_or octets 0 0 → is_over σ ≡ false → τ ≡ step limits i σ b
+    → run limits i σ (octets ++ rest) ≡ run limits (i + length octets) τ rest
+one_step limits i σ τ b [] rest one at going is = absurd (omega arith)
+one_step limits i σ τ b (x ∷ []) rest one at going is =
+    cond-false _ _ _ going ∙ ap (λ (y : ℕ). run limits (i + 1) (step limits i σ y) rest) (sym at) ∙ ap (λ (s : State). run limits (i + 1) s rest) (sym is)
+one_step limits i σ τ b (x ∷ y ∷ xs) rest one at going is = absurd (omega arith)
 
-pub due_step : (limits : Limits) (i : ℕ) (p : Place) (τ : State) (x : Initial) (b : ℕ) (piece : List ℕ) → 0 < length piece → b ≡ get_or piece 0 0 → τ ≡ begun limits i p x → x ≡ initial_of b
-    → run limits i (due p) piece ≡ run limits (i + 1) τ (drop 1 piece)
+pub due_begins : (limits : Limits) (i : ℕ) (p : Place) (x y : Initial) (b : ℕ) → y ≡ x → y ≡ initial_of b → begun limits i p x ≡ step limits i (due p) b
 unfolding step
-due_step limits i p τ x b piece some at is byte =
-    one_step limits i (due p) τ b piece some at refl (is ∙ ap (λ (y : Initial). begun limits i p y) byte)
+due_begins limits i p x y b is byte = ap (λ (z : Initial). begun limits i p z) (sym is ∙ byte)
 
-pub head_step : (limits : Limits) (i : ℕ) (p : Place) (at : ℕ) (m : Major) (left n : ℕ) (τ : State) (b : ℕ) (piece : List ℕ) → 0 < length piece → b ≡ get_or piece 0 0
-    → τ ≡ step limits i (argument p at m left n) b → run limits i (argument p at m left n) piece ≡ run limits (i + 1) τ (drop 1 piece)
-head_step limits i p at m left n τ b piece some is stepped = one_step limits i (argument p at m left n) τ b piece some is refl stepped
+pub due_step : (limits : Limits) (i : ℕ) (p : Place) (τ : State) (b : ℕ) (octets rest : List ℕ) → length octets ≡ 1 → b ≡ get_or octets 0 0 → τ ≡ step limits i (due p) b
+    → run limits i (due p) (octets ++ rest) ≡ run limits (i + length octets) τ rest
+due_step limits i p τ b octets rest one at is = one_step limits i (due p) τ b octets rest one at refl is
+
+pub head_step : (limits : Limits) (i : ℕ) (p : Place) (at : ℕ) (m : Major) (left n : ℕ) (τ : State) (b : ℕ) (octets rest : List ℕ) → length octets ≡ 1 → b ≡ get_or octets 0 0
+    → τ ≡ step limits i (argument p at m left n) b → run limits i (argument p at m left n) (octets ++ rest) ≡ run limits (i + length octets) τ rest
+head_step limits i p at m left n τ b octets rest one is stepped = one_step limits i (argument p at m left n) τ b octets rest one is refl stepped
 
 above_one : (left : ℕ) → 1 ≤ left → (left ≡ 1 → ⊥) → 1 ≤ left - 1
 above_one left some ne = omega (arith, ne)
@@ -89,34 +92,38 @@ content_all : (limits : Limits) (p : Place) (at : ℕ) (kind : Kind) (left i : �
 content_all limits p at kind zero i came front rest some len = absurd (omega arith)
 content_all limits p at kind (suc k) i came front rest some len = content_reads limits p at kind k i came front rest len
 
-pub string_goes : (limits : Limits) (i : ℕ) (p : Place) (at : ℕ) (kind : Kind) (left count : ℕ) (came front after piece : List ℕ) → front ≡ take count piece → length front ≡ count
-    → after ≡ came ++ front → count < left → run limits i (content p at kind left came) piece ≡ run limits (i + count) (content p at kind (left - count) after) (drop count piece)
-string_goes limits i p at kind left count came front after piece is len joined lt =
-    ap (λ (x : List ℕ). run limits i (content p at kind left came) x) (sym (take-append-drop count piece))
-    ∙ ap (λ (x : List ℕ). run limits i (content p at kind left came) (x ++ drop count piece)) (sym is)
-    ∙ content_part limits p at kind left i came front (drop count piece) (omega arith)
-    ∙ ap (λ (k : ℕ). run limits (i + k) (content p at kind (left - k) (came ++ front)) (drop count piece)) len
-    ∙ ap (λ (s : List ℕ). run limits (i + count) (content p at kind (left - count) s) (drop count piece)) (sym joined)
+pub string_goes : (limits : Limits) (i : ℕ) (p : Place) (at : ℕ) (kind : Kind) (left : ℕ) (came octets after rest : List ℕ)
+    → after ≡ came ++ octets → length octets < left → run limits i (content p at kind left came) (octets ++ rest) ≡ run limits (i + length octets) (content p at kind (left - length octets) after) rest
+string_goes limits i p at kind left came octets after rest joined lt =
+    content_part limits p at kind left i came octets rest lt
+    ∙ ap (λ (s : List ℕ). run limits (i + length octets) (content p at kind (left - length octets) s) rest) (sym joined)
 
-pub string_stops : (limits : Limits) (i : ℕ) (p : Place) (at : ℕ) (kind : Kind) (left count : ℕ) (came front after piece : List ℕ) (σ : State) → front ≡ take count piece → length front ≡ count
-    → after ≡ came ++ front → count ≡ left → 1 ≤ left → σ ≡ string_ended p at kind after → run limits i (content p at kind left came) piece ≡ run limits (i + count) σ (drop count piece)
-string_stops limits i p at kind left count came front after piece σ is len joined all some ends =
-    ap (λ (x : List ℕ). run limits i (content p at kind left came) x) (sym (take-append-drop count piece))
-    ∙ ap (λ (x : List ℕ). run limits i (content p at kind left came) (x ++ drop count piece)) (sym is)
-    ∙ content_all limits p at kind left i came front (drop count piece) some (omega arith)
-    ∙ ap (λ (k : ℕ). run limits (i + k) (string_ended p at kind (came ++ front)) (drop count piece)) len
-    ∙ ap (λ (s : List ℕ). run limits (i + count) (string_ended p at kind s) (drop count piece)) (sym joined)
-    ∙ ap (λ (s : State). run limits (i + count) s (drop count piece)) (sym ends)
+pub string_stops : (limits : Limits) (i : ℕ) (p : Place) (at : ℕ) (kind : Kind) (left : ℕ) (came octets after rest : List ℕ) (σ : State)
+    → after ≡ came ++ octets → length octets ≡ left → 1 ≤ left → σ ≡ string_ended p at kind after → run limits i (content p at kind left came) (octets ++ rest) ≡ run limits (i + length octets) σ rest
+string_stops limits i p at kind left came octets after rest σ joined all some ends =
+    content_all limits p at kind left i came octets rest some all
+    ∙ ap (λ (s : List ℕ). run limits (i + length octets) (string_ended p at kind s) rest) (sym joined)
+    ∙ ap (λ (s : State). run limits (i + length octets) s rest) (sym ends)
 
 -- the loop over a piece
 
-pub run_goes : (limits : Limits) (taken used count : ℕ) (start σ τ : State) (piece rest : List ℕ) → rest ≡ drop used piece → run limits taken start piece ≡ run limits (taken + used) σ (drop used piece)
-    → run limits (taken + used) σ rest ≡ run limits (taken + used + count) τ (drop count rest)
+pub front_is : (piece : List ℕ) (used count : ℕ) → take (used + count - used) (drop used piece) ≡ take count (drop used piece)
+front_is piece used count = let e : used + count - used ≡ count = omega arith in ap (λ (n : ℕ). take n (drop used piece)) e
+
+pub front_len : (piece : List ℕ) (used count : ℕ) → count ≤ length piece - used → length (take (used + count - used) (drop used piece)) ≡ count
+front_len piece used count le =
+    let l = length-drop used piece in
+    ap (λ (xs : List ℕ). length xs) (front_is piece used count) ∙ length-take-le count (drop used piece) (omega (arith, l, le))
+
+pub run_goes : (limits : Limits) (taken used count : ℕ) (start σ τ : State) (piece front : List ℕ) → front ≡ take count (drop used piece) → length front ≡ count
+    → run limits taken start piece ≡ run limits (taken + used) σ (drop used piece)
+    → ((rest : List ℕ) → run limits (taken + used) σ (front ++ rest) ≡ run limits (taken + used + length front) τ rest)
     → run limits taken start piece ≡ run limits (taken + (used + count)) τ (drop (used + count) piece)
-run_goes limits taken used count start σ τ piece rest is was step =
+run_goes limits taken used count start σ τ piece front is len was step =
     let e : taken + used + count ≡ taken + (used + count) = omega arith in
-    was ∙ ap (λ (x : List ℕ). run limits (taken + used) σ x) (sym is) ∙ step
-    ∙ ap (λ (x : List ℕ). run limits (taken + used + count) τ (drop count x)) is
+    was ∙ ap (λ (x : List ℕ). run limits (taken + used) σ x) (sym (take-append-drop count (drop used piece)))
+    ∙ ap (λ (x : List ℕ). run limits (taken + used) σ (x ++ drop count (drop used piece))) (sym is) ∙ step (drop count (drop used piece))
+    ∙ ap (λ (k : ℕ). run limits (taken + used + k) τ (drop count (drop used piece))) len
     ∙ ap (λ (k : ℕ). run limits k τ (drop count (drop used piece))) e
     ∙ ap (λ (x : List ℕ). run limits (taken + (used + count)) τ x) (drop-drop count used piece)
 

@@ -1,5 +1,5 @@
 -- The state of the machine as the code has it: frames, of which the last is the innermost, and what is read there.
-use Rattle.std.specs.Prelude.{◌<◌, ◌≤◌, ◌-◌, ◌^◌, ℕ, List, [], ◌∷◌, ◌++◌, map, Option, Some, None}
+use Rattle.std.specs.Prelude.{◌≡◌, ◌<◌, ◌≤◌, ◌-◌, ◌^◌, ℕ, List, [], ◌∷◌, ◌++◌, map, Option, Some, None}
 use Rattle.cbor_det.specs.declared.frame.Frame.{Frame}
 use Rattle.cbor_det.specs.declared.frame.Frame.TheVariants as frame
 use Rattle.cbor_det.specs.declared.frame.Phase.{Phase}
@@ -55,6 +55,12 @@ abbrev pub Fits : Phase → Type 0
 Fits phase.Due = Unit {0}
 Fits (phase.Head head) = ArgumentFits head.left head.number
 Fits (phase.String string) = 1 ≤ string.left
+
+-- The octets that are taken at once are one, or so many of a definite string.
+abbrev pub Takes : Phase → ℕ → Type 0
+Takes phase.Due count = count ≡ 1
+Takes (phase.Head head) count = count ≡ 1
+Takes (phase.String string) count = (1 ≤ count) × (count ≤ string.left)
 
 abbrev pub StepFits : Stepped → Type 0
 StepFits (stepped.Goes phase) = Fits phase

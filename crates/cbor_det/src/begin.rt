@@ -2,8 +2,8 @@
 
 ghost use Rattle.std.specs.Prelude.{◌≡◌, ◌<◌, ℕ, IfOk};
 ghost use Rattle.cbor_det.specs.Faults.{Place};
-ghost use Rattle.cbor_det.specs.Frames.{inside, place, state_of, StepFits, chunk_kind, low_kind, end_state, BeginFits, InitialFits};
-ghost use Rattle.cbor_det.specs.Machine.{begun, opened, string_head, same_kind};
+ghost use Rattle.cbor_det.specs.Frames.{inside, place, state_of, StepFits, chunk_kind, low_kind, end_state, BeginFits};
+ghost use Rattle.cbor_det.specs.Machine.{begun, due, opened, step, string_head, same_kind};
 ghost use Rattle.cbor_det.specs.declared.initial.Initial.TheVariants as initial;
 ghost use Rattle.cbor_det.specs.declared.initial.Beginning.TheVariants as beginning;
 ghost use Rattle.cbor_det.specs.declared.initial.Major.TheVariants as major;
@@ -13,7 +13,7 @@ use crate::fault::{CborFault, DEPTH, FLOAT, MALFORMED, SIMPLE};
 use crate::frame::{Frame, PartialHead, Phase, Stepped};
 use crate::give::{give, opens};
 use crate::head::argued;
-use crate::initial::{Beginning, Initial, Major};
+use crate::initial::{Beginning, Initial, Major, initial_of};
 use crate::item::Item;
 use crate::kind::Kind;
 use crate::limits::Limits;
@@ -21,22 +21,21 @@ use crate::string::string_ended;
 use std::alloc::Global;
 use wire_base::Memory;
 
-/// Begins or ends what the initial byte says, after `taken` octets of the item.
+/// Begins or ends what an initial byte says, after `taken` octets of the item.
 pub(crate) fn begun(
     alloc: Global,
     limits: Limits,
     taken: u64,
     stack: &mut Vec<Frame>,
-    initial: Initial,
+    octet: u8,
 ) -> Result<Stepped, Memory>
     requires room { taken < limits.octets }
-    requires head { InitialFits initial }
-    ensures begun { IfOk result (λ came. state_of (place stack.new.items) came ≡ begun limits taken (place stack.old.items) initial) }
+    ensures stepped { IfOk result (λ came. state_of (place stack.new.items) came ≡ step limits taken (due (place stack.old.items)) octet) }
     ensures fits { IfOk result StepFits }
 {
-    match initial {
-        Initial::Item(beginning) => Ok(begin(alloc, limits, taken, stack, beginning)?),
-        Initial::Break => Ok(end(alloc, taken, stack)?),
+    match initial_of(octet) {
+        Initial::Item(beginning) => begin(alloc, limits, taken, stack, beginning),
+        Initial::Break => end(alloc, taken, stack),
         Initial::Float => Ok(refused(stack.as_slice(), taken, FLOAT)),
         Initial::Simple => Ok(refused(stack.as_slice(), taken, SIMPLE)),
         Initial::Malformed => Ok(refused(stack.as_slice(), taken, MALFORMED)),
@@ -101,7 +100,7 @@ fn begin(
                     at: taken,
                 }));
             }
-            Ok(opened(alloc, limits, taken, stack, beginning)?)
+            opened(alloc, limits, taken, stack, beginning)
         }
         None => {
             if stack.len() as u64 >= u64::from(limits.depth) {
@@ -110,7 +109,7 @@ fn begin(
                     at: taken,
                 }));
             }
-            Ok(opened(alloc, limits, taken, stack, beginning)?)
+            opened(alloc, limits, taken, stack, beginning)
         }
     }
 }
@@ -175,7 +174,7 @@ fn opened(
     ensures fits { IfOk result StepFits }
 {
     match beginning {
-        Beginning::Argued(major, argument) => Ok(argued(
+        Beginning::Argued(major, argument) => argued(
             alloc,
             limits,
             taken + 1,
@@ -183,17 +182,14 @@ fn opened(
             taken,
             major,
             argument,
-        )?),
-        Beginning::Argument(major, left) => Ok(Stepped::Goes(Phase::Head(PartialHead {
-            at: taken,
-            major,
-            left,
-            number: 0,
-        }))),
-        Beginning::Chunks(kind) => Ok(opens(stack, Frame::chunks(alloc, taken, kind))?),
-        Beginning::Elements => Ok(opens(stack, Frame::elements(alloc, taken, None))?),
-        Beginning::Members => Ok(opens(stack, Frame::map(alloc, taken, None))?),
-        Beginning::Bool(value) => Ok(give(alloc, stack, taken, Item::Bool(value))?),
+        ),
+        Beginning::Argument(major, left) => Ok(Stepped::Goes(Phase::Head(PartialHead::new(
+            taken, major, left,
+        )))),
+        Beginning::Chunks(kind) => opens(stack, Frame::chunks(alloc, taken, kind)),
+        Beginning::Elements => opens(stack, Frame::elements(alloc, taken, None)),
+        Beginning::Members => opens(stack, Frame::map(alloc, taken, None)),
+        Beginning::Bool(value) => give(alloc, stack, taken, Item::Bool(value)),
     }
 }
 
@@ -207,7 +203,7 @@ fn end(alloc: Global, taken: u64, stack: &mut Vec<Frame>) -> Result<Stepped, Mem
             kind: MALFORMED,
             at: taken,
         })),
-        Some(frame) => Ok(end_of(alloc, taken, stack, frame)?),
+        Some(frame) => end_of(alloc, taken, stack, frame),
     }
 }
 
@@ -223,12 +219,12 @@ fn end_of(
     ensures fits { IfOk result StepFits }
 {
     match frame {
-        Frame::Chunks { at, kind, joined } => Ok(string_ended(alloc, stack, at, kind, joined)?),
+        Frame::Chunks { at, kind, joined } => string_ended(alloc, stack, at, kind, joined),
         Frame::Elements { at, all, items } => {
             if all.is_some() {
                 return Ok(unended(taken));
             }
-            Ok(give(alloc, stack, at, Item::Array(items))?)
+            give(alloc, stack, at, Item::Array(items))
         }
         Frame::Map { at, all, members } => {
             if all.is_some() {
@@ -237,7 +233,8 @@ fn end_of(
             if !members.is_key_due() {
                 return Ok(unended(taken));
             }
-            Ok(give(alloc, stack, at, Item::Map(members.into_pairs(alloc)?))?)
+            let mut members = members;
+            give(alloc, stack, at, Item::Map(members.take_pairs(alloc)?))
         }
         Frame::Content { .. } => Ok(unended(taken)),
     }

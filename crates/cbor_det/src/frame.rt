@@ -77,6 +77,20 @@ pub(crate) struct PartialHead {
     pub(crate) number: u64,
 }
 
+impl PartialHead {
+    /// A head without an octet of its argument so far.
+    pub(crate) fn new(at: u64, major: Major, left: u8) -> Self
+        ensures made { result ≡ record { at = at; major = major; left = left; number = 0 } }
+    {
+        PartialHead {
+            at,
+            major,
+            left,
+            number: 0,
+        }
+    }
+}
+
 /// A definite string, begun at the offset `at`, of which `left` more octets are due behind those that came.
 #[derive(Drop)]
 pub(crate) struct PartialString {

@@ -78,12 +78,12 @@ fn take_in(alloc: Global, frame: &mut Frame, at: u64, item: Item) -> Result<Take
             at: began,
             all,
             items,
-        } => Ok(take_element(alloc, *began, *all, items, item)?),
+        } => take_element(alloc, *began, *all, items, item),
         Frame::Map {
             at: began,
             all,
             members,
-        } => Ok(take_member(alloc, *began, *all, members, at, item)?),
+        } => take_member(alloc, *began, *all, members, at, item),
         Frame::Content { at: began, number } => {
             Ok(Taken::Ended(*began, Item::Tag(*number, Boxed::new(alloc, item)?)))
         }
@@ -130,8 +130,7 @@ fn take_member(
         }));
     }
     if members.is_whole(all) {
-        let whole = mem::replace(members, Members::new(alloc));
-        return Ok(Taken::Ended(at, Item::Map(whole.into_pairs(alloc)?)));
+        return Ok(Taken::Ended(at, Item::Map(members.take_pairs(alloc)?)));
     }
     Ok(Taken::Open)
 }

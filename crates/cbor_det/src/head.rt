@@ -39,20 +39,20 @@ pub(crate) fn argued(
             if argument >= 1 << 63 {
                 return Ok(Stepped::Fault(CborFault { kind: RANGE, at }));
             }
-            Ok(give(alloc, stack, at, Item::Int(argument as i64))?)
+            give(alloc, stack, at, Item::Int(argument as i64))
         }
         Major::Negative => {
             if argument >= 1 << 63 {
                 return Ok(Stepped::Fault(CborFault { kind: RANGE, at }));
             }
-            Ok(give(alloc, stack, at, Item::Int(-1 - argument as i64))?)
+            give(alloc, stack, at, Item::Int(-1 - argument as i64))
         }
-        Major::String(kind) => Ok(begin_string(alloc, limits, taken, stack, at, kind, argument)?),
-        Major::Array => Ok(begin_array(alloc, stack, at, argument)?),
-        Major::Map => Ok(begin_map(alloc, stack, at, argument)?),
+        Major::String(kind) => begin_string(alloc, limits, taken, stack, at, kind, argument),
+        Major::Array => begin_array(alloc, stack, at, argument),
+        Major::Map => begin_map(alloc, stack, at, argument),
         Major::Tag => {
             let number = argument;
-            Ok(opens(stack, Frame::Content { at, number })?)
+            opens(stack, Frame::Content { at, number })
         }
     }
 }
@@ -78,7 +78,7 @@ fn begin_string(
     }
     let came = List::new(alloc);
     if len == 0 {
-        return Ok(string_ended(alloc, stack, at, kind, came)?);
+        return string_ended(alloc, stack, at, kind, came);
     }
     Ok(Stepped::Goes(Phase::String(PartialString {
         at,
@@ -100,9 +100,9 @@ fn begin_array(
     ensures fits { IfOk result StepFits }
 {
     if count == 0 {
-        return Ok(give(alloc, stack, at, Item::Array(List::new(alloc)))?);
+        return give(alloc, stack, at, Item::Array(List::new(alloc)));
     }
-    Ok(opens(stack, Frame::elements(alloc, at, Some(count)))?)
+    opens(stack, Frame::elements(alloc, at, Some(count)))
 }
 
 /// A map of `count` pairs.
@@ -112,7 +112,7 @@ fn begin_map(alloc: Global, stack: &mut Vec<Frame>, at: u64, count: u64) -> Resu
     ensures fits { IfOk result StepFits }
 {
     if count == 0 {
-        return Ok(give(alloc, stack, at, Item::Map(Pairs::new(alloc)))?);
+        return give(alloc, stack, at, Item::Map(Pairs::new(alloc)));
     }
-    Ok(opens(stack, Frame::map(alloc, at, Some(count)))?)
+    opens(stack, Frame::map(alloc, at, Some(count)))
 }

@@ -168,6 +168,15 @@ impl Ordered {
         }
         Ok(true)
     }
+
+    /// The pairs. None are left.
+    fn take_pairs(&mut self, alloc: Global) -> Result<Pairs, Memory>
+        ensures pairs { IfOk result (λ made. pairs_view made ≡ entries_view self.old.entries.entries) }
+    {
+        let entries = mem::replace(&mut self.entries, BTreeMap::new(alloc));
+        let pairs = List::from_vec(values(alloc, entries)?);
+        Ok(Pairs { pairs })
+    }
 }
 
 impl Members {
@@ -193,6 +202,20 @@ impl Members {
                     rising.take(item)?;
                     return Ok(true);
                 }
+                self.take_below(alloc, item)
+            }
+        }
+    }
+
+    /// Takes a key that is not above all that are held; false where it is held.
+    fn take_below(&mut self, alloc: Global, item: Item) -> Result<bool, Memory>
+        requires key { due_key self.old ≡ None }
+        ensures taken { IfOk result
+            (λ free. IsTaken (members_view self.old) (due_key self.old) (view item) free (members_view self.new) (due_key self.new)) }
+    {
+        match self {
+            Members::Ordered(ordered) => ordered.take(alloc, item),
+            Members::Rising(rising) => {
                 let pairs = mem::replace(&mut rising.pairs, List::new(alloc));
                 let mut ordered = Ordered::of(alloc, pairs)?;
                 let free = ordered.take(alloc, item)?;
@@ -224,20 +247,16 @@ impl Members {
         }
     }
 
-    /// The pairs of the map, which has been read whole.
-    pub(crate) fn into_pairs(self, alloc: Global) -> Result<Pairs, Memory>
-        ensures pairs { IfOk result (λ made. pairs_view made ≡ members_view self) }
+    /// The pairs of the map, which has been read whole. None are left.
+    pub(crate) fn take_pairs(&mut self, alloc: Global) -> Result<Pairs, Memory>
+        ensures pairs { IfOk result (λ made. pairs_view made ≡ members_view self.old) }
     {
         match self {
             Members::Rising(rising) => {
-                let Rising { pairs, .. } = rising;
+                let Rising { pairs, .. } = mem::replace(rising, Rising::new(alloc));
                 Ok(Pairs { pairs })
             }
-            Members::Ordered(ordered) => {
-                let Ordered { entries, .. } = ordered;
-                let pairs = List::from_vec(values(alloc, entries)?);
-                Ok(Pairs { pairs })
-            }
+            Members::Ordered(ordered) => ordered.take_pairs(alloc),
         }
     }
 }

@@ -1,14 +1,13 @@
 //! Reading octets of an item, in any pieces.
 
-ghost use Rattle.std.specs.Prelude.{◌≡◌, ◌+◌, ◌^◌, ◌<◌, ◌≤◌, ℕ, IfOk, drop, length};
+ghost use Rattle.std.specs.Prelude.{◌≡◌, ◌+◌, ◌++◌, ◌^◌, ◌<◌, ◌≤◌, ℕ, List, IfOk, drop, length};
 ghost use Rattle.cbor_det.specs.declared.limits.Limits.{Limits};
-ghost use Rattle.cbor_det.specs.Frames.{place, state_of, phase_state, ArgumentFits, Fits, StepFits, EndsBehindSome};
+ghost use Rattle.cbor_det.specs.Frames.{place, state_of, phase_state, ArgumentFits, Fits, StepFits, EndsBehindSome, Takes};
 ghost use Rattle.cbor_det.specs.Machine.{argument, content, run, step};
 
 use crate::begin::begun;
 use crate::frame::{Frame, PartialHead, PartialString, Phase, Stepped};
 use crate::head::argued;
-use crate::initial::initial_of;
 use crate::limits::Limits;
 use crate::string::string_ended;
 use std::alloc::Global;
@@ -37,14 +36,9 @@ pub(crate) fn run_piece(
     let mut phase = phase;
     let mut used = 0;
     while used < piece.len() {
-        let (stepped, count) = advance(
-            alloc,
-            limits,
-            taken + used as u64,
-            stack,
-            phase,
-            &piece[used..],
-        )?;
+        let count = taken_at_once(&phase, piece.len() - used);
+        let front = &piece[used..used + count];
+        let stepped = advance(alloc, limits, taken + used as u64, stack, phase, front)?;
         used += count;
         match stepped {
             Stepped::Goes(next) => phase = next,
@@ -55,36 +49,42 @@ pub(crate) fn run_piece(
     Ok((Stepped::Goes(phase), used))
 }
 
-/// Reads the front of a piece: one octet, or as much of a string as there is. It tells how many octets that was.
+/// How many of so many octets are taken at once: one, or as much of a string as there is.
+fn taken_at_once(phase: &Phase, there: usize) -> usize
+    requires some { 0 < there }
+    requires fits { Fits phase.now }
+    ensures takes { Takes phase.now result }
+    ensures within { result ≤ there }
+{
+    match phase {
+        Phase::Due => 1,
+        Phase::Head(_) => 1,
+        Phase::String(string) => there.min(string.left as usize),
+    }
+}
+
+/// Takes these octets at once.
 fn advance(
     alloc: Global,
     limits: Limits,
     taken: u64,
     stack: &mut Vec<Frame>,
     phase: Phase,
-    piece: &[u8],
-) -> Result<(Stepped, usize), Memory>
-    requires some { 0 < length piece.now }
+    octets: &[u8],
+) -> Result<Stepped, Memory>
     requires small { limits.octets ≤ 2 ^ 24 }
-    requires room { taken + length piece.now ≤ limits.octets }
+    requires room { taken + length octets.now ≤ limits.octets }
     requires fits { Fits phase }
+    requires takes { Takes phase (length octets.now) }
     ensures ran { IfOk result
-        (λ read. run limits taken (phase_state (place stack.old.items) phase) piece.now
-        ≡ run limits (taken + read.1) (state_of (place stack.new.items) read.0) (drop read.1 piece.now)) }
-    ensures some { IfOk result (λ read. 0 < read.1) }
-    ensures within { IfOk result (λ read. read.1 ≤ length piece.now) }
-    ensures fits { IfOk result (λ read. StepFits read.0) }
+        (λ came. (rest : List ℕ) → run limits taken (phase_state (place stack.old.items) phase) (octets.now ++ rest)
+        ≡ run limits (taken + length octets.now) (state_of (place stack.new.items) came) rest) }
+    ensures fits { IfOk result StepFits }
 {
     match phase {
-        Phase::Due => {
-            let stepped = begun(alloc, limits, taken, stack, initial_of(piece[0]))?;
-            Ok((stepped, 1))
-        }
-        Phase::Head(head) => {
-            let stepped = argue(alloc, limits, taken, stack, head, piece[0])?;
-            Ok((stepped, 1))
-        }
-        Phase::String(string) => Ok(take_content(alloc, stack, string, piece)?),
+        Phase::Due => begun(alloc, limits, taken, stack, octets[0]),
+        Phase::Head(head) => argue(alloc, limits, taken, stack, head, octets[0]),
+        Phase::String(string) => take_content(alloc, stack, string, octets),
     }
 }
 
@@ -112,7 +112,7 @@ fn argue(
     } = head;
     let number = 256 * number + u64::from(octet);
     if left == 1 {
-        return Ok(argued(alloc, limits, taken + 1, stack, at, major, number)?);
+        return argued(alloc, limits, taken + 1, stack, at, major, number);
     }
     Ok(Stepped::Goes(Phase::Head(PartialHead {
         at,
@@ -122,20 +122,20 @@ fn argue(
     })))
 }
 
-/// Reads as much of a definite string as the piece has.
+/// Takes octets of a definite string.
 fn take_content(
     alloc: Global,
     stack: &mut Vec<Frame>,
     string: PartialString,
-    piece: &[u8],
-) -> Result<(Stepped, usize), Memory>
-    requires some { 0 < length piece.now }
-    requires left { 1 ≤ string.left }
+    octets: &[u8],
+) -> Result<Stepped, Memory>
+    requires some { 1 ≤ length octets.now }
+    requires left { length octets.now ≤ string.left }
     ensures ran { IfOk result
-        (λ read. (limits : Limits) → (taken : ℕ) → run limits taken (content (place stack.old.items) string.at string.kind string.left string.came) piece.now ≡ run limits (taken + read.1) (state_of (place stack.new.items) read.0) (drop read.1 piece.now)) }
-    ensures some { IfOk result (λ read. 0 < read.1) }
-    ensures within { IfOk result (λ read. read.1 ≤ length piece.now) }
-    ensures fits { IfOk result (λ read. StepFits read.0) }
+        (λ came. (limits : Limits) → (taken : ℕ) → (rest : List ℕ)
+        → run limits taken (content (place stack.old.items) string.at string.kind string.left string.came) (octets.now ++ rest)
+        ≡ run limits (taken + length octets.now) (state_of (place stack.new.items) came) rest) }
+    ensures fits { IfOk result StepFits }
 {
     let PartialString {
         at,
@@ -143,22 +143,16 @@ fn take_content(
         left,
         came,
     } = string;
-    let count = piece.len().min(left as usize);
-    let (front, _) = piece.split_at(count);
     let mut came = came;
-    came.extend(front)?;
-    let left = left - count as u64;
+    came.extend(octets)?;
+    let left = left - octets.len() as u64;
     if left == 0 {
-        let stepped = string_ended(alloc, stack, at, kind, came)?;
-        return Ok((stepped, count));
+        return string_ended(alloc, stack, at, kind, came);
     }
-    Ok((
-        Stepped::Goes(Phase::String(PartialString {
-            at,
-            kind,
-            left,
-            came,
-        })),
-        count,
-    ))
+    Ok(Stepped::Goes(Phase::String(PartialString {
+        at,
+        kind,
+        left,
+        came,
+    })))
 }

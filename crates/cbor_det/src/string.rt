@@ -28,8 +28,8 @@ pub(crate) fn string_ended(
     ensures fits { IfOk result StepFits }
 {
     match chunk_due(stack.as_slice()) {
-        None => Ok(string_item(alloc, stack, at, kind, octets)?),
-        Some(_) => Ok(chunk_ended(stack, at, kind, octets)?),
+        None => string_item(alloc, stack, at, kind, octets),
+        Some(_) => chunk_ended(stack, at, kind, octets),
     }
 }
 
@@ -86,11 +86,11 @@ fn string_item(
     ensures fits { IfOk result StepFits }
 {
     match kind {
-        Kind::ByteString => Ok(give(alloc, stack, at, Item::Bytes(octets))?),
+        Kind::ByteString => give(alloc, stack, at, Item::Bytes(octets)),
         Kind::TextString => {
             let text = text_of(octets);
             match text {
-                Some(text) => Ok(give(alloc, stack, at, Item::Text(text))?),
+                Some(text) => give(alloc, stack, at, Item::Text(text)),
                 None => Ok(Stepped::Fault(CborFault { kind: NOT_UTF8, at })),
             }
         }

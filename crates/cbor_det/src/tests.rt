@@ -53,6 +53,48 @@ fn reads_and_writes(rt: HostRuntime) -> Result<(), Fail> {
     Ok(())
 }
 
+/// The octets of a map from so many unsigned integers, each in a head of five octets, to 0, behind its own head.
+fn map_of(alloc: Global, head: &[u8], count: u32) -> Result<Vec<u8>, Fail> {
+    let mut octets = Vec::from_slice(alloc, head)?;
+    for key in 0..count {
+        octets.push(0x1a)?;
+        octets.extend_from_slice(&key.to_be_bytes())?;
+        octets.push(0)?;
+    }
+    Ok(octets)
+}
+
+/// How many octets the canonical spelling has, and whether it begins with these.
+fn written_front(alloc: Global, octets: &[u8], front: &[u8]) -> Result<(usize, bool), Fail> {
+    let (item, _) = read_item(alloc, octets, LARGEST)?;
+    let written = write_item(alloc, &item)?;
+    Ok((written.len(), written.as_slice().starts_with(front)))
+}
+
+#[test]
+fn reads_a_map_of_65535_pairs(rt: HostRuntime) -> Result<(), Fail> {
+    let octets = map_of(rt.alloc(), b"\xb9\xff\xff", 65_535)?;
+    let front = b"\xb9\xff\xff\x00\x00\x01\x00";
+    // The head of 3 octets, 24 keys of 1 octet, 232 of 2 and 65,279 of 3, and a value of 1 octet each.
+    assert_eq!(rt;
+        written_front(rt.alloc(), octets.as_slice(), front)?,
+        (261_863, true)
+    );
+    Ok(())
+}
+
+#[test]
+fn reads_a_map_of_65536_pairs(rt: HostRuntime) -> Result<(), Fail> {
+    let octets = map_of(rt.alloc(), b"\xba\x00\x01\x00\x00", 65_536)?;
+    let front = b"\xba\x00\x01\x00\x00\x00\x00\x01\x00";
+    // The head of 5 octets, and one key of 3 octets more.
+    assert_eq!(rt;
+        written_front(rt.alloc(), octets.as_slice(), front)?,
+        (261_869, true)
+    );
+    Ok(())
+}
+
 #[test]
 fn feeds_pieces(rt: HostRuntime) -> Result<(), Fail> {
     let mut feed = CborFeed::new(rt.alloc(), LARGEST);

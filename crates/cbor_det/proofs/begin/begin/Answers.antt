@@ -1,5 +1,6 @@
 -- An item begins, or a chunk.
 use Rattle.std.proofs.Common.{ap, ◌∙◌, List, arith}
+use Rattle.std.proofs.lemmas.Result.{IfOk-weaker}
 use Rattle.cbor_det.specs.declared.frame.Frame.{Frame}
 use Rattle.cbor_det.specs.Frames.{place, chunk_kind}
 use Rattle.cbor_det.proofs.Begins.{chunk_opens, chunk_stops, item_opens, item_deep}
@@ -10,10 +11,10 @@ returns-then-not-is_chunk-clause-begun c =
     chunk_stops c.args.limits c.args.taken (place c.args.stack.now.items) c.in-Some.kind c.args.beginning _
     (c.in-Some.ensures.kind ∙ ap (λ (fs : List Frame). chunk_kind (place fs)) c.as_slice.ensures.value) c.is_chunk.ensures.chunk c.if-not-is_chunk.true
 
-pub returns-in_ok-opened-in-Some-clause-begun : goal.returns-in_ok-opened-in-Some-clause-begun
-returns-in_ok-opened-in-Some-clause-begun c =
-    chunk_opens c.args.limits c.args.taken (place c.args.stack.now.items) c.in-Some.kind c.args.beginning _ _
-    (c.in-Some.ensures.kind ∙ ap (λ (fs : List Frame). chunk_kind (place fs)) c.as_slice.ensures.value) c.is_chunk.ensures.chunk c.if-not-is_chunk.false c.in_ok-opened-in-Some.ensures.opened
+pub returns-else-not-is_chunk-clause-begun : goal.returns-else-not-is_chunk-clause-begun
+returns-else-not-is_chunk-clause-begun c =
+    IfOk-weaker c.opened.result _ _ (λ came opens. chunk_opens c.args.limits c.args.taken (place c.args.stack.now.items) c.in-Some.kind c.args.beginning _ _
+    (c.in-Some.ensures.kind ∙ ap (λ (fs : List Frame). chunk_kind (place fs)) c.as_slice.ensures.value) c.is_chunk.ensures.chunk c.if-not-is_chunk.false opens) c.opened.ensures.opened
 
 pub returns-then-len-from-clause-begun : goal.returns-then-len-from-clause-begun
 returns-then-len-from-clause-begun c =
@@ -21,8 +22,8 @@ returns-then-len-from-clause-begun c =
     (c.in-None.ensures.kind ∙ ap (λ (fs : List Frame). chunk_kind (place fs)) c.as_slice.ensures.value)
     (omega (arith, c.len.ensures, c.from.ensures, c.args.stack.now.ok.0, c.if-len-from.true))
 
-pub returns-in_ok-opened-in-None-clause-begun : goal.returns-in_ok-opened-in-None-clause-begun
-returns-in_ok-opened-in-None-clause-begun c =
-    item_opens c.args.limits c.args.taken c.args.stack.now.items c.args.beginning _
+pub returns-else-len-from-clause-begun : goal.returns-else-len-from-clause-begun
+returns-else-len-from-clause-begun c =
+    IfOk-weaker c.opened-in-None.result _ _ (λ came opens. item_opens c.args.limits c.args.taken c.args.stack.now.items c.args.beginning _
     (c.in-None.ensures.kind ∙ ap (λ (fs : List Frame). chunk_kind (place fs)) c.as_slice.ensures.value)
-    (omega (arith, c.len.ensures, c.from.ensures, c.args.stack.now.ok.0, c.if-len-from.false)) c.in_ok-opened-in-None.ensures.opened
+    (omega (arith, c.len.ensures, c.from.ensures, c.args.stack.now.ok.0, c.if-len-from.false)) opens) c.opened-in-None.ensures.opened

@@ -1,21 +1,35 @@
 -- Each initial byte, as the machine takes it.
-use Rattle.std.proofs.Common.{ap, sym, ◌∙◌}
-use Rattle.cbor_det.specs.declared.initial.Initial.{Initial}
+use Rattle.std.proofs.Common.{refl, ◌∙◌}
+use Rattle.std.proofs.lemmas.Result.{IfOk-weaker}
 use Rattle.cbor_det.specs.Frames.{place}
-use Rattle.cbor_det.specs.Machine.{begun}
-use Rattle.cbor_det.proofs.Begins.{break_is, float_begun, simple_begun, malformed_begun}
+use Rattle.cbor_det.proofs.Begins.{break_is, float_begun, simple_begun, malformed_begun, fits_at}
+use Rattle.cbor_det.proofs.Runs.{due_begins}
 use Rattle.cbor_det.proofs.begin.begun.Goals as goal
 
-pub returns-in_ok-end-in-Break-clause-begun : goal.returns-in_ok-end-in-Break-clause-begun
-returns-in_ok-end-in-Break-clause-begun c =
-    c.in_ok-end-in-Break.ensures.ended ∙ break_is c.args.limits c.args.taken (place c.args.stack.now.items)
-    ∙ ap (λ (x : Initial). begun c.args.limits c.args.taken (place c.args.stack.now.items) x) (sym c.in-Break.is)
+pub begin-requires-clause-head : goal.begin-requires-clause-head
+begin-requires-clause-head c = rw c.in-Item.is at (fits_at _ c.initial_of.result c.initial_of.ensures.says)
 
-pub returns-in-Float-clause-begun : goal.returns-in-Float-clause-begun
-returns-in-Float-clause-begun c = float_begun c.args.limits c.args.taken _ _ _ _ c.as_slice.ensures.value c.refused.ensures.fault c.in-Float.is
+pub returns-in-Item-clause-stepped : goal.returns-in-Item-clause-stepped
+returns-in-Item-clause-stepped c =
+    IfOk-weaker c.begin.result _ _ (λ came begins. begins ∙ due_begins c.args.limits c.args.taken (place c.args.stack.now.items) _ _ c.args.octet c.in-Item.is c.initial_of.ensures.says)
+    c.begin.ensures.begun
 
-pub returns-in-Simple-clause-begun : goal.returns-in-Simple-clause-begun
-returns-in-Simple-clause-begun c = simple_begun c.args.limits c.args.taken _ _ _ _ c.as_slice-in-Simple.ensures.value c.refused-in-Simple.ensures.fault c.in-Simple.is
+pub returns-in-Break-clause-stepped : goal.returns-in-Break-clause-stepped
+returns-in-Break-clause-stepped c =
+    IfOk-weaker c.end.result _ _ (λ came ended. ended ∙ break_is c.args.limits c.args.taken (place c.args.stack.now.items)
+    ∙ due_begins c.args.limits c.args.taken (place c.args.stack.now.items) _ _ c.args.octet c.in-Break.is c.initial_of.ensures.says) c.end.ensures.ended
 
-pub returns-in-Malformed-clause-begun : goal.returns-in-Malformed-clause-begun
-returns-in-Malformed-clause-begun c = malformed_begun c.args.limits c.args.taken _ _ _ _ c.as_slice-in-Malformed.ensures.value c.refused-in-Malformed.ensures.fault c.in-Malformed.is
+pub returns-in-Float-clause-stepped : goal.returns-in-Float-clause-stepped
+returns-in-Float-clause-stepped c =
+    float_begun c.args.limits c.args.taken _ _ _ _ c.as_slice.ensures.value c.refused.ensures.fault c.in-Float.is
+    ∙ due_begins c.args.limits c.args.taken (place c.args.stack.now.items) _ c.initial_of.result c.args.octet refl c.initial_of.ensures.says
+
+pub returns-in-Simple-clause-stepped : goal.returns-in-Simple-clause-stepped
+returns-in-Simple-clause-stepped c =
+    simple_begun c.args.limits c.args.taken _ _ _ _ c.as_slice-in-Simple.ensures.value c.refused-in-Simple.ensures.fault c.in-Simple.is
+    ∙ due_begins c.args.limits c.args.taken (place c.args.stack.now.items) _ c.initial_of.result c.args.octet refl c.initial_of.ensures.says
+
+pub returns-in-Malformed-clause-stepped : goal.returns-in-Malformed-clause-stepped
+returns-in-Malformed-clause-stepped c =
+    malformed_begun c.args.limits c.args.taken _ _ _ _ c.as_slice-in-Malformed.ensures.value c.refused-in-Malformed.ensures.fault c.in-Malformed.is
+    ∙ due_begins c.args.limits c.args.taken (place c.args.stack.now.items) _ c.initial_of.result c.args.octet refl c.initial_of.ensures.says

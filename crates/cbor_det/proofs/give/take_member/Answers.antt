@@ -1,7 +1,4 @@
 -- A key is held, or an item more stands in the map.
-use Rattle.std.proofs.Common.{ap, ◌∙◌}
-use Rattle.cbor_det.specs.declared.members.Members.{Members}
-use Rattle.cbor_det.specs.Held.{members_view}
 use Rattle.cbor_det.proofs.Gives.{member_held, member_open, member_ends}
 use Rattle.cbor_det.proofs.give.take_member.Goals as goal
 
@@ -11,7 +8,7 @@ returns-then-not-branch c = record { taken = λ p. member_held _ _ _ _ _ p c.arg
 pub returns-then-is_whole : goal.returns-then-is_whole
 returns-then-is_whole c = record {
   taken = λ p. member_ends _ _ _ _ _ p c.args.began _ _ _ _ _ c.in_ok-take.ensures.taken c.if-not-branch.false c.is_whole.ensures.whole c.if-is_whole.true
-      (c.in_ok-into_pairs.ensures.pairs ∙ ap (λ (m : Members). members_view m) c.replace-whole.ensures.value);
+      c.in_ok-take_pairs.ensures.pairs;
 }
 
 pub returns : goal.returns

@@ -1,5 +1,6 @@
 -- An octet of an argument.
 use Rattle.std.proofs.Common.{◌<◌, ◌-◌, arith, ap, ◌∙◌, ℕ, ◌+◌, ◌*◌, subst, sym}
+use Rattle.std.proofs.lemmas.Result.{IfOk-weaker}
 use Rattle.cbor_det.specs.Frames.{place, ArgumentFits}
 use Rattle.cbor_det.specs.Machine.{argued, argument}
 use Rattle.cbor_det.proofs.Runs.{argue_fits, argue_next, argue_ends, argue_goes}
@@ -16,9 +17,9 @@ overflow_add-number c =
 
 pub returns-then-left-eq1-clause-stepped : goal.returns-then-left-eq1-clause-stepped
 returns-then-left-eq1-clause-stepped c =
-    argue_ends c.args.limits c.args.taken (place c.args.stack.now.items) c.args.head.at c.args.head.major c.args.head.left c.args.head.number c.args.octet _ c.if-left-eq1.true
-    (c.in_ok-argued.ensures.argued
-    ∙ ap (λ (k : ℕ). argued c.args.limits (c.args.taken + 1) (place c.args.stack.now.items) c.args.head.at c.args.head.major (256 * c.args.head.number + k)) c.from.ensures)
+    IfOk-weaker c.argued.result _ _ (λ came begins. argue_ends c.args.limits c.args.taken (place c.args.stack.now.items) c.args.head.at c.args.head.major c.args.head.left c.args.head.number c.args.octet _ c.if-left-eq1.true
+    (begins
+    ∙ ap (λ (k : ℕ). argued c.args.limits (c.args.taken + 1) (place c.args.stack.now.items) c.args.head.at c.args.head.major (256 * c.args.head.number + k)) c.from.ensures)) c.argued.ensures.argued
 
 pub returns-clause-stepped : goal.returns-clause-stepped
 returns-clause-stepped c =
