@@ -13,5 +13,5 @@ code_alone : (c : CodeValue) → IsAlone (code_item c)
 code_alone (code.Int z) = tt
 code_alone (code.Text s) = tt
 
-pub codes_law : Lawful (one_or_more a_code) (OneOrMore Code) codes_item 1
+pub codes_law : Lawful (one_or_more a_code) (OneOrMore Code) codes_item 0
 codes_law = several_law a_code Code code_item 0 code_law code_alone

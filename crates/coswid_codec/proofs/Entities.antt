@@ -4,12 +4,12 @@ use Rattle.cbor_det.specs.Lookup.{other_than}
 use Rattle.cbor_det.specs.Term.{Pairs, map, text}
 use Rattle.cbor_det.specs.View.{pairs_view}
 use Rattle.coswid_res.specs.Schema as schema
-use Rattle.coswid_res.specs.Schema.{table, keys_of, one, a_hash, a_text, a_uri, one_or_more, a_code, a_map}
+use Rattle.coswid_res.specs.Schema.{table, keys_of, one_or_more, a_map}
 use Rattle.coswid_res.specs.Items.{uri_item, hash_item}
 use Rattle.coswid_res.specs.Reading.{keys_fault}
-use Rattle.coswid_res.specs.Words.{Text, Uri, Hash, OneOrMore}
+use Rattle.coswid_res.specs.Words.{OneOrMore}
 use Rattle.coswid_tag.specs.declared.entity.Entity.{Entity}
-use Rattle.coswid_codec.specs.Forms.{EntityKeys, Code, EntityMap}
+use Rattle.coswid_codec.specs.Forms.{EntityKeys, EntityMap}
 use Rattle.coswid_codec.specs.Items.{entity_pairs, codes_item, entities_item}
 use Rattle.coswid_codec.proofs.Extras.{extras_some}
 use Rattle.coswid_codec.proofs.Lawful.{Lawful, MapTold, MapLawful}
@@ -29,13 +29,13 @@ entries e =
 
 facts : (e : Entity) (ps : Pairs) → EntityKeys e ps → Facts 2 ps (table schema.entity) (entries e)
 facts e ps is = (
-  required_fact (one a_text) Text text 0 2 31 e.entity_name ps text_law (omega arith) is.entity_name,
+  required_fact 2 31 e.entity_name ps text_law (omega arith) is.entity_name,
   (
-    optional_fact (one a_uri) Uri uri_item 2 2 32 e.reg_id ps uri_law (omega arith) is.reg_id,
+    optional_fact 2 32 e.reg_id ps uri_law (omega arith) is.reg_id,
     (
-      required_fact (one_or_more a_code) (OneOrMore Code) codes_item 1 2 33 e.role ps codes_law (omega arith) is.role,
+      required_fact 2 33 e.role ps codes_law (omega arith) is.role,
       (
-        optional_fact (one a_hash) Hash hash_item 0 2 34 e.thumbprint ps hash_law (omega arith) is.thumbprint,
+        optional_fact 2 34 e.thumbprint ps hash_law (omega arith) is.thumbprint,
         tt,
       ),
     ),
@@ -48,26 +48,26 @@ told e ps is =
     record {
       none = all.none;
       again = record {
-        entity_name = required_again (one a_text) Text text 0 31 e.entity_name ps (entity_pairs e) text_law is.entity_name (all.found 31 refl);
-        reg_id = optional_again (one a_uri) Uri uri_item 2 32 e.reg_id ps (entity_pairs e) uri_law is.reg_id (all.found 32 refl);
-        role = required_again (one_or_more a_code) (OneOrMore Code) codes_item 1 33 e.role ps (entity_pairs e) codes_law is.role (all.found 33 refl);
-        thumbprint = optional_again (one a_hash) Hash hash_item 0 34 e.thumbprint ps (entity_pairs e) hash_law is.thumbprint (all.found 34 refl);
+        entity_name = required_again 31 e.entity_name ps (entity_pairs e) text_law is.entity_name (all.found 31 refl);
+        reg_id = optional_again 32 e.reg_id ps (entity_pairs e) uri_law is.reg_id (all.found 32 refl);
+        role = required_again 33 e.role ps (entity_pairs e) codes_law is.role (all.found 33 refl);
+        thumbprint = optional_again 34 e.thumbprint ps (entity_pairs e) hash_law is.thumbprint (all.found 34 refl);
         extras = all.rest;
       };
       proper = all.proper;
-      within = λ n le deep. all.within n (omega (arith, le)) le deep;
+      within = λ n le deep. all.within n le deep;
     }
 
 same : (a b : Entity) (ps : Pairs) → EntityKeys a ps → EntityKeys b ps → entity_pairs a ≡ entity_pairs b
 same a b ps first second =
     let fields : AllSame (fills (entries a)) (fills (entries b)) = (
-      required_same (one a_text) Text text 0 31 a.entity_name b.entity_name ps text_law first.entity_name second.entity_name,
+      required_same 31 a.entity_name b.entity_name ps text_law first.entity_name second.entity_name,
       (
-        optional_same (one a_uri) Uri uri_item 2 32 a.reg_id b.reg_id ps uri_law first.reg_id second.reg_id,
+        optional_same 32 a.reg_id b.reg_id ps uri_law first.reg_id second.reg_id,
         (
-          required_same (one_or_more a_code) (OneOrMore Code) codes_item 1 33 a.role b.role ps codes_law first.role second.role,
+          required_same 33 a.role b.role ps codes_law first.role second.role,
           (
-            optional_same (one a_hash) Hash hash_item 0 34 a.thumbprint b.thumbprint ps hash_law first.thumbprint second.thumbprint,
+            optional_same 34 a.thumbprint b.thumbprint ps hash_law first.thumbprint second.thumbprint,
             tt,
           ),
         ),
@@ -78,13 +78,13 @@ same a b ps first second =
 some : (ps : Pairs) → keys_fault schema.entity ps ≡ None → (e : Entity) × EntityKeys e ps
 some ps none =
     let lines_0 = lines_of schema.entity ps none in
-    let entity_name = required_some (one a_text) Text text 0 31 ps text_law lines_0.0 in
+    let entity_name = required_some 31 ps text_law lines_0.0 in
     let lines_1 = lines_0.1 in
-    let reg_id = optional_some (one a_uri) Uri uri_item 2 32 ps uri_law lines_1.0 in
+    let reg_id = optional_some 32 ps uri_law lines_1.0 in
     let lines_2 = lines_1.1 in
-    let role = required_some (one_or_more a_code) (OneOrMore Code) codes_item 1 33 ps codes_law lines_2.0 in
+    let role = required_some 33 ps codes_law lines_2.0 in
     let lines_3 = lines_2.1 in
-    let thumbprint = optional_some (one a_hash) Hash hash_item 0 34 ps hash_law lines_3.0 in
+    let thumbprint = optional_some 34 ps hash_law lines_3.0 in
     let extras = extras_some (other_than (keys_of (table schema.entity)) ps) in (
       record { entity_name = entity_name.0; reg_id = reg_id.0; role = role.0; thumbprint = thumbprint.0; extras = extras.0 },
       record { entity_name = entity_name.1; reg_id = reg_id.1; role = role.1; thumbprint = thumbprint.1; extras = extras.1 },

@@ -1,61 +1,69 @@
 -- What each line of a table gives: of a map that is written again, of two values read from one map, and of a map without a fault.
-use Rattle.std.proofs.Common.{◌≡◌, ◌≤◌, ◌+◌, ◌-◌, ℕ, List, [], ◌∷◌, Option, Some, None, refl, sym, ap, ◌∙◌, subst, arith}
+use Rattle.std.proofs.Common.{◌≡◌, ◌≤◌, ◌-◌, ℕ, List, [], ◌∷◌, Option, Some, None, refl, sym, ap, ◌∙◌, subst, arith}
 use Rattle.std.specs.Option.{option_map}
 use Rattle.cbor_det.specs.Lookup.{value_under}
 use Rattle.cbor_det.specs.Term.{Term, Pairs, integer, octets, text, array, map, tagged, boolean, pairs_depth}
-use Rattle.coswid_res.specs.declared.fault.FormFault.{FormFault}
-use Rattle.coswid_res.specs.Fault.{or_else, under, absent, missing, field_fault, wrong_form}
+use Rattle.coswid_res.specs.Fault.{or_else, absent, missing, field_fault}
 use Rattle.coswid_res.specs.Items.{required_pair, optional_pair, put_all}
 use Rattle.coswid_res.specs.Reading.{value_fault, line_fault, lines_fault, keys_fault}
-use Rattle.coswid_res.specs.Schema.{Name, table, Line, Field, one, a_map, nothing, required, optional, required_keys}
-use Rattle.coswid_res.specs.Words.{Agree, Required, Optional, Absent, IsMap}
+use Rattle.coswid_res.specs.Schema.{Name, table, Line, Field, one, a_map, required, optional, required_keys}
+use Rattle.coswid_res.specs.Words.{Agree, Required, Optional, IsMap}
 use Rattle.coswid_res.proofs.Maps.{or_none, map_told}
-use Rattle.coswid_codec.proofs.Lawful.{Told, Lawful, MapLawful, wrong}
-use Rattle.coswid_codec.proofs.Tables.{there}
+use Rattle.coswid_codec.proofs.Lawful.{Told, Lawful, MapTold, MapLawful, next, next_less, under_none, wrong}
+use Rattle.coswid_codec.proofs.Tables.{there, agree_told}
 
 -- read again from what is written
 
-pub required_again : {A : Type 0} (field : Field) (Is : A → Term → Type 0) (item : A → Term) (most k : ℕ) (v : A) (ps qs : Pairs) → Lawful field Is item most → Required k Is v ps
+pub required_again : {A : Type 0} {field : Field} {Is : A → Term → Type 0} {item : A → Term} {most : ℕ} (k : ℕ) (v : A) (ps qs : Pairs) → Lawful field Is item most → Required k Is v ps
     → value_under k qs ≡ Some (item v) → Required k Is v qs
-required_again field Is item most k v ps qs law is e =
+required_again {field} {Is} {item} {most} k v ps qs law is e =
     let at = there Is v (value_under k ps) is in
     let P : Option Term → Type 0 = λ o. Agree Is (Some v) o in
     subst P (sym e) (law.told v at.0 at.2).again
 
-optional_by : {A : Type 0} (field : Field) (Is : A → Term → Type 0) (item : A → Term) (most : ℕ) (x : Option A) (o : Option Term) → Lawful field Is item most → Agree Is x o → Agree Is x (option_map item x)
-optional_by field Is item most None None law is = tt
-optional_by field Is item most (Some v) (Some t) law is = (law.told v t is).again
-optional_by field Is item most None (Some t) law is = absurd is
-optional_by field Is item most (Some v) None law is = absurd is
+-- where it is known of what is read alone
+pub again_by : {A : Type 0} (field : Field) (Is : A → Term → Type 0) (item : A → Term) (most : ℕ) (x : Option A) (o : Option Term)
+    → Agree (λ (v : A) (t : Term). Told field Is item most v t) x o → Agree Is x (option_map item x)
+again_by field Is item most None None told = tt
+again_by field Is item most (Some v) (Some t) told = told.again
+again_by field Is item most None (Some t) told = absurd told
+again_by field Is item most (Some v) None told = absurd told
 
-pub optional_again : {A : Type 0} (field : Field) (Is : A → Term → Type 0) (item : A → Term) (most k : ℕ) (x : Option A) (ps qs : Pairs) → Lawful field Is item most → Optional k Is x ps
+pub optional_again : {A : Type 0} {field : Field} {Is : A → Term → Type 0} {item : A → Term} {most : ℕ} (k : ℕ) (x : Option A) (ps qs : Pairs) → Lawful field Is item most → Optional k Is x ps
     → value_under k qs ≡ option_map item x → Optional k Is x qs
-optional_again field Is item most k x ps qs law is e =
+optional_again {field} {Is} {item} {most} k x ps qs law is e =
     let P : Option Term → Type 0 = λ o. Agree Is x o in
-    subst P (sym e) (optional_by field Is item most x (value_under k ps) law is)
+    subst P (sym e) (again_by field Is item most x (value_under k ps) (agree_told field Is item most x (value_under k ps) law is))
 
 -- of two values read from one map
 
-pub required_same : {A : Type 0} (field : Field) (Is : A → Term → Type 0) (item : A → Term) (most k : ℕ) (v w : A) (ps : Pairs) → Lawful field Is item most → Required k Is v ps → Required k Is w ps
+pub required_same : {A : Type 0} {field : Field} {Is : A → Term → Type 0} {item : A → Term} {most : ℕ} (k : ℕ) (v w : A) (ps : Pairs) → Lawful field Is item most → Required k Is v ps → Required k Is w ps
     → (qs : Pairs) → required_pair k item v qs ≡ required_pair k item w qs
-required_same field Is item most k v w ps law first second qs =
+required_same {field} {Is} {item} {most} k v w ps law first second qs =
     let at = there Is v (value_under k ps) first in
     let P : Option Term → Type 0 = λ o. Agree Is (Some w) o in
     let e : item v ≡ item w = law.same v w at.0 at.2 (subst P at.1 second) in
     ap (λ (t : Term). required_pair k (λ (u : Term). u) t qs) e
 
-same_by : {A : Type 0} (field : Field) (Is : A → Term → Type 0) (item : A → Term) (most k : ℕ) (x y : Option A) (o : Option Term) → Lawful field Is item most → Agree Is x o → Agree Is y o
-    → (qs : Pairs) → optional_pair k item x qs ≡ optional_pair k item y qs
-same_by field Is item most k None None None law first second qs = refl
-same_by field Is item most k (Some v) (Some w) (Some t) law first second qs = ap (λ (u : Term). required_pair k (λ (r : Term). r) u qs) (law.same v w t first second)
-same_by field Is item most k None y (Some t) law first second qs = absurd first
-same_by field Is item most k (Some v) y None law first second qs = absurd first
-same_by field Is item most k None (Some w) None law first second qs = absurd second
-same_by field Is item most k (Some v) None (Some t) law first second qs = absurd second
+-- fields of which only the items are known
+pub put_alike : {A : Type 0} (k : ℕ) (item : A → Term) (x y : Option A) (qs : Pairs) → option_map item x ≡ option_map item y → optional_pair k item x qs ≡ optional_pair k item y qs
+put_alike k item None None qs e = refl
+put_alike k item (Some v) (Some w) qs e = let f : item v ≡ item w = cc in ap (λ (t : Term). required_pair k (λ (u : Term). u) t qs) f
+put_alike k item None (Some w) qs e = absurd cc
+put_alike k item (Some v) None qs e = absurd cc
 
-pub optional_same : {A : Type 0} (field : Field) (Is : A → Term → Type 0) (item : A → Term) (most k : ℕ) (x y : Option A) (ps : Pairs) → Lawful field Is item most → Optional k Is x ps → Optional k Is y ps
+items_alike : {A : Type 0} (field : Field) (Is : A → Term → Type 0) (item : A → Term) (most : ℕ) (x y : Option A) (o : Option Term) → Lawful field Is item most → Agree Is x o → Agree Is y o
+    → option_map item x ≡ option_map item y
+items_alike field Is item most None None None law first second = refl
+items_alike field Is item most (Some v) (Some w) (Some t) law first second = ap (λ (u : Term). Some u) (law.same v w t first second)
+items_alike field Is item most None y (Some t) law first second = absurd first
+items_alike field Is item most (Some v) y None law first second = absurd first
+items_alike field Is item most None (Some w) None law first second = absurd second
+items_alike field Is item most (Some v) None (Some t) law first second = absurd second
+
+pub optional_same : {A : Type 0} {field : Field} {Is : A → Term → Type 0} {item : A → Term} {most : ℕ} (k : ℕ) (x y : Option A) (ps : Pairs) → Lawful field Is item most → Optional k Is x ps → Optional k Is y ps
     → (qs : Pairs) → optional_pair k item x qs ≡ optional_pair k item y qs
-optional_same field Is item most k x y ps law first second qs = same_by field Is item most k x y (value_under k ps) law first second qs
+optional_same {field} {Is} {item} {most} k x y ps law first second qs = put_alike k item x y qs (items_alike field Is item most x y (value_under k ps) law first second)
 
 abbrev pub AllSame : List (Pairs → Pairs) → List (Pairs → Pairs) → Type 0
 AllSame [] [] = Unit {0}
@@ -81,58 +89,40 @@ each_none (line ∷ lines) ps none = let both = or_none (line_fault line ps) (li
 pub lines_of : (name : Name) (ps : Pairs) → keys_fault name ps ≡ None → EachNone (table name) ps
 lines_of name ps none = each_none (table name) ps (or_none (missing (required_keys (table name)) ps) (lines_fault (table name) ps) none).1
 
-under_none : (k : ℕ) (o : Option FormFault) → under k o ≡ None → o ≡ None
-under_none k None e = refl
-under_none k (Some f) e = absurd cc
-
 required_by : {A : Type 0} (field : Field) (Is : A → Term → Type 0) (item : A → Term) (most k : ℕ) (o : Option Term) → Lawful field Is item most
     → or_else (absent k o) (value_fault k field o) ≡ None → (v : A) × Agree Is (Some v) o
 required_by field Is item most k (Some t) law none = law.some t (under_none k (field_fault field t) none)
 required_by field Is item most k None law none = absurd cc
 
-pub required_some : {A : Type 0} (field : Field) (Is : A → Term → Type 0) (item : A → Term) (most k : ℕ) (ps : Pairs) → Lawful field Is item most → line_fault (required k field) ps ≡ None
+pub required_some : {A : Type 0} {field : Field} {Is : A → Term → Type 0} {item : A → Term} {most : ℕ} (k : ℕ) (ps : Pairs) → Lawful field Is item most → line_fault (required k field) ps ≡ None
     → (v : A) × Required k Is v ps
-required_some field Is item most k ps law none = required_by field Is item most k (value_under k ps) law none
+required_some {field} {Is} {item} {most} k ps law none = required_by field Is item most k (value_under k ps) law none
 
 some_by : {A : Type 0} (field : Field) (Is : A → Term → Type 0) (item : A → Term) (most k : ℕ) (o : Option Term) → Lawful field Is item most → value_fault k field o ≡ None
     → (x : Option A) × Agree Is x o
 some_by field Is item most k None law none = (None, tt)
 some_by field Is item most k (Some t) law none = let found = law.some t (under_none k (field_fault field t) none) in (Some found.0, found.1)
 
-pub optional_some : {A : Type 0} (field : Field) (Is : A → Term → Type 0) (item : A → Term) (most k : ℕ) (ps : Pairs) → Lawful field Is item most → line_fault (optional k field) ps ≡ None
+pub optional_some : {A : Type 0} {field : Field} {Is : A → Term → Type 0} {item : A → Term} {most : ℕ} (k : ℕ) (ps : Pairs) → Lawful field Is item most → line_fault (optional k field) ps ≡ None
     → (x : Option A) × Optional k Is x ps
-optional_some field Is item most k ps law none = some_by field Is item most k (value_under k ps) law none
-
-never : (t : Term) → field_fault (one nothing) t ≡ wrong_form
-never (integer z) = refl
-never (octets s) = refl
-never (text s) = refl
-never (array ts) = refl
-never (map ps) = refl
-never (tagged n t) = refl
-never (boolean b) = refl
-
-nothing_by : (k : ℕ) (o : Option Term) → value_fault k (one nothing) o ≡ None → o ≡ None
-nothing_by k None none = refl
-nothing_by k (Some t) none = wrong (sym (never t) ∙ under_none k (field_fault (one nothing) t) none)
-
-pub absent_some : (k : ℕ) (ps : Pairs) → line_fault (optional k (one nothing)) ps ≡ None → Absent k ps
-absent_some k ps none = nothing_by k (value_under k ps) none
+optional_some {field} {Is} {item} {most} k ps law none = some_by field Is item most k (value_under k ps) law none
 
 -- A map is read and written by its pairs.
 
+pub pairs_told : {A : Type 0} (name : Name) (Keys : A → Pairs → Type 0) (pairs : A → Pairs) (least : ℕ) (v : A) (ps : Pairs) → MapTold name Keys pairs least v ps
+    → Told (one (a_map name)) (λ (w : A). IsMap (Keys w)) (λ (w : A). map (pairs w)) (next least) v (map ps)
+pairs_told name Keys pairs least v ps it = record {
+  none = map_told name ps ∙ it.none;
+  again = it.again;
+  proper = λ p. it.proper p;
+  within = λ n le deep.
+      let l : pairs_depth (pairs v) ≤ n - 1 = it.within (n - 1) (next_less least n le) (omega (arith, deep)) in
+      omega (arith, l, deep);
+}
+
 module _ {A : Type 0} (name : Name) (Keys : A → Pairs → Type 0) (pairs : A → Pairs) (least : ℕ) (law : MapLawful name Keys pairs least) where
-  told : (v : A) (t : Term) → IsMap (Keys v) t → Told (one (a_map name)) (λ (w : A). IsMap (Keys w)) (λ (w : A). map (pairs w)) (least + 1) v t
-  told v (map ps) is =
-      let it = law.told v ps is in
-      record {
-        none = map_told name ps ∙ it.none;
-        again = it.again;
-        proper = it.proper;
-        within = λ n le deep.
-            let l : pairs_depth (pairs v) ≤ n - 1 = it.within (n - 1) (omega (arith, le)) (omega (arith, deep)) in
-            omega (arith, l, le);
-      }
+  told : (v : A) (t : Term) → IsMap (Keys v) t → Told (one (a_map name)) (λ (w : A). IsMap (Keys w)) (λ (w : A). map (pairs w)) (next least) v t
+  told v (map ps) is = pairs_told name Keys pairs least v ps (law.told v ps is)
   told v (integer z) is = absurd is
   told v (octets s) is = absurd is
   told v (text s) is = absurd is
@@ -158,5 +148,5 @@ module _ {A : Type 0} (name : Name) (Keys : A → Pairs → Type 0) (pairs : A �
   some (tagged n t) none = wrong none
   some (boolean b) none = wrong none
 
-  pub map_law : Lawful (one (a_map name)) (λ (v : A). IsMap (Keys v)) (λ (v : A). map (pairs v)) (least + 1)
+  pub map_law : Lawful (one (a_map name)) (λ (v : A). IsMap (Keys v)) (λ (v : A). map (pairs v)) (next least)
   map_law = record { told = told; same = same; some = some }

@@ -4,12 +4,12 @@ use Rattle.cbor_det.specs.Lookup.{other_than}
 use Rattle.cbor_det.specs.Term.{Pairs, map, text}
 use Rattle.cbor_det.specs.View.{pairs_view}
 use Rattle.coswid_res.specs.Schema as schema
-use Rattle.coswid_res.specs.Schema.{table, keys_of, one, a_code, a_text, a_uri, one_or_more, a_map}
+use Rattle.coswid_res.specs.Schema.{table, keys_of, one_or_more, a_map}
 use Rattle.coswid_res.specs.Items.{uri_item}
 use Rattle.coswid_res.specs.Reading.{keys_fault}
-use Rattle.coswid_res.specs.Words.{Text, Uri, OneOrMore}
+use Rattle.coswid_res.specs.Words.{OneOrMore}
 use Rattle.coswid_tag.specs.declared.link.LinkEntry.{LinkEntry}
-use Rattle.coswid_codec.specs.Forms.{LinkKeys, Code, LinkMap}
+use Rattle.coswid_codec.specs.Forms.{LinkKeys, LinkMap}
 use Rattle.coswid_codec.specs.Items.{link_pairs, code_item, links_item}
 use Rattle.coswid_codec.proofs.Extras.{extras_some}
 use Rattle.coswid_codec.proofs.Lawful.{Lawful, MapTold, MapLawful}
@@ -31,19 +31,19 @@ entries l =
 
 facts : (l : LinkEntry) (ps : Pairs) → LinkKeys l ps → Facts 2 ps (table schema.link) (entries l)
 facts l ps is = (
-  optional_fact (one a_text) Text text 0 2 10 l.media ps text_law (omega arith) is.media,
+  optional_fact 2 10 l.media ps text_law (omega arith) is.media,
   (
-    optional_fact (one a_text) Text text 0 2 37 l.artifact ps text_law (omega arith) is.artifact,
+    optional_fact 2 37 l.artifact ps text_law (omega arith) is.artifact,
     (
-      required_fact (one a_uri) Uri uri_item 2 2 38 l.href ps uri_law (omega arith) is.href,
+      required_fact 2 38 l.href ps uri_law (omega arith) is.href,
       (
-        optional_fact (one a_code) Code code_item 0 2 39 l.ownership ps code_law (omega arith) is.ownership,
+        optional_fact 2 39 l.ownership ps code_law (omega arith) is.ownership,
         (
-          required_fact (one a_code) Code code_item 0 2 40 l.rel ps code_law (omega arith) is.rel,
+          required_fact 2 40 l.rel ps code_law (omega arith) is.rel,
           (
-            optional_fact (one a_text) Text text 0 2 41 l.media_type ps text_law (omega arith) is.media_type,
+            optional_fact 2 41 l.media_type ps text_law (omega arith) is.media_type,
             (
-              optional_fact (one a_code) Code code_item 0 2 42 l.link_use ps code_law (omega arith) is.link_use,
+              optional_fact 2 42 l.link_use ps code_law (omega arith) is.link_use,
               tt,
             ),
           ),
@@ -59,35 +59,35 @@ told l ps is =
     record {
       none = all.none;
       again = record {
-        media = optional_again (one a_text) Text text 0 10 l.media ps (link_pairs l) text_law is.media (all.found 10 refl);
-        artifact = optional_again (one a_text) Text text 0 37 l.artifact ps (link_pairs l) text_law is.artifact (all.found 37 refl);
-        href = required_again (one a_uri) Uri uri_item 2 38 l.href ps (link_pairs l) uri_law is.href (all.found 38 refl);
-        ownership = optional_again (one a_code) Code code_item 0 39 l.ownership ps (link_pairs l) code_law is.ownership (all.found 39 refl);
-        rel = required_again (one a_code) Code code_item 0 40 l.rel ps (link_pairs l) code_law is.rel (all.found 40 refl);
-        media_type = optional_again (one a_text) Text text 0 41 l.media_type ps (link_pairs l) text_law is.media_type (all.found 41 refl);
-        link_use = optional_again (one a_code) Code code_item 0 42 l.link_use ps (link_pairs l) code_law is.link_use (all.found 42 refl);
+        media = optional_again 10 l.media ps (link_pairs l) text_law is.media (all.found 10 refl);
+        artifact = optional_again 37 l.artifact ps (link_pairs l) text_law is.artifact (all.found 37 refl);
+        href = required_again 38 l.href ps (link_pairs l) uri_law is.href (all.found 38 refl);
+        ownership = optional_again 39 l.ownership ps (link_pairs l) code_law is.ownership (all.found 39 refl);
+        rel = required_again 40 l.rel ps (link_pairs l) code_law is.rel (all.found 40 refl);
+        media_type = optional_again 41 l.media_type ps (link_pairs l) text_law is.media_type (all.found 41 refl);
+        link_use = optional_again 42 l.link_use ps (link_pairs l) code_law is.link_use (all.found 42 refl);
         extras = all.rest;
       };
       proper = all.proper;
-      within = λ n le deep. all.within n (omega (arith, le)) le deep;
+      within = λ n le deep. all.within n le deep;
     }
 
 same : (a b : LinkEntry) (ps : Pairs) → LinkKeys a ps → LinkKeys b ps → link_pairs a ≡ link_pairs b
 same a b ps first second =
     let fields : AllSame (fills (entries a)) (fills (entries b)) = (
-      optional_same (one a_text) Text text 0 10 a.media b.media ps text_law first.media second.media,
+      optional_same 10 a.media b.media ps text_law first.media second.media,
       (
-        optional_same (one a_text) Text text 0 37 a.artifact b.artifact ps text_law first.artifact second.artifact,
+        optional_same 37 a.artifact b.artifact ps text_law first.artifact second.artifact,
         (
-          required_same (one a_uri) Uri uri_item 2 38 a.href b.href ps uri_law first.href second.href,
+          required_same 38 a.href b.href ps uri_law first.href second.href,
           (
-            optional_same (one a_code) Code code_item 0 39 a.ownership b.ownership ps code_law first.ownership second.ownership,
+            optional_same 39 a.ownership b.ownership ps code_law first.ownership second.ownership,
             (
-              required_same (one a_code) Code code_item 0 40 a.rel b.rel ps code_law first.rel second.rel,
+              required_same 40 a.rel b.rel ps code_law first.rel second.rel,
               (
-                optional_same (one a_text) Text text 0 41 a.media_type b.media_type ps text_law first.media_type second.media_type,
+                optional_same 41 a.media_type b.media_type ps text_law first.media_type second.media_type,
                 (
-                  optional_same (one a_code) Code code_item 0 42 a.link_use b.link_use ps code_law first.link_use second.link_use,
+                  optional_same 42 a.link_use b.link_use ps code_law first.link_use second.link_use,
                   tt,
                 ),
               ),
@@ -101,19 +101,19 @@ same a b ps first second =
 some : (ps : Pairs) → keys_fault schema.link ps ≡ None → (l : LinkEntry) × LinkKeys l ps
 some ps none =
     let lines_0 = lines_of schema.link ps none in
-    let media = optional_some (one a_text) Text text 0 10 ps text_law lines_0.0 in
+    let media = optional_some 10 ps text_law lines_0.0 in
     let lines_1 = lines_0.1 in
-    let artifact = optional_some (one a_text) Text text 0 37 ps text_law lines_1.0 in
+    let artifact = optional_some 37 ps text_law lines_1.0 in
     let lines_2 = lines_1.1 in
-    let href = required_some (one a_uri) Uri uri_item 2 38 ps uri_law lines_2.0 in
+    let href = required_some 38 ps uri_law lines_2.0 in
     let lines_3 = lines_2.1 in
-    let ownership = optional_some (one a_code) Code code_item 0 39 ps code_law lines_3.0 in
+    let ownership = optional_some 39 ps code_law lines_3.0 in
     let lines_4 = lines_3.1 in
-    let rel = required_some (one a_code) Code code_item 0 40 ps code_law lines_4.0 in
+    let rel = required_some 40 ps code_law lines_4.0 in
     let lines_5 = lines_4.1 in
-    let media_type = optional_some (one a_text) Text text 0 41 ps text_law lines_5.0 in
+    let media_type = optional_some 41 ps text_law lines_5.0 in
     let lines_6 = lines_5.1 in
-    let link_use = optional_some (one a_code) Code code_item 0 42 ps code_law lines_6.0 in
+    let link_use = optional_some 42 ps code_law lines_6.0 in
     let extras = extras_some (other_than (keys_of (table schema.link)) ps) in (
       record { media = media.0; artifact = artifact.0; href = href.0; ownership = ownership.0; rel = rel.0; media_type = media_type.0; link_use = link_use.0; extras = extras.0 },
       record { media = media.1; artifact = artifact.1; href = href.1; ownership = ownership.1; rel = rel.1; media_type = media_type.1; link_use = link_use.1; extras = extras.1 },

@@ -4,11 +4,11 @@ use Rattle.cbor_det.specs.Lookup.{other_than}
 use Rattle.cbor_det.specs.Term.{Pairs, map, text, boolean}
 use Rattle.cbor_det.specs.View.{pairs_view}
 use Rattle.coswid_res.specs.Schema as schema
-use Rattle.coswid_res.specs.Schema.{table, keys_of, one, a_boolean, an_identifier, a_text, one_or_more, a_map}
+use Rattle.coswid_res.specs.Schema.{table, keys_of, one_or_more, a_map}
 use Rattle.coswid_res.specs.Reading.{keys_fault}
-use Rattle.coswid_res.specs.Words.{Text, Boolean, OneOrMore}
+use Rattle.coswid_res.specs.Words.{OneOrMore}
 use Rattle.coswid_tag.specs.declared.meta.SoftwareMeta.{SoftwareMeta}
-use Rattle.coswid_codec.specs.Forms.{MetaKeys, Identifier, MetaMap}
+use Rattle.coswid_codec.specs.Forms.{MetaKeys, MetaMap}
 use Rattle.coswid_codec.specs.Items.{meta_pairs, identifier_item, metas_item}
 use Rattle.coswid_codec.proofs.Extras.{extras_some}
 use Rattle.coswid_codec.proofs.Lawful.{Lawful, MapTold, MapLawful}
@@ -38,35 +38,35 @@ entries m =
 
 facts : (m : SoftwareMeta) (ps : Pairs) → MetaKeys m ps → Facts 1 ps (table schema.software_meta) (entries m)
 facts m ps is = (
-  optional_fact (one a_text) Text text 0 1 43 m.activation_status ps text_law (omega arith) is.activation_status,
+  optional_fact 1 43 m.activation_status ps text_law (omega arith) is.activation_status,
   (
-    optional_fact (one a_text) Text text 0 1 44 m.channel_type ps text_law (omega arith) is.channel_type,
+    optional_fact 1 44 m.channel_type ps text_law (omega arith) is.channel_type,
     (
-      optional_fact (one a_text) Text text 0 1 45 m.colloquial_version ps text_law (omega arith) is.colloquial_version,
+      optional_fact 1 45 m.colloquial_version ps text_law (omega arith) is.colloquial_version,
       (
-        optional_fact (one a_text) Text text 0 1 46 m.description ps text_law (omega arith) is.description,
+        optional_fact 1 46 m.description ps text_law (omega arith) is.description,
         (
-          optional_fact (one a_text) Text text 0 1 47 m.edition ps text_law (omega arith) is.edition,
+          optional_fact 1 47 m.edition ps text_law (omega arith) is.edition,
           (
-            optional_fact (one a_boolean) Boolean boolean 0 1 48 m.entitlement_data_required ps boolean_law (omega arith) is.entitlement_data_required,
+            optional_fact 1 48 m.entitlement_data_required ps boolean_law (omega arith) is.entitlement_data_required,
             (
-              optional_fact (one a_text) Text text 0 1 49 m.entitlement_key ps text_law (omega arith) is.entitlement_key,
+              optional_fact 1 49 m.entitlement_key ps text_law (omega arith) is.entitlement_key,
               (
-                optional_fact (one an_identifier) Identifier identifier_item 0 1 50 m.generator ps identifier_law (omega arith) is.generator,
+                optional_fact 1 50 m.generator ps identifier_law (omega arith) is.generator,
                 (
-                  optional_fact (one a_text) Text text 0 1 51 m.persistent_id ps text_law (omega arith) is.persistent_id,
+                  optional_fact 1 51 m.persistent_id ps text_law (omega arith) is.persistent_id,
                   (
-                    optional_fact (one a_text) Text text 0 1 52 m.product ps text_law (omega arith) is.product,
+                    optional_fact 1 52 m.product ps text_law (omega arith) is.product,
                     (
-                      optional_fact (one a_text) Text text 0 1 53 m.product_family ps text_law (omega arith) is.product_family,
+                      optional_fact 1 53 m.product_family ps text_law (omega arith) is.product_family,
                       (
-                        optional_fact (one a_text) Text text 0 1 54 m.revision ps text_law (omega arith) is.revision,
+                        optional_fact 1 54 m.revision ps text_law (omega arith) is.revision,
                         (
-                          optional_fact (one a_text) Text text 0 1 55 m.summary ps text_law (omega arith) is.summary,
+                          optional_fact 1 55 m.summary ps text_law (omega arith) is.summary,
                           (
-                            optional_fact (one a_text) Text text 0 1 56 m.unspsc_code ps text_law (omega arith) is.unspsc_code,
+                            optional_fact 1 56 m.unspsc_code ps text_law (omega arith) is.unspsc_code,
                             (
-                              optional_fact (one a_text) Text text 0 1 57 m.unspsc_version ps text_law (omega arith) is.unspsc_version,
+                              optional_fact 1 57 m.unspsc_version ps text_law (omega arith) is.unspsc_version,
                               tt,
                             ),
                           ),
@@ -90,59 +90,59 @@ told m ps is =
     record {
       none = all.none;
       again = record {
-        activation_status = optional_again (one a_text) Text text 0 43 m.activation_status ps (meta_pairs m) text_law is.activation_status (all.found 43 refl);
-        channel_type = optional_again (one a_text) Text text 0 44 m.channel_type ps (meta_pairs m) text_law is.channel_type (all.found 44 refl);
-        colloquial_version = optional_again (one a_text) Text text 0 45 m.colloquial_version ps (meta_pairs m) text_law is.colloquial_version (all.found 45 refl);
-        description = optional_again (one a_text) Text text 0 46 m.description ps (meta_pairs m) text_law is.description (all.found 46 refl);
-        edition = optional_again (one a_text) Text text 0 47 m.edition ps (meta_pairs m) text_law is.edition (all.found 47 refl);
-        entitlement_data_required = optional_again (one a_boolean) Boolean boolean 0 48 m.entitlement_data_required ps (meta_pairs m) boolean_law is.entitlement_data_required (all.found 48 refl);
-        entitlement_key = optional_again (one a_text) Text text 0 49 m.entitlement_key ps (meta_pairs m) text_law is.entitlement_key (all.found 49 refl);
-        generator = optional_again (one an_identifier) Identifier identifier_item 0 50 m.generator ps (meta_pairs m) identifier_law is.generator (all.found 50 refl);
-        persistent_id = optional_again (one a_text) Text text 0 51 m.persistent_id ps (meta_pairs m) text_law is.persistent_id (all.found 51 refl);
-        product = optional_again (one a_text) Text text 0 52 m.product ps (meta_pairs m) text_law is.product (all.found 52 refl);
-        product_family = optional_again (one a_text) Text text 0 53 m.product_family ps (meta_pairs m) text_law is.product_family (all.found 53 refl);
-        revision = optional_again (one a_text) Text text 0 54 m.revision ps (meta_pairs m) text_law is.revision (all.found 54 refl);
-        summary = optional_again (one a_text) Text text 0 55 m.summary ps (meta_pairs m) text_law is.summary (all.found 55 refl);
-        unspsc_code = optional_again (one a_text) Text text 0 56 m.unspsc_code ps (meta_pairs m) text_law is.unspsc_code (all.found 56 refl);
-        unspsc_version = optional_again (one a_text) Text text 0 57 m.unspsc_version ps (meta_pairs m) text_law is.unspsc_version (all.found 57 refl);
+        activation_status = optional_again 43 m.activation_status ps (meta_pairs m) text_law is.activation_status (all.found 43 refl);
+        channel_type = optional_again 44 m.channel_type ps (meta_pairs m) text_law is.channel_type (all.found 44 refl);
+        colloquial_version = optional_again 45 m.colloquial_version ps (meta_pairs m) text_law is.colloquial_version (all.found 45 refl);
+        description = optional_again 46 m.description ps (meta_pairs m) text_law is.description (all.found 46 refl);
+        edition = optional_again 47 m.edition ps (meta_pairs m) text_law is.edition (all.found 47 refl);
+        entitlement_data_required = optional_again 48 m.entitlement_data_required ps (meta_pairs m) boolean_law is.entitlement_data_required (all.found 48 refl);
+        entitlement_key = optional_again 49 m.entitlement_key ps (meta_pairs m) text_law is.entitlement_key (all.found 49 refl);
+        generator = optional_again 50 m.generator ps (meta_pairs m) identifier_law is.generator (all.found 50 refl);
+        persistent_id = optional_again 51 m.persistent_id ps (meta_pairs m) text_law is.persistent_id (all.found 51 refl);
+        product = optional_again 52 m.product ps (meta_pairs m) text_law is.product (all.found 52 refl);
+        product_family = optional_again 53 m.product_family ps (meta_pairs m) text_law is.product_family (all.found 53 refl);
+        revision = optional_again 54 m.revision ps (meta_pairs m) text_law is.revision (all.found 54 refl);
+        summary = optional_again 55 m.summary ps (meta_pairs m) text_law is.summary (all.found 55 refl);
+        unspsc_code = optional_again 56 m.unspsc_code ps (meta_pairs m) text_law is.unspsc_code (all.found 56 refl);
+        unspsc_version = optional_again 57 m.unspsc_version ps (meta_pairs m) text_law is.unspsc_version (all.found 57 refl);
         extras = all.rest;
       };
       proper = all.proper;
-      within = λ n le deep. all.within n (omega (arith, le)) le deep;
+      within = λ n le deep. all.within n le deep;
     }
 
 same : (a b : SoftwareMeta) (ps : Pairs) → MetaKeys a ps → MetaKeys b ps → meta_pairs a ≡ meta_pairs b
 same a b ps first second =
     let fields : AllSame (fills (entries a)) (fills (entries b)) = (
-      optional_same (one a_text) Text text 0 43 a.activation_status b.activation_status ps text_law first.activation_status second.activation_status,
+      optional_same 43 a.activation_status b.activation_status ps text_law first.activation_status second.activation_status,
       (
-        optional_same (one a_text) Text text 0 44 a.channel_type b.channel_type ps text_law first.channel_type second.channel_type,
+        optional_same 44 a.channel_type b.channel_type ps text_law first.channel_type second.channel_type,
         (
-          optional_same (one a_text) Text text 0 45 a.colloquial_version b.colloquial_version ps text_law first.colloquial_version second.colloquial_version,
+          optional_same 45 a.colloquial_version b.colloquial_version ps text_law first.colloquial_version second.colloquial_version,
           (
-            optional_same (one a_text) Text text 0 46 a.description b.description ps text_law first.description second.description,
+            optional_same 46 a.description b.description ps text_law first.description second.description,
             (
-              optional_same (one a_text) Text text 0 47 a.edition b.edition ps text_law first.edition second.edition,
+              optional_same 47 a.edition b.edition ps text_law first.edition second.edition,
               (
-                optional_same (one a_boolean) Boolean boolean 0 48 a.entitlement_data_required b.entitlement_data_required ps boolean_law first.entitlement_data_required second.entitlement_data_required,
+                optional_same 48 a.entitlement_data_required b.entitlement_data_required ps boolean_law first.entitlement_data_required second.entitlement_data_required,
                 (
-                  optional_same (one a_text) Text text 0 49 a.entitlement_key b.entitlement_key ps text_law first.entitlement_key second.entitlement_key,
+                  optional_same 49 a.entitlement_key b.entitlement_key ps text_law first.entitlement_key second.entitlement_key,
                   (
-                    optional_same (one an_identifier) Identifier identifier_item 0 50 a.generator b.generator ps identifier_law first.generator second.generator,
+                    optional_same 50 a.generator b.generator ps identifier_law first.generator second.generator,
                     (
-                      optional_same (one a_text) Text text 0 51 a.persistent_id b.persistent_id ps text_law first.persistent_id second.persistent_id,
+                      optional_same 51 a.persistent_id b.persistent_id ps text_law first.persistent_id second.persistent_id,
                       (
-                        optional_same (one a_text) Text text 0 52 a.product b.product ps text_law first.product second.product,
+                        optional_same 52 a.product b.product ps text_law first.product second.product,
                         (
-                          optional_same (one a_text) Text text 0 53 a.product_family b.product_family ps text_law first.product_family second.product_family,
+                          optional_same 53 a.product_family b.product_family ps text_law first.product_family second.product_family,
                           (
-                            optional_same (one a_text) Text text 0 54 a.revision b.revision ps text_law first.revision second.revision,
+                            optional_same 54 a.revision b.revision ps text_law first.revision second.revision,
                             (
-                              optional_same (one a_text) Text text 0 55 a.summary b.summary ps text_law first.summary second.summary,
+                              optional_same 55 a.summary b.summary ps text_law first.summary second.summary,
                               (
-                                optional_same (one a_text) Text text 0 56 a.unspsc_code b.unspsc_code ps text_law first.unspsc_code second.unspsc_code,
+                                optional_same 56 a.unspsc_code b.unspsc_code ps text_law first.unspsc_code second.unspsc_code,
                                 (
-                                  optional_same (one a_text) Text text 0 57 a.unspsc_version b.unspsc_version ps text_law first.unspsc_version second.unspsc_version,
+                                  optional_same 57 a.unspsc_version b.unspsc_version ps text_law first.unspsc_version second.unspsc_version,
                                   tt,
                                 ),
                               ),
@@ -164,35 +164,35 @@ same a b ps first second =
 some : (ps : Pairs) → keys_fault schema.software_meta ps ≡ None → (m : SoftwareMeta) × MetaKeys m ps
 some ps none =
     let lines_0 = lines_of schema.software_meta ps none in
-    let activation_status = optional_some (one a_text) Text text 0 43 ps text_law lines_0.0 in
+    let activation_status = optional_some 43 ps text_law lines_0.0 in
     let lines_1 = lines_0.1 in
-    let channel_type = optional_some (one a_text) Text text 0 44 ps text_law lines_1.0 in
+    let channel_type = optional_some 44 ps text_law lines_1.0 in
     let lines_2 = lines_1.1 in
-    let colloquial_version = optional_some (one a_text) Text text 0 45 ps text_law lines_2.0 in
+    let colloquial_version = optional_some 45 ps text_law lines_2.0 in
     let lines_3 = lines_2.1 in
-    let description = optional_some (one a_text) Text text 0 46 ps text_law lines_3.0 in
+    let description = optional_some 46 ps text_law lines_3.0 in
     let lines_4 = lines_3.1 in
-    let edition = optional_some (one a_text) Text text 0 47 ps text_law lines_4.0 in
+    let edition = optional_some 47 ps text_law lines_4.0 in
     let lines_5 = lines_4.1 in
-    let entitlement_data_required = optional_some (one a_boolean) Boolean boolean 0 48 ps boolean_law lines_5.0 in
+    let entitlement_data_required = optional_some 48 ps boolean_law lines_5.0 in
     let lines_6 = lines_5.1 in
-    let entitlement_key = optional_some (one a_text) Text text 0 49 ps text_law lines_6.0 in
+    let entitlement_key = optional_some 49 ps text_law lines_6.0 in
     let lines_7 = lines_6.1 in
-    let generator = optional_some (one an_identifier) Identifier identifier_item 0 50 ps identifier_law lines_7.0 in
+    let generator = optional_some 50 ps identifier_law lines_7.0 in
     let lines_8 = lines_7.1 in
-    let persistent_id = optional_some (one a_text) Text text 0 51 ps text_law lines_8.0 in
+    let persistent_id = optional_some 51 ps text_law lines_8.0 in
     let lines_9 = lines_8.1 in
-    let product = optional_some (one a_text) Text text 0 52 ps text_law lines_9.0 in
+    let product = optional_some 52 ps text_law lines_9.0 in
     let lines_10 = lines_9.1 in
-    let product_family = optional_some (one a_text) Text text 0 53 ps text_law lines_10.0 in
+    let product_family = optional_some 53 ps text_law lines_10.0 in
     let lines_11 = lines_10.1 in
-    let revision = optional_some (one a_text) Text text 0 54 ps text_law lines_11.0 in
+    let revision = optional_some 54 ps text_law lines_11.0 in
     let lines_12 = lines_11.1 in
-    let summary = optional_some (one a_text) Text text 0 55 ps text_law lines_12.0 in
+    let summary = optional_some 55 ps text_law lines_12.0 in
     let lines_13 = lines_12.1 in
-    let unspsc_code = optional_some (one a_text) Text text 0 56 ps text_law lines_13.0 in
+    let unspsc_code = optional_some 56 ps text_law lines_13.0 in
     let lines_14 = lines_13.1 in
-    let unspsc_version = optional_some (one a_text) Text text 0 57 ps text_law lines_14.0 in
+    let unspsc_version = optional_some 57 ps text_law lines_14.0 in
     let extras = extras_some (other_than (keys_of (table schema.software_meta)) ps) in (
       record { activation_status = activation_status.0; channel_type = channel_type.0; colloquial_version = colloquial_version.0; description = description.0; edition = edition.0; entitlement_data_required = entitlement_data_required.0; entitlement_key = entitlement_key.0; generator = generator.0; persistent_id = persistent_id.0; product = product.0; product_family = product_family.0; revision = revision.0; summary = summary.0; unspsc_code = unspsc_code.0; unspsc_version = unspsc_version.0; extras = extras.0 },
       record { activation_status = activation_status.1; channel_type = channel_type.1; colloquial_version = colloquial_version.1; description = description.1; edition = edition.1; entitlement_data_required = entitlement_data_required.1; entitlement_key = entitlement_key.1; generator = generator.1; persistent_id = persistent_id.1; product = product.1; product_family = product_family.1; revision = revision.1; summary = summary.1; unspsc_code = unspsc_code.1; unspsc_version = unspsc_version.1; extras = extras.1 },

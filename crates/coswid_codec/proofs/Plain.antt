@@ -1,12 +1,12 @@
 -- The forms of single values.
-use Rattle.std.proofs.Common.{◌≡◌, inl, inr, ℕ, ℤ, Bool, List, ◌==◌, length, None, refl, sym, ap, ◌∙◌, subst, arith}
+use Rattle.std.proofs.Common.{◌≡◌, inl, inr, ℕ, ℤ, pos, negsuc, Bool, List, ◌==◌, length, None, refl, sym, ap, ◌∙◌, subst, arith}
 use Rattle.std.proofs.lemmas.Bool.{eqb-true, eq-eqb}
 use Rattle.cbor_det.specs.Term.{Term, Terms, integer, octets, text, array, map, tagged, boolean, no_terms, term}
 use Rattle.coswid_res.specs.declared.hash.HashEntry.{HashEntry}
-use Rattle.coswid_res.specs.Schema.{one, a_text, a_boolean, an_integer, an_identifier, a_code, a_uri, a_hash}
+use Rattle.coswid_res.specs.Schema.{one, a_text, a_boolean, an_integer, an_unsigned, an_identifier, a_code, a_uri, a_time, a_hash}
 use Rattle.coswid_res.specs.Fault.{field_fault, hash_fault, under, unless_wrong, is_integer, is_octets}
-use Rattle.coswid_res.specs.Items.{uri_item, hash_item}
-use Rattle.coswid_res.specs.Words.{Text, Boolean, Integer, Uri, Hash}
+use Rattle.coswid_res.specs.Items.{unsigned_item, uri_item, time_item, hash_item}
+use Rattle.coswid_res.specs.Words.{Text, Boolean, Integer, Unsigned, Uri, Time, Hash}
 use Rattle.coswid_res.proofs.Maps.{or_none}
 use Rattle.coswid_tag.specs.declared.value.CodeValue.{CodeValue}
 use Rattle.coswid_tag.specs.declared.value.CodeValue.TheVariants as code
@@ -75,6 +75,28 @@ integer_law = record {
   told = λ z t is. as_read (one an_integer) Integer integer z t refl refl is;
   same = λ z y t first second. sym first ∙ second;
   some = integer_some;
+}
+
+-- integers that are not below 0
+
+unsigned_some : (t : Term) → field_fault (one an_unsigned) t ≡ None → (n : ℕ) × Unsigned n t
+unsigned_some (integer (pos n)) none = (n, refl)
+unsigned_some (integer (negsuc n)) none = wrong none
+unsigned_some (boolean b) none = wrong none
+unsigned_some (octets s) none = wrong none
+unsigned_some (text s) none = wrong none
+unsigned_some (array ts) none = wrong none
+unsigned_some (map ps) none = wrong none
+unsigned_some (tagged n t) none = wrong none
+
+unsigned_same : (n m : ℕ) (t : Term) → Unsigned n t → Unsigned m t → unsigned_item n ≡ unsigned_item m
+unsigned_same n m t first second = sym first ∙ second
+
+pub unsigned_law : Lawful (one an_unsigned) Unsigned unsigned_item 0
+unsigned_law = record {
+  told = λ n t is. as_read (one an_unsigned) Unsigned unsigned_item n t refl refl is;
+  same = unsigned_same;
+  some = unsigned_some;
 }
 
 -- identifiers
@@ -169,6 +191,45 @@ uri_some (map ps) none = wrong none
 
 pub uri_law : Lawful (one a_uri) Uri uri_item 2
 uri_law = record { told = uri_told; same = uri_same; some = uri_some }
+
+-- times
+
+bare_time : (z : ℤ) → Told (one a_time) Time time_item 2 z (integer z)
+bare_time z = record { none = refl; again = inl refl; proper = λ p. (omega arith, p); within = λ n le d. le }
+
+tagged_time : (z : ℤ) → Told (one a_time) Time time_item 2 z (tagged 1 (integer z))
+tagged_time z = record { none = refl; again = inl refl; proper = λ p. p; within = λ n le d. d }
+
+time_told : (z : ℤ) (t : Term) → Time z t → Told (one a_time) Time time_item 2 z t
+time_told z t (inl is) = let P : Term → Type 0 = λ u. Told (one a_time) Time time_item 2 z u in subst P (sym is) (tagged_time z)
+time_told z t (inr is) = let P : Term → Type 0 = λ u. Told (one a_time) Time time_item 2 z u in subst P (sym is) (bare_time z)
+
+time_same : (z y : ℤ) (t : Term) → Time z t → Time y t → time_item z ≡ time_item y
+time_same z y t (inl first) (inl second) = sym first ∙ second
+time_same z y t (inr first) (inr second) = ap (λ (u : Term). tagged 1 u) (sym first ∙ second)
+time_same z y t (inl first) (inr second) = cc
+time_same z y t (inr first) (inl second) = cc
+
+under_1 : (n : ℕ) (z : ℤ) → unless_wrong (n == 1) ≡ None → Time z (tagged n (integer z))
+under_1 n z none = inl (ap (λ (m : ℕ). tagged m (integer z)) (eqb-true n 1 (right (n == 1) none)))
+
+time_some : (t : Term) → field_fault (one a_time) t ≡ None → (z : ℤ) × Time z t
+time_some (integer z) none = (z, inr refl)
+time_some (tagged n (integer z)) none = (z, under_1 n z none)
+time_some (tagged n (text s)) none = wrong none
+time_some (tagged n (octets s)) none = wrong none
+time_some (tagged n (array ts)) none = wrong none
+time_some (tagged n (map ps)) none = wrong none
+time_some (tagged n (tagged m t)) none = wrong none
+time_some (tagged n (boolean b)) none = wrong none
+time_some (text s) none = wrong none
+time_some (octets s) none = wrong none
+time_some (boolean b) none = wrong none
+time_some (array ts) none = wrong none
+time_some (map ps) none = wrong none
+
+pub time_law : Lawful (one a_time) Time time_item 2
+time_law = record { told = time_told; same = time_same; some = time_some }
 
 -- hashes
 

@@ -1,5 +1,5 @@
 -- The item that a tag is read from fixes what is printed of the tag.
-use Rattle.std.proofs.Common.{◌≡◌, ℕ, ℤ, ◌⊎◌, inl, inr, Bool, true, false, List, [], ◌∷◌, ◌++◌, map as map_list, Option, Some, None, refl, sym, ap, ◌∙◌}
+use Rattle.std.proofs.Common.{◌≡◌, ℕ, ℤ, inl, inr, Bool, true, false, List, [], ◌∷◌, ◌++◌, map as map_list, Option, Some, None, refl, sym, ap, ◌∙◌}
 use Rattle.std.specs.Prelude.{◌||◌, cond, codes}
 use Rattle.std.specs.List.{flat_map, list_any}
 use Rattle.std.specs.Option.{option_map}
@@ -22,7 +22,7 @@ use Rattle.coswid_tag.specs.declared.value.TagId.TheVariants as identifier
 use Rattle.coswid_codec.specs.Forms.{Identifier, Code, EntityKeys, EntityMap, LinkKeys, LinkMap, TagKeys, TagForm}
 use Rattle.coswid_codec.specs.Items.{tag_item}
 use Rattle.coswid_codec.specs.Marked.{content}
-use Rattle.coswid_codec.specs.TagText.{canonical_line, finding_line, identifier_line, kind_line, tag_text}
+use Rattle.coswid_codec.specs.TagText.{canonical_line, finding_line, identifier_line, kind_line, summary_text, tag_text}
 use Rattle.coswid_codec.proofs.Several.{IsAlone}
 
 -- ---- what an item fixes, by its form
@@ -31,7 +31,7 @@ use Rattle.coswid_codec.proofs.Several.{IsAlone}
 abbrev pub Fixes : {A B : Type 0} → (A → Term → Type 0) → (A → B) → Type 0
 Fixes {A} Is f = (v w : A) (t : Term) → Is v t → Is w t → f v ≡ f w
 
-text_fixed : (v w : List ℕ) (t : Term) → Text v t → Text w t → v ≡ w
+pub text_fixed : (v w : List ℕ) (t : Term) → Text v t → Text w t → v ≡ w
 text_fixed v w t a b = same (sym a ∙ b)
   where
     same : text v ≡ text w → v ≡ w
@@ -49,19 +49,19 @@ tagged_same v w e = cc
 never : (v w : List ℕ) → tagged 32 (text v) ≡ text w → ⊥
 never v w e = absurd cc
 
-uri_fixed : (v w : List ℕ) (t : Term) → Uri v t → Uri w t → v ≡ w
+pub uri_fixed : (v w : List ℕ) (t : Term) → Uri v t → Uri w t → v ≡ w
 uri_fixed v w t (inl a) (inl b) = tagged_same v w (sym a ∙ b)
 uri_fixed v w t (inr a) (inr b) = text_fixed v w t a b
 uri_fixed v w t (inl a) (inr b) = absurd (never v w (sym a ∙ b))
 uri_fixed v w t (inr a) (inl b) = absurd (never w v (sym b ∙ a))
 
-integer_same : (x y : ℤ) → integer x ≡ integer y → x ≡ y
+pub integer_same : (x y : ℤ) → integer x ≡ integer y → x ≡ y
 integer_same x y e = cc
 
 no_text : (x : ℤ) (y : List ℕ) → integer x ≡ text y → ⊥
 no_text x y e = absurd cc
 
-code_fixed : (v w : CodeValue) (t : Term) → Code v t → Code w t → v ≡ w
+pub code_fixed : (v w : CodeValue) (t : Term) → Code v t → Code w t → v ≡ w
 code_fixed (code.Int x) (code.Int y) t a b = ap code.Int (integer_same x y (sym a ∙ b))
 code_fixed (code.Text x) (code.Text y) t a b = ap code.Text (text_fixed x y t a b)
 code_fixed (code.Int x) (code.Text y) t a b = absurd (no_text x y (sym a ∙ b))
@@ -73,14 +73,14 @@ octets_same x y e = cc
 no_octets : (x y : List ℕ) → text x ≡ octets y → ⊥
 no_octets x y e = absurd cc
 
-identifier_fixed : (v w : TagId) (t : Term) → Identifier v t → Identifier w t → v ≡ w
+pub identifier_fixed : (v w : TagId) (t : Term) → Identifier v t → Identifier w t → v ≡ w
 identifier_fixed (identifier.Text x) (identifier.Text y) t a b = ap identifier.Text (text_fixed x y t a b)
 identifier_fixed (identifier.Uuid x) (identifier.Uuid y) t a b = ap identifier.Uuid (octets_same x y (sym a.1 ∙ b.1))
 identifier_fixed (identifier.Text x) (identifier.Uuid y) t a b = absurd (no_octets x y (sym a ∙ b.1))
 identifier_fixed (identifier.Uuid x) (identifier.Text y) t a b = absurd (no_octets y x (sym b ∙ a.1))
 
 -- a map, by what its keys fix
-map_fixed : {A B : Type 0} (Keys : A → Pairs → Type 0) (f : A → B) → ((v w : A) (ps : Pairs) → Keys v ps → Keys w ps → f v ≡ f w) → Fixes (λ v. IsMap (Keys v)) f
+pub map_fixed : {A B : Type 0} (Keys : A → Pairs → Type 0) (f : A → B) → ((v w : A) (ps : Pairs) → Keys v ps → Keys w ps → f v ≡ f w) → Fixes (λ v. IsMap (Keys v)) f
 map_fixed Keys f fixes v w (map ps) a b = fixes v w ps a b
 map_fixed Keys f fixes v w (integer z) a b = absurd a
 map_fixed Keys f fixes v w (octets s) a b = absurd a
@@ -161,7 +161,7 @@ module _ {A B : Type 0} (Is : A → Term → Type 0) (f : A → B) (fixes : Fixe
 
 -- ---- what of it is told
 
-itself : {A : Type 0} (x y : Option A) → option_map (λ v. v) x ≡ option_map (λ v. v) y → x ≡ y
+pub itself : {A : Type 0} (x y : Option A) → option_map (λ v. v) x ≡ option_map (λ v. v) y → x ≡ y
 itself None None e = refl
 itself (Some v) (Some w) e = e
 itself None (Some w) e = absurd cc
@@ -181,7 +181,7 @@ any_by test (v ∷ vs) = ap (λ (b : Bool). test v || b) (any_by test vs)
 any_same : {A : Type 0} (test : A → Bool) (vs ws : List A) → map_list test vs ≡ map_list test ws → list_any test vs ≡ list_any test ws
 any_same test vs ws e = any_by test vs ∙ ap (λ (bs : List Bool). list_any (λ (b : Bool). b) bs) e ∙ sym (any_by test ws)
 
-some_same : {A : Type 0} (v w : A) → Some v ≡ Some w → v ≡ w
+pub some_same : {A : Type 0} (v w : A) → Some v ≡ Some w → v ≡ w
 some_same v w e = cc
 
 any_of_all : {A : Type 0} (test : A → Bool) (x y : Option (List A)) → option_map (map_list test) x ≡ option_map (map_list test) y → list_any test (all_of x) ≡ list_any test (all_of y)
@@ -205,7 +205,7 @@ facts e = (created e, e.reg_id)
 entity_facts : (v w : Entity) (ps : Pairs) → EntityKeys v ps → EntityKeys w ps → facts v ≡ facts w
 entity_facts v w ps a b = ap (λ (c : Bool). (c, v.reg_id)) (entity_created v w ps a b) ∙ ap (λ (r : Option (List ℕ)). (created w, r)) (entity_registered v w ps a b)
 
-link_rel : (v w : LinkEntry) (ps : Pairs) → LinkKeys v ps → LinkKeys w ps → v.rel ≡ w.rel
+pub link_rel : (v w : LinkEntry) (ps : Pairs) → LinkKeys v ps → LinkKeys w ps → v.rel ≡ w.rel
 link_rel v w ps a b = required_fixed Code (λ c. c) code_fixed 40 v.rel w.rel ps a.rel b.rel
 
 -- ---- the identifier
@@ -258,7 +258,7 @@ module _ (g h : Tag) (ps : Pairs) (a : TagKeys g ps) (b : TagKeys h ps) where
   told_facts : map_list facts g.entity ≡ map_list facts h.entity
   told_facts = required_fixed (OneOrMore EntityMap) (map_list facts) (row_fixed EntityMap facts (map_fixed EntityKeys facts entity_facts)) 2 g.entity h.entity ps a.entity b.entity
 
-  told_id : g.tag_id ≡ h.tag_id
+  pub told_id : g.tag_id ≡ h.tag_id
   told_id = required_fixed Identifier (λ i. i) identifier_fixed 0 g.tag_id h.tag_id ps a.tag_id b.tag_id
 
   pub kind_same : kind g ≡ kind h
@@ -299,6 +299,26 @@ keys_same_findings g h (text s) a b = absurd a
 keys_same_findings g h (array ts) a b = absurd a
 keys_same_findings g h (tagged n t) a b = absurd a
 keys_same_findings g h (boolean c) a b = absurd a
+
+-- the lines before the spelling, by what of the tag they tell
+abbrev summary_by : TagKind → Option (List ℕ) → List ℕ → List ℕ
+summary_by k i fs = kind_line k ++ identifier_line i ++ flat_map finding_line fs
+
+keys_same_summary : (g h : Tag) (t : Term) → IsMap (TagKeys g) t → IsMap (TagKeys h) t → summary_text g ≡ summary_text h
+keys_same_summary g h (map ps) a b =
+    ap (λ (k : TagKind). summary_by k (identifier_of g) (findings g)) (kind_same g h ps a b)
+    ∙ ap (λ (i : Option (List ℕ)). summary_by (kind h) i (findings g)) (identifier_same g h ps a b)
+    ∙ ap (λ (fs : List ℕ). summary_by (kind h) (identifier_of h) fs) (findings_same g h ps a b)
+keys_same_summary g h (integer z) a b = absurd a
+keys_same_summary g h (octets s) a b = absurd a
+keys_same_summary g h (text s) a b = absurd a
+keys_same_summary g h (array ts) a b = absurd a
+keys_same_summary g h (tagged n t) a b = absurd a
+keys_same_summary g h (boolean c) a b = absurd a
+
+-- Two tags that are read from one item have the same lines before that of their spelling.
+pub same_summary : (g h : Tag) (t : Term) → TagForm g t → TagForm h t → summary_text g ≡ summary_text h
+same_summary g h t a b = keys_same_summary g h (content t) a.keys b.keys
 
 -- Two tags that are read from one item, and are written as one, have one text.
 pub same_text : (g h : Tag) (t : Term) → TagForm g t → TagForm h t → tag_item g ≡ tag_item h → tag_text g ≡ tag_text h

@@ -1,5 +1,5 @@
 -- One or more values of a form, an array of them or one alone.
-use Rattle.std.proofs.Common.{◌≡◌, ◌≢◌, ◌≤◌, ℕ, ◌+◌, ◌-◌, List, [], ◌∷◌, map as map_list, Option, Some, None, refl, sym, ap, ◌∙◌, arith}
+use Rattle.std.proofs.Common.{◌≡◌, ◌≢◌, ◌≤◌, ℕ, ◌+◌, ◌-◌, List, [], ◌∷◌, map as map_list, Option, None, refl, sym, ap, ◌∙◌, arith}
 use Rattle.cbor_det.specs.Term.{Term, Terms, integer, octets, text, array, map, tagged, boolean, no_terms, term, depth, terms_depth}
 use Rattle.cbor_det.specs.View.{terms_of}
 use Rattle.cbor_det.specs.Proper.{AreProper}
@@ -9,7 +9,7 @@ use Rattle.coswid_res.specs.Fault.{field_fault, elements_fault, under, or_else}
 use Rattle.coswid_res.specs.Items.{row_item}
 use Rattle.coswid_res.specs.Words.{Each, OneOrMore}
 use Rattle.coswid_res.proofs.Maps.{or_none}
-use Rattle.coswid_codec.proofs.Lawful.{Told, Lawful, wrong}
+use Rattle.coswid_codec.proofs.Lawful.{Told, Lawful, next, next_less, next_more, under_none, wrong}
 
 -- No value of these is written as an array.
 abbrev pub IsAlone : Term → Type 0
@@ -25,46 +25,99 @@ alone Is v (map ps) no_array is = is
 alone Is v (tagged n t) no_array is = is
 alone Is v (boolean b) no_array is = is
 
-under_none : (place : ℕ) (o : Option FormFault) → under place o ≡ None → o ≡ None
-under_none place None is = refl
-under_none place (Some f) is = absurd cc
+-- An array that is not empty is read as some values.
+pub filled : {A : Type 0} (Is : A → Term → Type 0) (vs : List A) (t : Term) (ts : Terms) → Each Is vs (term t ts) → vs ≢ []
+filled Is [] t ts each = absurd each
+filled Is (v ∷ vs) t ts each = λ e. cc
 
-module _ {A : Type 0} (form : Form) (Is : A → Term → Type 0) (item : A → Term) (least : ℕ) (law : Lawful (one form) Is item least) (plain : (v : A) → IsAlone (item v)) where
+module _ {A : Type 0} (form : Form) (Is : A → Term → Type 0) (item : A → Term) (least : ℕ) (plain : (v : A) → IsAlone (item v)) where
   abbrev items : List A → List Term
   items vs = map_list item vs
 
-  each_none : (vs : List A) (ts : Terms) (i : ℕ) → Each Is vs ts → elements_fault form i ts ≡ None
+  -- what is known of one value
+  abbrev One : A → Term → Type 0
+  One v t = Told (one form) Is item least v t
+
+  each_none : (vs : List A) (ts : Terms) (i : ℕ) → Each One vs ts → elements_fault form i ts ≡ None
   each_none [] no_terms i each = refl
   each_none (v ∷ vs) (term t ts) i each =
-      ap (λ (o : Option FormFault). or_else (under i o) (elements_fault form (i + 1) ts)) ((law.told v t each.0).none) ∙ each_none vs ts (i + 1) each.1
+      ap (λ (o : Option FormFault). or_else (under i o) (elements_fault form (i + 1) ts)) (each.0.none) ∙ each_none vs ts (i + 1) each.1
   each_none [] (term t ts) i each = absurd each
   each_none (v ∷ vs) no_terms i each = absurd each
 
-  each_again : (vs : List A) (ts : Terms) → Each Is vs ts → Each Is vs (terms_of (items vs))
+  each_again : (vs : List A) (ts : Terms) → Each One vs ts → Each Is vs (terms_of (items vs))
   each_again [] no_terms each = tt
-  each_again (v ∷ vs) (term t ts) each = ((law.told v t each.0).again, each_again vs ts each.1)
+  each_again (v ∷ vs) (term t ts) each = (each.0.again, each_again vs ts each.1)
   each_again [] (term t ts) each = absurd each
   each_again (v ∷ vs) no_terms each = absurd each
 
-  each_proper : (vs : List A) (ts : Terms) → Each Is vs ts → AreProper ts → AreProper (terms_of (items vs))
+  each_proper : (vs : List A) (ts : Terms) → Each One vs ts → AreProper ts → AreProper (terms_of (items vs))
   each_proper [] no_terms each proper = tt
-  each_proper (v ∷ vs) (term t ts) each proper = ((law.told v t each.0).proper proper.0, each_proper vs ts each.1 proper.1)
+  each_proper (v ∷ vs) (term t ts) each proper = (each.0.proper proper.0, each_proper vs ts each.1 proper.1)
   each_proper [] (term t ts) each proper = absurd each
   each_proper (v ∷ vs) no_terms each proper = absurd each
 
-  each_within : (vs : List A) (ts : Terms) (n : ℕ) → Each Is vs ts → least ≤ n → terms_depth ts ≤ n → terms_depth (terms_of (items vs)) ≤ n
+  each_within : (vs : List A) (ts : Terms) (n : ℕ) → Each One vs ts → least ≤ n → terms_depth ts ≤ n → terms_depth (terms_of (items vs)) ≤ n
   each_within [] no_terms n each le deep = omega arith
   each_within (v ∷ vs) (term t ts) n each le deep =
-      let first : depth (item v) ≤ n = (law.told v t each.0).within n le (omega (arith, deep)) in
+      let first : depth (item v) ≤ n = each.0.within n le (omega (arith, deep)) in
       let rest : terms_depth (terms_of (items vs)) ≤ n = each_within vs ts n each.1 le (omega (arith, deep)) in
       omega (arith, first, rest)
   each_within [] (term t ts) n each le deep = absurd each
   each_within (v ∷ vs) no_terms n each le deep = absurd each
 
-  each_same : (vs ws : List A) (ts : Terms) → Each Is vs ts → Each Is ws ts → items vs ≡ items ws
+  -- an array of values
+  pub array_told : (vs : List A) (ts : Terms) → (vs ≢ []) → Each (λ (v : A) (t : Term). Told (one form) Is item least v t) vs ts
+      → Told (one_or_more form) (OneOrMore Is) (λ us. row_item (map_list item us)) (next least) vs (array ts)
+  array_told [] ts some each = absurd (some refl)
+  array_told (v ∷ []) (term t no_terms) some each = record {
+    none = each_none (v ∷ []) (term t no_terms) 0 each;
+    again = alone Is v (item v) (plain v) each.0.again;
+    proper = λ p. each.0.proper p.0;
+    within = λ n le deep. each.0.within n (next_more least n le) (omega (arith, deep));
+  }
+  array_told (v ∷ w ∷ vs) (term t ts) some each = record {
+    none = each_none (v ∷ w ∷ vs) (term t ts) 0 each;
+    again = ((λ e. cc), each_again (v ∷ w ∷ vs) (term t ts) each);
+    proper = λ p. each_proper (v ∷ w ∷ vs) (term t ts) each p;
+    within = λ n le deep.
+        let l : terms_depth (terms_of (items (v ∷ w ∷ vs))) ≤ n - 1 = each_within (v ∷ w ∷ vs) (term t ts) (n - 1) each (next_less least n le) (omega (arith, deep)) in
+        omega (arith, l, deep);
+  }
+  array_told (v ∷ []) no_terms some each = absurd each
+  array_told (v ∷ []) (term t (term u ts)) some each = absurd each.1
+  array_told (v ∷ w ∷ vs) no_terms some each = absurd each
+
+  -- one value alone
+  pub one_told : (v : A) (t : Term) → field_fault (one_or_more form) t ≡ field_fault (one form) t → Told (one form) Is item least v t
+      → Told (one_or_more form) (OneOrMore Is) (λ us. row_item (map_list item us)) least (v ∷ []) t
+  one_told v t alike told = record {
+    none = alike ∙ told.none;
+    again = alone Is v (item v) (plain v) told.again;
+    proper = λ p. told.proper p;
+    within = λ n le deep. told.within n le deep;
+  }
+
+module _ {A : Type 0} (form : Form) (Is : A → Term → Type 0) (item : A → Term) (least : ℕ) (law : Lawful (one form) Is item least) (plain : (v : A) → IsAlone (item v)) where
+  abbrev items_of : List A → List Term
+  items_of vs = map_list item vs
+
+  each_told : (vs : List A) (ts : Terms) → Each Is vs ts → Each (λ (v : A) (t : Term). Told (one form) Is item least v t) vs ts
+  each_told [] no_terms each = tt
+  each_told (v ∷ vs) (term t ts) each = (law.told v t each.0, each_told vs ts each.1)
+  each_told [] (term t ts) each = absurd each
+  each_told (v ∷ vs) no_terms each = absurd each
+
+  lone : (v : A) (t : Term) → field_fault (one_or_more form) t ≡ field_fault (one form) t → Is v t
+      → Told (one_or_more form) (OneOrMore Is) (λ us. row_item (items_of us)) (next least) (v ∷ []) t
+  lone v t alike is =
+      let told = one_told form Is item least plain v t alike (law.told v t is) in
+      record { none = told.none; again = told.again; proper = told.proper; within = λ n le deep. told.within n (next_more least n le) deep }
+
+  each_same : (vs ws : List A) (ts : Terms) → Each Is vs ts → Each Is ws ts → items_of vs ≡ items_of ws
   each_same [] [] no_terms first second = refl
   each_same (v ∷ vs) (w ∷ ws) (term t ts) first second =
-      ap (λ (u : Term). u ∷ items vs) (law.same v w t first.0 second.0) ∙ ap (λ (us : List Term). item w ∷ us) (each_same vs ws ts first.1 second.1)
+      ap (λ (u : Term). u ∷ items_of vs) (law.same v w t first.0 second.0) ∙ ap (λ (us : List Term). item w ∷ us) (each_same vs ws ts first.1 second.1)
   each_same [] ws (term t ts) first second = absurd first
   each_same (v ∷ vs) ws no_terms first second = absurd first
   each_same [] (w ∷ ws) no_terms first second = absurd second
@@ -78,45 +131,14 @@ module _ {A : Type 0} (form : Form) (Is : A → Term → Type 0) (item : A → T
       let rest = each_some ts (i + 1) both.1 in
       (first.0 ∷ rest.0, (first.1, rest.1))
 
-  -- an array of values
-  array_told : (vs : List A) (ts : Terms) → (vs ≢ []) → Each Is vs ts → Told (one_or_more form) (OneOrMore Is) (λ us. row_item (items us)) (least + 1) vs (array ts)
-  array_told [] ts some each = absurd (some refl)
-  array_told (v ∷ []) (term t no_terms) some each = record {
-    none = each_none (v ∷ []) (term t no_terms) 0 each;
-    again = alone Is v (item v) (plain v) (law.told v t each.0).again;
-    proper = λ p. (law.told v t each.0).proper p.0;
-    within = λ n le deep. (law.told v t each.0).within n (omega (arith, le)) (omega (arith, deep));
-  }
-  array_told (v ∷ w ∷ vs) (term t ts) some each = record {
-    none = each_none (v ∷ w ∷ vs) (term t ts) 0 each;
-    again = ((λ e. cc), each_again (v ∷ w ∷ vs) (term t ts) each);
-    proper = λ p. each_proper (v ∷ w ∷ vs) (term t ts) each p;
-    within = λ n le deep.
-        let l : terms_depth (terms_of (items (v ∷ w ∷ vs))) ≤ n - 1 = each_within (v ∷ w ∷ vs) (term t ts) (n - 1) each (omega (arith, le)) (omega (arith, deep)) in
-        omega (arith, l, le);
-  }
-  array_told (v ∷ []) no_terms some each = absurd each
-  array_told (v ∷ []) (term t (term u ts)) some each = absurd each.1
-  array_told (v ∷ w ∷ vs) no_terms some each = absurd each
-
-  -- one value alone
-  one_told : (v : A) (t : Term) → field_fault (one_or_more form) t ≡ field_fault (one form) t → Is v t
-      → Told (one_or_more form) (OneOrMore Is) (λ us. row_item (items us)) (least + 1) (v ∷ []) t
-  one_told v t alike is = record {
-    none = alike ∙ (law.told v t is).none;
-    again = alone Is v (item v) (plain v) (law.told v t is).again;
-    proper = λ p. (law.told v t is).proper p;
-    within = λ n le deep. (law.told v t is).within n (omega (arith, le)) deep;
-  }
-
-  several_told : (vs : List A) (t : Term) → OneOrMore Is vs t → Told (one_or_more form) (OneOrMore Is) (λ us. row_item (items us)) (least + 1) vs t
-  several_told vs (array ts) is = array_told vs ts is.0 is.1
-  several_told (v ∷ []) (integer z) is = one_told v (integer z) refl is
-  several_told (v ∷ []) (octets s) is = one_told v (octets s) refl is
-  several_told (v ∷ []) (text s) is = one_told v (text s) refl is
-  several_told (v ∷ []) (map ps) is = one_told v (map ps) refl is
-  several_told (v ∷ []) (tagged n t) is = one_told v (tagged n t) refl is
-  several_told (v ∷ []) (boolean b) is = one_told v (boolean b) refl is
+  several_told : (vs : List A) (t : Term) → OneOrMore Is vs t → Told (one_or_more form) (OneOrMore Is) (λ us. row_item (items_of us)) (next least) vs t
+  several_told vs (array ts) is = array_told form Is item least plain vs ts is.0 (each_told vs ts is.1)
+  several_told (v ∷ []) (integer z) is = lone v (integer z) refl is
+  several_told (v ∷ []) (octets s) is = lone v (octets s) refl is
+  several_told (v ∷ []) (text s) is = lone v (text s) refl is
+  several_told (v ∷ []) (map ps) is = lone v (map ps) refl is
+  several_told (v ∷ []) (tagged n t) is = lone v (tagged n t) refl is
+  several_told (v ∷ []) (boolean b) is = lone v (boolean b) refl is
   several_told [] (integer z) is = absurd is
   several_told [] (octets s) is = absurd is
   several_told [] (text s) is = absurd is
@@ -134,11 +156,11 @@ module _ {A : Type 0} (form : Form) (Is : A → Term → Type 0) (item : A → T
   abbrev Single : Term → Type 0
   Single t = (vs : List A) → OneOrMore Is vs t → (v : A) × (vs ≡ v ∷ []) × Is v t
 
-  single_same : (t : Term) → Single t → (vs ws : List A) → OneOrMore Is vs t → OneOrMore Is ws t → row_item (items vs) ≡ row_item (items ws)
+  single_same : (t : Term) → Single t → (vs ws : List A) → OneOrMore Is vs t → OneOrMore Is ws t → row_item (items_of vs) ≡ row_item (items_of ws)
   single_same t single vs ws first second =
       let a = single vs first in
       let b = single ws second in
-      ap (λ (us : List A). row_item (items us)) a.1 ∙ law.same a.0 b.0 t a.2 b.2 ∙ sym (ap (λ (us : List A). row_item (items us)) b.1)
+      ap (λ (us : List A). row_item (items_of us)) a.1 ∙ law.same a.0 b.0 t a.2 b.2 ∙ sym (ap (λ (us : List A). row_item (items_of us)) b.1)
 
   single_integer : (z : _) → Single (integer z)
   single_integer z (v ∷ []) is = (v, refl, is)
@@ -170,7 +192,7 @@ module _ {A : Type 0} (form : Form) (Is : A → Term → Type 0) (item : A → T
   single_boolean b [] is = absurd is
   single_boolean b (v ∷ w ∷ vs) is = absurd is
 
-  several_same : (vs ws : List A) (t : Term) → OneOrMore Is vs t → OneOrMore Is ws t → row_item (items vs) ≡ row_item (items ws)
+  several_same : (vs ws : List A) (t : Term) → OneOrMore Is vs t → OneOrMore Is ws t → row_item (items_of vs) ≡ row_item (items_of ws)
   several_same vs ws (array ts) first second = ap (λ (us : List Term). row_item us) (each_same vs ws ts first.1 second.1)
   several_same vs ws (integer z) first second = single_same (integer z) (single_integer z) vs ws first second
   several_same vs ws (octets s) first second = single_same (octets s) (single_octets s) vs ws first second
@@ -179,15 +201,11 @@ module _ {A : Type 0} (form : Form) (Is : A → Term → Type 0) (item : A → T
   several_same vs ws (tagged n t) first second = single_same (tagged n t) (single_tagged n t) vs ws first second
   several_same vs ws (boolean b) first second = single_same (boolean b) (single_boolean b) vs ws first second
 
-  filled : (vs : List A) (t : Term) (ts : Terms) → Each Is vs (term t ts) → vs ≢ []
-  filled [] t ts each = absurd each
-  filled (v ∷ vs) t ts each = λ e. cc
-
   elements_some : (ts : Terms) → field_fault (one_or_more form) (array ts) ≡ None → (vs : List A) × OneOrMore Is vs (array ts)
   elements_some no_terms none = wrong none
   elements_some (term t ts) none =
       let found = each_some (term t ts) 0 none in
-      (found.0, (filled found.0 t ts found.1, found.1))
+      (found.0, (filled Is found.0 t ts found.1, found.1))
 
   several_some : (t : Term) → field_fault (one_or_more form) t ≡ None → (vs : List A) × OneOrMore Is vs t
   several_some (array ts) none = elements_some ts none
@@ -198,5 +216,5 @@ module _ {A : Type 0} (form : Form) (Is : A → Term → Type 0) (item : A → T
   several_some (tagged n t) none = let found = law.some (tagged n t) none in (found.0 ∷ [], found.1)
   several_some (boolean b) none = let found = law.some (boolean b) none in (found.0 ∷ [], found.1)
 
-  pub several_law : Lawful (one_or_more form) (OneOrMore Is) (λ vs. row_item (map_list item vs)) (least + 1)
+  pub several_law : Lawful (one_or_more form) (OneOrMore Is) (λ vs. row_item (map_list item vs)) (next least)
   several_law = record { told = several_told; same = several_same; some = several_some }

@@ -8,17 +8,17 @@ use Rattle.cbor_det.specs.Adding.{put}
 use Rattle.cbor_det.specs.Lookup.{is_unsigned, value_under, is_one_of, other_than}
 use Rattle.cbor_det.specs.Proper.{IsProper, ArePairsProper, IsProperMap}
 use Rattle.cbor_det.specs.Spelling.{IsBelow, Rises}
-use Rattle.cbor_det.specs.Term.{Term, Pairs, no_pairs, pair, depth, pairs_depth}
+use Rattle.cbor_det.specs.Term.{Term, Pairs, integer, octets, text, array, map, tagged, boolean, no_pairs, pair, depth, pairs_depth}
 use Rattle.cbor_det.proofs.Order.{key_cmp, below_trans}
 use Rattle.coswid_res.specs.declared.fault.FormFault.{FormFault}
 use Rattle.coswid_res.specs.Fault.{or_else, under, absent, missing}
 use Rattle.coswid_res.specs.Items.{required_pair, optional_pair, put_all}
 use Rattle.coswid_res.specs.Reading.{value_fault, line_fault, lines_fault, keys_fault}
-use Rattle.coswid_res.specs.Schema.{Name, tag, entity, link, software_meta, table, Line, Field, one, nothing, required, optional, key_of, keys_of, required_keys}
-use Rattle.coswid_res.specs.Words.{Agree, Required, Optional, Absent}
+use Rattle.coswid_res.specs.Schema.{Name, tag, entity, link, software_meta, payload, evidence, directory, path_elements, file, process, resource, table, Line, Field, required, optional, key_of, keys_of, required_keys}
+use Rattle.coswid_res.specs.Words.{Agree, Required, Optional}
 use Rattle.coswid_res.proofs.Maps.{or_none}
 use Rattle.coswid_codec.proofs.Fields.{number, under_other, under_this, others_put, others_again, others_none, put_proper, put_within}
-use Rattle.coswid_codec.proofs.Lawful.{Lawful}
+use Rattle.coswid_codec.proofs.Lawful.{Told, Lawful}
 
 -- A field: how it is put, and what stands under its key then.
 abbrev pub Entry : Type 0
@@ -29,9 +29,6 @@ required_entry k item v = (required_pair k item v, Some (item v))
 
 abbrev pub optional_entry : {A : Type 0} → ℕ → (A → Term) → Option A → Entry
 optional_entry k item x = (optional_pair k item x, option_map item x)
-
-abbrev pub no_entry : Entry
-no_entry = ((λ qs. qs), None)
 
 abbrev pub fills : List Entry → List (Pairs → Pairs)
 fills [] = []
@@ -79,9 +76,9 @@ under_within k (pair l w ps) t n e deep =
       | inr rest ↦ under_within k ps t n rest (omega (arith, d))
     ]
 
-pub required_fact : {A : Type 0} (field : Field) (Is : A → Term → Type 0) (item : A → Term) (most least k : ℕ) (v : A) (ps : Pairs) → Lawful field Is item most → most ≤ least
+pub required_fact : {A : Type 0} {field : Field} {Is : A → Term → Type 0} {item : A → Term} {most : ℕ} (least k : ℕ) (v : A) (ps : Pairs) → Lawful field Is item most → most ≤ least
     → Required k Is v ps → Fact (required k field) (required_entry k item v) least ps
-required_fact field Is item most least k v ps law le is =
+required_fact {field} {Is} {item} {most} least k v ps law le is =
     let at = there Is v (value_under k ps) is in
     let told = law.told v at.0 at.2 in
     let e : value_under k ps ≡ Some at.0 = at.1 in
@@ -92,36 +89,38 @@ required_fact field Is item most least k v ps law le is =
       within = λ n less deep. told.within n (omega (arith, le, less)) (under_within k ps at.0 n e deep);
     }
 
-optional_by : {A : Type 0} (field : Field) (Is : A → Term → Type 0) (item : A → Term) (most least k : ℕ) (x : Option A) (o : Option Term) (ps : Pairs) → Lawful field Is item most → most ≤ least
-    → value_under k ps ≡ o → Agree Is x o → Fact (optional k field) (optional_entry k item x) least ps
-optional_by field Is item most least k None None ps law le e is = record {
+told_by : {A : Type 0} (field : Field) (Is : A → Term → Type 0) (item : A → Term) (most least k : ℕ) (x : Option A) (o : Option Term) (ps : Pairs) → most ≤ least → value_under k ps ≡ o
+    → Agree (λ (v : A) (t : Term). Told field Is item most v t) x o → Fact (optional k field) (optional_entry k item x) least ps
+told_by field Is item most least k None None ps le e told = record {
   none = ap (λ (o : Option Term). value_fault k field o) e;
   fills = λ qs. refl;
   proper = λ p. tt;
   within = λ n less deep. tt;
 }
-optional_by field Is item most least k (Some v) (Some t) ps law le e is =
-    let told = law.told v t is in
-    record {
-      none = ap (λ (o : Option Term). value_fault k field o) e ∙ ap (λ (o : Option FormFault). under k o) told.none;
-      fills = λ qs. refl;
-      proper = λ p. told.proper (under_proper k ps t e p);
-      within = λ n less deep. told.within n (omega (arith, le, less)) (under_within k ps t n e deep);
-    }
-optional_by field Is item most least k None (Some t) ps law le e is = absurd is
-optional_by field Is item most least k (Some v) None ps law le e is = absurd is
-
-pub optional_fact : {A : Type 0} (field : Field) (Is : A → Term → Type 0) (item : A → Term) (most least k : ℕ) (x : Option A) (ps : Pairs) → Lawful field Is item most → most ≤ least
-    → Optional k Is x ps → Fact (optional k field) (optional_entry k item x) least ps
-optional_fact field Is item most least k x ps law le is = optional_by field Is item most least k x (value_under k ps) ps law le refl is
-
-pub absent_fact : (least k : ℕ) (ps : Pairs) → Absent k ps → Fact (optional k (one nothing)) no_entry least ps
-absent_fact least k ps none = record {
-  none = ap (λ (o : Option Term). value_fault k (one nothing) o) none;
+told_by field Is item most least k (Some v) (Some t) ps le e told = record {
+  none = ap (λ (o : Option Term). value_fault k field o) e ∙ ap (λ (o : Option FormFault). under k o) told.none;
   fills = λ qs. refl;
-  proper = λ p. tt;
-  within = λ n less deep. tt;
+  proper = λ p. told.proper (under_proper k ps t e p);
+  within = λ n less deep. told.within n (omega (arith, le, less)) (under_within k ps t n e deep);
 }
+told_by field Is item most least k None (Some t) ps le e told = absurd told
+told_by field Is item most least k (Some v) None ps le e told = absurd told
+
+-- where it is known of what stands there alone
+pub told_fact : {A : Type 0} (field : Field) (Is : A → Term → Type 0) (item : A → Term) (most least k : ℕ) (x : Option A) (ps : Pairs) → most ≤ least
+    → Agree (λ (v : A) (t : Term). Told field Is item most v t) x (value_under k ps) → Fact (optional k field) (optional_entry k item x) least ps
+told_fact field Is item most least k x ps le told = told_by field Is item most least k x (value_under k ps) ps le refl told
+
+pub agree_told : {A : Type 0} (field : Field) (Is : A → Term → Type 0) (item : A → Term) (most : ℕ) (x : Option A) (o : Option Term) → Lawful field Is item most → Agree Is x o
+    → Agree (λ (v : A) (t : Term). Told field Is item most v t) x o
+agree_told field Is item most None None law is = tt
+agree_told field Is item most (Some v) (Some t) law is = law.told v t is
+agree_told field Is item most None (Some t) law is = absurd is
+agree_told field Is item most (Some v) None law is = absurd is
+
+pub optional_fact : {A : Type 0} {field : Field} {Is : A → Term → Type 0} {item : A → Term} {most : ℕ} (least k : ℕ) (x : Option A) (ps : Pairs) → Lawful field Is item most → most ≤ least
+    → Optional k Is x ps → Fact (optional k field) (optional_entry k item x) least ps
+optional_fact {field} {Is} {item} {most} least k x ps law le is = told_fact field Is item most least k x ps le (agree_told field Is item most x (value_under k ps) law is)
 
 -- No line has a fault.
 
@@ -166,6 +165,13 @@ table_rises tag = rises 0 (table tag) refl
 table_rises entity = rises 0 (table entity) refl
 table_rises link = rises 0 (table link) refl
 table_rises software_meta = rises 0 (table software_meta) refl
+table_rises payload = rises 0 (table payload) refl
+table_rises evidence = rises 0 (table evidence) refl
+table_rises directory = rises 0 (table directory) refl
+table_rises path_elements = rises 0 (table path_elements) refl
+table_rises file = rises 0 (table file) refl
+table_rises process = rises 0 (table process) refl
+table_rises resource = rises 0 (table resource) refl
 
 -- Nothing stands under these keys.
 abbrev pub AreFree : List Line → Pairs → Type 0
@@ -192,6 +198,13 @@ table_listed tag = listed (keys_of (table tag)) (table tag) refl
 table_listed entity = listed (keys_of (table entity)) (table entity) refl
 table_listed link = listed (keys_of (table link)) (table link) refl
 table_listed software_meta = listed (keys_of (table software_meta)) (table software_meta) refl
+table_listed payload = listed (keys_of (table payload)) (table payload) refl
+table_listed evidence = listed (keys_of (table evidence)) (table evidence) refl
+table_listed directory = listed (keys_of (table directory)) (table directory) refl
+table_listed path_elements = listed (keys_of (table path_elements)) (table path_elements) refl
+table_listed file = listed (keys_of (table file)) (table file) refl
+table_listed process = listed (keys_of (table process)) (table process) refl
+table_listed resource = listed (keys_of (table resource)) (table resource) refl
 
 all_free : (ns : List ℕ) (lines : List Line) (ps : Pairs) → AreListed ns lines → AreFree lines (other_than ns ps)
 all_free ns [] ps are = tt
@@ -283,17 +296,30 @@ placed_proper least ps low (line ∷ lines) (e ∷ es) qs facts up free read pro
 placed_proper least ps low [] (e ∷ es) qs facts up free read proper = absurd facts
 placed_proper least ps low (line ∷ lines) [] qs facts up free read proper = absurd facts
 
-if_within : (n k : ℕ) (o : Option Term) (qs : Pairs) → 1 ≤ n → IfSome o (λ t. depth t ≤ n) → pairs_depth qs ≤ n → pairs_depth (put_if k o qs) ≤ n
-if_within n k None qs some value deep = deep
-if_within n k (Some t) qs some value deep = put_within n (number k) t qs some value deep
+-- An item has a level at least.
+some_depth : (t : Term) → 1 ≤ depth t
+some_depth (integer z) = omega arith
+some_depth (octets s) = omega arith
+some_depth (text s) = omega arith
+some_depth (array ts) = omega arith
+some_depth (map ps) = omega arith
+some_depth (tagged n t) = omega arith
+some_depth (boolean b) = omega arith
 
-placed_within : (least : ℕ) (ps : Pairs) (n : ℕ) (lines : List Line) (es : List Entry) (qs : Pairs) → Facts least ps lines es → 1 ≤ n → least ≤ n → pairs_depth ps ≤ n → pairs_depth qs ≤ n
+if_within : (n k : ℕ) (o : Option Term) (qs : Pairs) → IfSome o (λ t. depth t ≤ n) → pairs_depth qs ≤ n → pairs_depth (put_if k o qs) ≤ n
+if_within n k None qs value deep = deep
+if_within n k (Some t) qs value deep =
+    let level : 1 ≤ depth t = some_depth t in
+    let bound : depth t ≤ n = value in
+    put_within n (number k) t qs (omega (arith, level, bound)) value deep
+
+placed_within : (least : ℕ) (ps : Pairs) (n : ℕ) (lines : List Line) (es : List Entry) (qs : Pairs) → Facts least ps lines es → least ≤ n → pairs_depth ps ≤ n → pairs_depth qs ≤ n
     → pairs_depth (placed lines es qs) ≤ n
-placed_within least ps n [] [] qs facts some le read deep = deep
-placed_within least ps n (line ∷ lines) (e ∷ es) qs facts some le read deep =
-    placed_within least ps n lines es (put_if (key_of line) e.1 qs) facts.1 some le read (if_within n (key_of line) e.1 qs some (facts.0.within n le read) deep)
-placed_within least ps n [] (e ∷ es) qs facts some le read deep = absurd facts
-placed_within least ps n (line ∷ lines) [] qs facts some le read deep = absurd facts
+placed_within least ps n [] [] qs facts le read deep = deep
+placed_within least ps n (line ∷ lines) (e ∷ es) qs facts le read deep =
+    placed_within least ps n lines es (put_if (key_of line) e.1 qs) facts.1 le read (if_within n (key_of line) e.1 qs (facts.0.within n le read) deep)
+placed_within least ps n [] (e ∷ es) qs facts le read deep = absurd facts
+placed_within least ps n (line ∷ lines) [] qs facts le read deep = absurd facts
 
 -- The other pairs are proper, and no deeper.
 
@@ -336,7 +362,7 @@ pub record Made (name : Name) (es : List Entry) (xs : Pairs) (least : ℕ) (ps :
   pub found : (k : ℕ) → is_line k (table name) ≡ true → value_under k (put_all (fills es) xs) ≡ look k (table name) es
   pub rest : xs ≡ other_than (keys_of (table name)) (put_all (fills es) xs)
   pub proper : IsProperMap ps → IsProperMap (put_all (fills es) xs)
-  pub within : (n : ℕ) → 1 ≤ n → least ≤ n → pairs_depth ps ≤ n → pairs_depth (put_all (fills es) xs) ≤ n
+  pub within : (n : ℕ) → least ≤ n → pairs_depth ps ≤ n → pairs_depth (put_all (fills es) xs) ≤ n
 
 pub made : (name : Name) (es : List Entry) (xs : Pairs) (least : ℕ) (ps : Pairs) → Facts least ps (table name) es → xs ≡ other_than (keys_of (table name)) ps → Made name es xs least ps
 made name es xs least ps facts is =
@@ -351,7 +377,7 @@ made name es xs least ps facts is =
       rest = is ∙ sym (others_again ns ps) ∙ sym (ap (λ (qs : Pairs). other_than ns qs) is) ∙ sym (others_placed ns (table name) es xs (table_listed name))
           ∙ sym (ap (λ (qs : Pairs). other_than ns qs) e);
       proper = λ p. subst P (sym e) (placed_proper least ps 0 (table name) es xs facts (table_rises name) free p.1 (subst P (sym is) (others_proper ns ps p)));
-      within = λ n some le deep.
+      within = λ n le deep.
           let D : Pairs → Type 0 = λ qs. pairs_depth qs ≤ n in
-          subst D (sym e) (placed_within least ps n (table name) es xs facts some le deep (subst D (sym is) (others_within ns ps n deep)));
+          subst D (sym e) (placed_within least ps n (table name) es xs facts le deep (subst D (sym is) (others_within ns ps n deep)));
     }

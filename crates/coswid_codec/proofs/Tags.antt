@@ -4,30 +4,32 @@ use Rattle.cbor_det.specs.Lookup.{other_than}
 use Rattle.cbor_det.specs.Term.{Pairs, text, integer, boolean}
 use Rattle.cbor_det.specs.View.{pairs_view}
 use Rattle.coswid_res.specs.Schema as schema
-use Rattle.coswid_res.specs.Schema.{table, keys_of, one, a_boolean, a_code, an_identifier, an_integer, a_text, one_or_more, a_map}
+use Rattle.coswid_res.specs.Schema.{table, keys_of}
 use Rattle.coswid_res.specs.Reading.{keys_fault}
-use Rattle.coswid_res.specs.Words.{Text, Boolean, Integer, OneOrMore}
+use Rattle.coswid_res.specs.ResourceItems.{payload_item, evidence_item}
 use Rattle.coswid_tag.specs.declared.tag.Tag.{Tag}
-use Rattle.coswid_codec.specs.Forms.{TagKeys, Identifier, Code, EntityMap, LinkMap, MetaMap}
+use Rattle.coswid_codec.specs.Forms.{TagKeys}
 use Rattle.coswid_codec.specs.Items.{tag_pairs, identifier_item, code_item, entities_item, links_item, metas_item}
-use Rattle.coswid_codec.proofs.Extras.{extras_some}
-use Rattle.coswid_codec.proofs.Lawful.{MapTold, MapLawful}
-use Rattle.coswid_codec.proofs.Lines.{AllSame, put_same, lines_of, required_again, required_same, required_some, optional_again, optional_same, optional_some, absent_some}
 use Rattle.coswid_codec.proofs.Plain.{boolean_law, code_law, identifier_law, integer_law, text_law}
 use Rattle.coswid_codec.proofs.Entities.{entities_law}
+use Rattle.coswid_codec.proofs.EvidenceLaws.{evidence_law}
 use Rattle.coswid_codec.proofs.Links.{links_law}
 use Rattle.coswid_codec.proofs.Metas.{metas_law}
-use Rattle.coswid_codec.proofs.Tables.{Entry, fills, Facts, made, required_entry, optional_entry, no_entry, required_fact, optional_fact, absent_fact}
+use Rattle.coswid_codec.proofs.Payloads.{payload_law}
+use Rattle.coswid_codec.proofs.Extras.{extras_some}
+use Rattle.coswid_codec.proofs.Lawful.{MapTold, MapLawful}
+use Rattle.coswid_codec.proofs.Lines.{AllSame, put_same, lines_of, required_again, required_same, required_some, optional_again, optional_same, optional_some}
+use Rattle.coswid_codec.proofs.Tables.{Entry, fills, Facts, made, required_entry, required_fact, optional_entry, optional_fact}
 
 abbrev entries : Tag → List Entry
 entries g =
     required_entry 0 identifier_item g.tag_id
     ∷ required_entry 1 text g.software_name
     ∷ required_entry 2 entities_item g.entity
-    ∷ no_entry
+    ∷ optional_entry 3 evidence_item g.evidence
     ∷ optional_entry 4 links_item g.link
     ∷ optional_entry 5 metas_item g.software_meta
-    ∷ no_entry
+    ∷ optional_entry 6 payload_item g.payload
     ∷ optional_entry 8 boolean g.corpus
     ∷ optional_entry 9 boolean g.patch
     ∷ optional_entry 10 text g.media
@@ -40,35 +42,35 @@ entries g =
 
 facts : (g : Tag) (ps : Pairs) → TagKeys g ps → Facts 4 ps (table schema.tag) (entries g)
 facts g ps is = (
-  required_fact (one an_identifier) Identifier identifier_item 0 4 0 g.tag_id ps identifier_law (omega arith) is.tag_id,
+  required_fact 4 0 g.tag_id ps identifier_law (omega arith) is.tag_id,
   (
-    required_fact (one a_text) Text text 0 4 1 g.software_name ps text_law (omega arith) is.software_name,
+    required_fact 4 1 g.software_name ps text_law (omega arith) is.software_name,
     (
-      required_fact (one_or_more (a_map schema.entity)) (OneOrMore EntityMap) entities_item 4 4 2 g.entity ps entities_law (omega arith) is.entity,
+      required_fact 4 2 g.entity ps entities_law (omega arith) is.entity,
       (
-        absent_fact 4 3 ps is.evidence,
+        optional_fact 4 3 g.evidence ps evidence_law (omega arith) is.evidence,
         (
-          optional_fact (one_or_more (a_map schema.link)) (OneOrMore LinkMap) links_item 4 4 4 g.link ps links_law (omega arith) is.link,
+          optional_fact 4 4 g.link ps links_law (omega arith) is.link,
           (
-            optional_fact (one_or_more (a_map schema.software_meta)) (OneOrMore MetaMap) metas_item 3 4 5 g.software_meta ps metas_law (omega arith) is.software_meta,
+            optional_fact 4 5 g.software_meta ps metas_law (omega arith) is.software_meta,
             (
-              absent_fact 4 6 ps is.payload,
+              optional_fact 4 6 g.payload ps payload_law (omega arith) is.payload,
               (
-                optional_fact (one a_boolean) Boolean boolean 0 4 8 g.corpus ps boolean_law (omega arith) is.corpus,
+                optional_fact 4 8 g.corpus ps boolean_law (omega arith) is.corpus,
                 (
-                  optional_fact (one a_boolean) Boolean boolean 0 4 9 g.patch ps boolean_law (omega arith) is.patch,
+                  optional_fact 4 9 g.patch ps boolean_law (omega arith) is.patch,
                   (
-                    optional_fact (one a_text) Text text 0 4 10 g.media ps text_law (omega arith) is.media,
+                    optional_fact 4 10 g.media ps text_law (omega arith) is.media,
                     (
-                      optional_fact (one a_boolean) Boolean boolean 0 4 11 g.supplemental ps boolean_law (omega arith) is.supplemental,
+                      optional_fact 4 11 g.supplemental ps boolean_law (omega arith) is.supplemental,
                       (
-                        required_fact (one an_integer) Integer integer 0 4 12 g.tag_version ps integer_law (omega arith) is.tag_version,
+                        required_fact 4 12 g.tag_version ps integer_law (omega arith) is.tag_version,
                         (
-                          optional_fact (one a_text) Text text 0 4 13 g.software_version ps text_law (omega arith) is.software_version,
+                          optional_fact 4 13 g.software_version ps text_law (omega arith) is.software_version,
                           (
-                            optional_fact (one a_code) Code code_item 0 4 14 g.version_scheme ps code_law (omega arith) is.version_scheme,
+                            optional_fact 4 14 g.version_scheme ps code_law (omega arith) is.version_scheme,
                             (
-                              optional_fact (one a_text) Text text 0 4 15 g.lang ps text_law (omega arith) is.lang,
+                              optional_fact 4 15 g.lang ps text_law (omega arith) is.lang,
                               tt,
                             ),
                           ),
@@ -92,74 +94,62 @@ told g ps is =
     record {
       none = all.none;
       again = record {
-        tag_id = required_again (one an_identifier) Identifier identifier_item 0 0 g.tag_id ps (tag_pairs g) identifier_law is.tag_id (all.found 0 refl);
-        software_name = required_again (one a_text) Text text 0 1 g.software_name ps (tag_pairs g) text_law is.software_name (all.found 1 refl);
-        entity = required_again (one_or_more (a_map schema.entity)) (OneOrMore EntityMap) entities_item 4 2 g.entity ps (tag_pairs g) entities_law is.entity (all.found 2 refl);
-        evidence = all.found 3 refl;
-        link = optional_again (one_or_more (a_map schema.link)) (OneOrMore LinkMap) links_item 4 4 g.link ps (tag_pairs g) links_law is.link (all.found 4 refl);
-        software_meta = optional_again (one_or_more (a_map schema.software_meta)) (OneOrMore MetaMap) metas_item 3 5 g.software_meta ps (tag_pairs g) metas_law is.software_meta (all.found 5 refl);
-        payload = all.found 6 refl;
-        corpus = optional_again (one a_boolean) Boolean boolean 0 8 g.corpus ps (tag_pairs g) boolean_law is.corpus (all.found 8 refl);
-        patch = optional_again (one a_boolean) Boolean boolean 0 9 g.patch ps (tag_pairs g) boolean_law is.patch (all.found 9 refl);
-        media = optional_again (one a_text) Text text 0 10 g.media ps (tag_pairs g) text_law is.media (all.found 10 refl);
-        supplemental = optional_again (one a_boolean) Boolean boolean 0 11 g.supplemental ps (tag_pairs g) boolean_law is.supplemental (all.found 11 refl);
-        tag_version = required_again (one an_integer) Integer integer 0 12 g.tag_version ps (tag_pairs g) integer_law is.tag_version (all.found 12 refl);
-        software_version = optional_again (one a_text) Text text 0 13 g.software_version ps (tag_pairs g) text_law is.software_version (all.found 13 refl);
-        version_scheme = optional_again (one a_code) Code code_item 0 14 g.version_scheme ps (tag_pairs g) code_law is.version_scheme (all.found 14 refl);
-        lang = optional_again (one a_text) Text text 0 15 g.lang ps (tag_pairs g) text_law is.lang (all.found 15 refl);
+        tag_id = required_again 0 g.tag_id ps (tag_pairs g) identifier_law is.tag_id (all.found 0 refl);
+        software_name = required_again 1 g.software_name ps (tag_pairs g) text_law is.software_name (all.found 1 refl);
+        entity = required_again 2 g.entity ps (tag_pairs g) entities_law is.entity (all.found 2 refl);
+        evidence = optional_again 3 g.evidence ps (tag_pairs g) evidence_law is.evidence (all.found 3 refl);
+        link = optional_again 4 g.link ps (tag_pairs g) links_law is.link (all.found 4 refl);
+        software_meta = optional_again 5 g.software_meta ps (tag_pairs g) metas_law is.software_meta (all.found 5 refl);
+        payload = optional_again 6 g.payload ps (tag_pairs g) payload_law is.payload (all.found 6 refl);
+        corpus = optional_again 8 g.corpus ps (tag_pairs g) boolean_law is.corpus (all.found 8 refl);
+        patch = optional_again 9 g.patch ps (tag_pairs g) boolean_law is.patch (all.found 9 refl);
+        media = optional_again 10 g.media ps (tag_pairs g) text_law is.media (all.found 10 refl);
+        supplemental = optional_again 11 g.supplemental ps (tag_pairs g) boolean_law is.supplemental (all.found 11 refl);
+        tag_version = required_again 12 g.tag_version ps (tag_pairs g) integer_law is.tag_version (all.found 12 refl);
+        software_version = optional_again 13 g.software_version ps (tag_pairs g) text_law is.software_version (all.found 13 refl);
+        version_scheme = optional_again 14 g.version_scheme ps (tag_pairs g) code_law is.version_scheme (all.found 14 refl);
+        lang = optional_again 15 g.lang ps (tag_pairs g) text_law is.lang (all.found 15 refl);
         extras = all.rest;
       };
       proper = all.proper;
-      within = λ n le deep. all.within n (omega (arith, le)) le deep;
+      within = λ n le deep. all.within n le deep;
     }
-
--- the fields that are there
-abbrev fields_of : Tag → List Entry
-fields_of g =
-    required_entry 0 identifier_item g.tag_id
-    ∷ required_entry 1 text g.software_name
-    ∷ required_entry 2 entities_item g.entity
-    ∷ optional_entry 4 links_item g.link
-    ∷ optional_entry 5 metas_item g.software_meta
-    ∷ optional_entry 8 boolean g.corpus
-    ∷ optional_entry 9 boolean g.patch
-    ∷ optional_entry 10 text g.media
-    ∷ optional_entry 11 boolean g.supplemental
-    ∷ required_entry 12 integer g.tag_version
-    ∷ optional_entry 13 text g.software_version
-    ∷ optional_entry 14 code_item g.version_scheme
-    ∷ optional_entry 15 text g.lang
-    ∷ []
 
 same : (a b : Tag) (ps : Pairs) → TagKeys a ps → TagKeys b ps → tag_pairs a ≡ tag_pairs b
 same a b ps first second =
-    let fields : AllSame (fills (fields_of a)) (fills (fields_of b)) = (
-      required_same (one an_identifier) Identifier identifier_item 0 0 a.tag_id b.tag_id ps identifier_law first.tag_id second.tag_id,
+    let fields : AllSame (fills (entries a)) (fills (entries b)) = (
+      required_same 0 a.tag_id b.tag_id ps identifier_law first.tag_id second.tag_id,
       (
-        required_same (one a_text) Text text 0 1 a.software_name b.software_name ps text_law first.software_name second.software_name,
+        required_same 1 a.software_name b.software_name ps text_law first.software_name second.software_name,
         (
-          required_same (one_or_more (a_map schema.entity)) (OneOrMore EntityMap) entities_item 4 2 a.entity b.entity ps entities_law first.entity second.entity,
+          required_same 2 a.entity b.entity ps entities_law first.entity second.entity,
           (
-            optional_same (one_or_more (a_map schema.link)) (OneOrMore LinkMap) links_item 4 4 a.link b.link ps links_law first.link second.link,
+            optional_same 3 a.evidence b.evidence ps evidence_law first.evidence second.evidence,
             (
-              optional_same (one_or_more (a_map schema.software_meta)) (OneOrMore MetaMap) metas_item 3 5 a.software_meta b.software_meta ps metas_law first.software_meta second.software_meta,
+              optional_same 4 a.link b.link ps links_law first.link second.link,
               (
-                optional_same (one a_boolean) Boolean boolean 0 8 a.corpus b.corpus ps boolean_law first.corpus second.corpus,
+                optional_same 5 a.software_meta b.software_meta ps metas_law first.software_meta second.software_meta,
                 (
-                  optional_same (one a_boolean) Boolean boolean 0 9 a.patch b.patch ps boolean_law first.patch second.patch,
+                  optional_same 6 a.payload b.payload ps payload_law first.payload second.payload,
                   (
-                    optional_same (one a_text) Text text 0 10 a.media b.media ps text_law first.media second.media,
+                    optional_same 8 a.corpus b.corpus ps boolean_law first.corpus second.corpus,
                     (
-                      optional_same (one a_boolean) Boolean boolean 0 11 a.supplemental b.supplemental ps boolean_law first.supplemental second.supplemental,
+                      optional_same 9 a.patch b.patch ps boolean_law first.patch second.patch,
                       (
-                        required_same (one an_integer) Integer integer 0 12 a.tag_version b.tag_version ps integer_law first.tag_version second.tag_version,
+                        optional_same 10 a.media b.media ps text_law first.media second.media,
                         (
-                          optional_same (one a_text) Text text 0 13 a.software_version b.software_version ps text_law first.software_version second.software_version,
+                          optional_same 11 a.supplemental b.supplemental ps boolean_law first.supplemental second.supplemental,
                           (
-                            optional_same (one a_code) Code code_item 0 14 a.version_scheme b.version_scheme ps code_law first.version_scheme second.version_scheme,
+                            required_same 12 a.tag_version b.tag_version ps integer_law first.tag_version second.tag_version,
                             (
-                              optional_same (one a_text) Text text 0 15 a.lang b.lang ps text_law first.lang second.lang,
-                              tt,
+                              optional_same 13 a.software_version b.software_version ps text_law first.software_version second.software_version,
+                              (
+                                optional_same 14 a.version_scheme b.version_scheme ps code_law first.version_scheme second.version_scheme,
+                                (
+                                  optional_same 15 a.lang b.lang ps text_law first.lang second.lang,
+                                  tt,
+                                ),
+                              ),
                             ),
                           ),
                         ),
@@ -173,43 +163,43 @@ same a b ps first second =
         ),
       ),
     ) in
-    put_same (fills (fields_of a)) (fills (fields_of b)) (pairs_view a.extras) (pairs_view b.extras) fields (first.extras ∙ sym second.extras)
+    put_same (fills (entries a)) (fills (entries b)) (pairs_view a.extras) (pairs_view b.extras) fields (first.extras ∙ sym second.extras)
 
 some : (ps : Pairs) → keys_fault schema.tag ps ≡ None → (g : Tag) × TagKeys g ps
 some ps none =
     let lines_0 = lines_of schema.tag ps none in
-    let tag_id = required_some (one an_identifier) Identifier identifier_item 0 0 ps identifier_law lines_0.0 in
+    let tag_id = required_some 0 ps identifier_law lines_0.0 in
     let lines_1 = lines_0.1 in
-    let software_name = required_some (one a_text) Text text 0 1 ps text_law lines_1.0 in
+    let software_name = required_some 1 ps text_law lines_1.0 in
     let lines_2 = lines_1.1 in
-    let entity = required_some (one_or_more (a_map schema.entity)) (OneOrMore EntityMap) entities_item 4 2 ps entities_law lines_2.0 in
+    let entity = required_some 2 ps entities_law lines_2.0 in
     let lines_3 = lines_2.1 in
-    let evidence = absent_some 3 ps lines_3.0 in
+    let evidence = optional_some 3 ps evidence_law lines_3.0 in
     let lines_4 = lines_3.1 in
-    let link = optional_some (one_or_more (a_map schema.link)) (OneOrMore LinkMap) links_item 4 4 ps links_law lines_4.0 in
+    let link = optional_some 4 ps links_law lines_4.0 in
     let lines_5 = lines_4.1 in
-    let software_meta = optional_some (one_or_more (a_map schema.software_meta)) (OneOrMore MetaMap) metas_item 3 5 ps metas_law lines_5.0 in
+    let software_meta = optional_some 5 ps metas_law lines_5.0 in
     let lines_6 = lines_5.1 in
-    let payload = absent_some 6 ps lines_6.0 in
+    let payload = optional_some 6 ps payload_law lines_6.0 in
     let lines_7 = lines_6.1 in
-    let corpus = optional_some (one a_boolean) Boolean boolean 0 8 ps boolean_law lines_7.0 in
+    let corpus = optional_some 8 ps boolean_law lines_7.0 in
     let lines_8 = lines_7.1 in
-    let patch = optional_some (one a_boolean) Boolean boolean 0 9 ps boolean_law lines_8.0 in
+    let patch = optional_some 9 ps boolean_law lines_8.0 in
     let lines_9 = lines_8.1 in
-    let media = optional_some (one a_text) Text text 0 10 ps text_law lines_9.0 in
+    let media = optional_some 10 ps text_law lines_9.0 in
     let lines_10 = lines_9.1 in
-    let supplemental = optional_some (one a_boolean) Boolean boolean 0 11 ps boolean_law lines_10.0 in
+    let supplemental = optional_some 11 ps boolean_law lines_10.0 in
     let lines_11 = lines_10.1 in
-    let tag_version = required_some (one an_integer) Integer integer 0 12 ps integer_law lines_11.0 in
+    let tag_version = required_some 12 ps integer_law lines_11.0 in
     let lines_12 = lines_11.1 in
-    let software_version = optional_some (one a_text) Text text 0 13 ps text_law lines_12.0 in
+    let software_version = optional_some 13 ps text_law lines_12.0 in
     let lines_13 = lines_12.1 in
-    let version_scheme = optional_some (one a_code) Code code_item 0 14 ps code_law lines_13.0 in
+    let version_scheme = optional_some 14 ps code_law lines_13.0 in
     let lines_14 = lines_13.1 in
-    let lang = optional_some (one a_text) Text text 0 15 ps text_law lines_14.0 in
+    let lang = optional_some 15 ps text_law lines_14.0 in
     let extras = extras_some (other_than (keys_of (table schema.tag)) ps) in (
-      record { tag_id = tag_id.0; software_name = software_name.0; entity = entity.0; link = link.0; software_meta = software_meta.0; corpus = corpus.0; patch = patch.0; media = media.0; supplemental = supplemental.0; tag_version = tag_version.0; software_version = software_version.0; version_scheme = version_scheme.0; lang = lang.0; extras = extras.0 },
-      record { tag_id = tag_id.1; software_name = software_name.1; entity = entity.1; evidence = evidence; link = link.1; software_meta = software_meta.1; payload = payload; corpus = corpus.1; patch = patch.1; media = media.1; supplemental = supplemental.1; tag_version = tag_version.1; software_version = software_version.1; version_scheme = version_scheme.1; lang = lang.1; extras = extras.1 },
+      record { tag_id = tag_id.0; software_name = software_name.0; entity = entity.0; evidence = evidence.0; link = link.0; software_meta = software_meta.0; payload = payload.0; corpus = corpus.0; patch = patch.0; media = media.0; supplemental = supplemental.0; tag_version = tag_version.0; software_version = software_version.0; version_scheme = version_scheme.0; lang = lang.0; extras = extras.0 },
+      record { tag_id = tag_id.1; software_name = software_name.1; entity = entity.1; evidence = evidence.1; link = link.1; software_meta = software_meta.1; payload = payload.1; corpus = corpus.1; patch = patch.1; media = media.1; supplemental = supplemental.1; tag_version = tag_version.1; software_version = software_version.1; version_scheme = version_scheme.1; lang = lang.1; extras = extras.1 },
     )
 
 pub tag_law : MapLawful schema.tag TagKeys tag_pairs 4

@@ -1,20 +1,22 @@
 -- Items that are tags: what is read, what is written, and what is read again.
-use Rattle.std.proofs.Common.{◌≡◌, ◌≤◌, ◌<◌, ◌==◌, ◌+◌, ◌&&◌, ℕ, Bool, true, false, not, nat_le, List, [], None, if◌then◌else◌, refl, ap, ◌∙◌, arith}
+use Rattle.std.proofs.Common.{◌≡◌, ◌≤◌, ◌<◌, ◌==◌, ◌+◌, ◌&&◌, ℕ, Bool, true, false, not, nat_le, List, [], Option, Some, None, is_some, if◌then◌else◌, refl, sym, ap, ◌∙◌, arith}
 use Rattle.std.proofs.lemmas.Bool.{cond-false, leb-false}
 use Rattle.cbor_det.specs.Canonical.{canon}
+use Rattle.cbor_det.specs.Lookup.{value_under}
 use Rattle.cbor_det.specs.Proper.{IsProper}
 use Rattle.cbor_det.specs.Term.{Term, integer, octets, text, array, map, tagged, boolean, depth}
 use Rattle.cbor_det.proofs.Written.{spelled_proper, written_begins, canon_same}
 use Rattle.coswid_res.specs.Fault.{field_fault, fault}
 use Rattle.coswid_res.specs.Schema.{one, a_map}
 use Rattle.coswid_res.specs.Schema as schema
-use Rattle.coswid_res.specs.Words.{IsMap}
+use Rattle.coswid_res.specs.Words.{Agree, IsMap}
+use Rattle.coswid_res.specs.Resources.{PayloadMap, EvidenceMap}
 use Rattle.coswid_tag.specs.declared.tag.Tag.{Tag}
 use Rattle.coswid_codec.specs.Answers.{limits, BeginsTag}
 use Rattle.coswid_codec.specs.Forms.{TagKeys, TagForm}
 use Rattle.coswid_codec.specs.Items.{tag_pairs, tag_item}
 use Rattle.coswid_codec.specs.Laws.{NoFaultOrNoTag, OneTag, ReadIsWritten, OneTagOneSpelling}
-use Rattle.coswid_codec.specs.Marked.{coswid, content, is_deep}
+use Rattle.coswid_codec.specs.Marked.{coswid, content, has_both, is_deep}
 use Rattle.coswid_codec.specs.TagFault.{tag_fault}
 use Rattle.coswid_codec.proofs.Lawful.{Lawful}
 use Rattle.coswid_codec.proofs.Lines.{map_law}
@@ -25,17 +27,38 @@ law = map_law schema.tag TagKeys tag_pairs 4 tag_law
 
 -- What a tag is read from has no fault.
 pub form_none : (g : Tag) (t : Term) → TagForm g t → tag_fault t ≡ None
-form_none g t form = cond-false _ _ _ form.shallow ∙ (law.told g (content t) form.keys).none
+form_none g t form = cond-false _ _ _ form.shallow ∙ cond-false _ _ _ form.one_of_them ∙ (law.told g (content t) form.keys).none
 
 pub one_tag : OneTag
 one_tag g h t first second = ap (λ (u : Term). tagged coswid u) (law.same g h (content t) first.keys second.keys)
 
-some_by : (b : Bool) (t : Term) → is_deep t ≡ b → (if b then fault 4 [] else field_fault (one (a_map schema.tag)) (content t)) ≡ None → (g : Tag) × TagForm g t
-some_by true t deep none = absurd cc
-some_by false t deep none = let found = law.some (content t) none in (found.0, record { keys = found.1; shallow = deep })
+some_by : (b both : Bool) (t : Term) → is_deep t ≡ b → has_both (content t) ≡ both
+    → (if b then fault 4 [] else (if both then fault 3 [] else field_fault (one (a_map schema.tag)) (content t))) ≡ None → (g : Tag) × TagForm g t
+some_by true both t deep apart none = absurd cc
+some_by false true t deep apart none = absurd cc
+some_by false false t deep apart none = let found = law.some (content t) none in (found.0, record { keys = found.1; one_of_them = apart; shallow = deep })
 
 pub no_fault_or_no_tag : NoFaultOrNoTag
-no_fault_or_no_tag t = (some_by (is_deep t) t refl, λ found. form_none found.0 t found.1)
+no_fault_or_no_tag t = (some_by (is_deep t) (has_both (content t)) t refl refl, λ found. form_none found.0 t found.1)
+
+-- A map has both where the tag that is read from it has.
+
+agrees : {A : Type 0} (Is : A → Term → Type 0) (x : Option A) (o : Option Term) → Agree Is x o → is_some o ≡ is_some x
+agrees Is None None is = refl
+agrees Is (Some v) (Some t) is = refl
+agrees Is None (Some t) is = absurd is
+agrees Is (Some v) None is = absurd is
+
+both_of : (g : Tag) (t : Term) → IsMap (TagKeys g) t → has_both t ≡ (is_some g.evidence && is_some g.payload)
+both_of g (map ps) is =
+    ap (λ (b : Bool). b && is_some (value_under 6 ps)) (agrees EvidenceMap g.evidence (value_under 3 ps) is.evidence)
+    ∙ ap (λ (b : Bool). is_some g.evidence && b) (agrees PayloadMap g.payload (value_under 6 ps) is.payload)
+both_of g (integer z) is = absurd is
+both_of g (octets s) is = absurd is
+both_of g (text s) is = absurd is
+both_of g (array ts) is = absurd is
+both_of g (tagged n t) is = absurd is
+both_of g (boolean b) is = absurd is
 
 -- How deep the written item is.
 
@@ -77,11 +100,17 @@ written_proper g n input is =
     let proper : IsProper is.item = spelled_proper is.item _ is.begins.spelled in
     (omega arith, (law.told g (content is.item) is.form.keys).proper (content_proper is.item proper))
 
+-- What is read is read again from the item that it is written as.
+pub written_form : (g : Tag) (t : Term) → TagForm g t → TagForm g (tag_item g)
+written_form g t form =
+    let again = (law.told g (content t) form.keys).again in
+    record { keys = again; one_of_them = both_of g (map (tag_pairs g)) again ∙ sym (both_of g (content t) form.keys) ∙ form.one_of_them; shallow = refl }
+
 pub read_is_written : ReadIsWritten
 read_is_written g n input tail is room = record {
   item = tag_item g;
   begins = written_begins limits (tag_item g) tail (written_proper g n input is) (omega (arith, room)) room (written_depth g is.item is.begins.shallow is.form);
-  form = record { keys = (law.told g (content is.item) is.form.keys).again; shallow = refl };
+  form = written_form g is.item is.form;
 }
 
 pub one_tag_one_spelling : OneTagOneSpelling

@@ -1,8 +1,9 @@
 -- The items that a tag is read from, key by key: RFC 9393, section 2.
 use Rattle.std.specs.Prelude.{◌≡◌, false, length}
 use Rattle.cbor_det.specs.Term.{Term, Pairs, integer, octets, text}
+use Rattle.coswid_res.specs.Resources.{PayloadMap, EvidenceMap}
 use Rattle.coswid_res.specs.Schema as schema
-use Rattle.coswid_res.specs.Words.{Text, Boolean, Integer, Uri, Hash, OneOrMore, IsMap, Required, Optional, Absent, Rest}
+use Rattle.coswid_res.specs.Words.{Text, Boolean, Integer, Uri, Hash, OneOrMore, IsMap, Required, Optional, Rest}
 use Rattle.coswid_tag.specs.declared.entity.Entity.{Entity}
 use Rattle.coswid_tag.specs.declared.link.LinkEntry.{LinkEntry}
 use Rattle.coswid_tag.specs.declared.meta.SoftwareMeta.{SoftwareMeta}
@@ -11,7 +12,7 @@ use Rattle.coswid_tag.specs.declared.value.CodeValue.{CodeValue}
 use Rattle.coswid_tag.specs.declared.value.CodeValue.TheVariants as code
 use Rattle.coswid_tag.specs.declared.value.TagId.{TagId}
 use Rattle.coswid_tag.specs.declared.value.TagId.TheVariants as identifier
-use Rattle.coswid_codec.specs.Marked.{content, is_deep}
+use Rattle.coswid_codec.specs.Marked.{content, is_deep, has_both}
 
 -- a text, or the 16 octets of a UUID
 abbrev pub Identifier : TagId → Term → Type 0
@@ -75,10 +76,10 @@ pub record TagKeys (g : Tag) (ps : Pairs) : Type 0 where
   pub tag_id : Required 0 Identifier g.tag_id ps
   pub software_name : Required 1 Text g.software_name ps
   pub entity : Required 2 (OneOrMore EntityMap) g.entity ps
-  pub evidence : Absent 3 ps
+  pub evidence : Optional 3 EvidenceMap g.evidence ps
   pub link : Optional 4 (OneOrMore LinkMap) g.link ps
   pub software_meta : Optional 5 (OneOrMore MetaMap) g.software_meta ps
-  pub payload : Absent 6 ps
+  pub payload : Optional 6 PayloadMap g.payload ps
   pub corpus : Optional 8 Boolean g.corpus ps
   pub patch : Optional 9 Boolean g.patch ps
   pub media : Optional 10 Text g.media ps
@@ -89,7 +90,9 @@ pub record TagKeys (g : Tag) (ps : Pairs) : Type 0 where
   pub lang : Optional 15 Text g.lang ps
   pub extras : Rest schema.tag g.extras ps
 
--- A tag is read from a map, under the tag of tags or alone (section 8). Alone it leaves room for the tag, under which it is written.
+-- A tag is read from a map, under the tag of tags or alone (section 8). It has no payload beside evidence.
+-- Alone it leaves room for the tag, under which it is written.
 pub record TagForm (g : Tag) (t : Term) : Type 0 where
   pub keys : IsMap (TagKeys g) (content t)
+  pub one_of_them : has_both (content t) ≡ false
   pub shallow : is_deep t ≡ false

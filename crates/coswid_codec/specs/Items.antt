@@ -3,6 +3,7 @@ use Rattle.std.specs.Prelude.{List, [], ◌∷◌, map as map_list}
 use Rattle.cbor_det.specs.Term.{Term, Pairs, integer, octets, text, map, tagged, boolean}
 use Rattle.cbor_det.specs.View.{pairs_view}
 use Rattle.coswid_res.specs.Items.{uri_item, hash_item, row_item, required_pair, optional_pair, put_all}
+use Rattle.coswid_res.specs.ResourceItems.{payload_item, evidence_item}
 use Rattle.coswid_tag.specs.declared.entity.Entity.{Entity}
 use Rattle.coswid_tag.specs.declared.link.LinkEntry.{LinkEntry}
 use Rattle.coswid_tag.specs.declared.meta.SoftwareMeta.{SoftwareMeta}
@@ -80,8 +81,10 @@ tag_pairs g =
     required_pair 0 identifier_item g.tag_id
     ∷ required_pair 1 text g.software_name
     ∷ required_pair 2 entities_item g.entity
+    ∷ optional_pair 3 evidence_item g.evidence
     ∷ optional_pair 4 links_item g.link
     ∷ optional_pair 5 metas_item g.software_meta
+    ∷ optional_pair 6 payload_item g.payload
     ∷ optional_pair 8 boolean g.corpus
     ∷ optional_pair 9 boolean g.patch
     ∷ optional_pair 10 text g.media

@@ -1,7 +1,12 @@
--- Laws of tags: what is read, what is wrong, and what is written.
-use Rattle.std.specs.Prelude.{◌≡◌, ◌<◌, ◌≤◌, ◌↔◌, ℕ, ◌^◌, List, ◌++◌, length, None}
+-- Laws of tags, and of payload and evidence by themselves: what is read, what is wrong, and what is written.
+use Rattle.std.specs.Prelude.{◌≡◌, ◌<◌, ◌≤◌, ◌↔◌, ℕ, ◌^◌, max, List, ◌++◌, length, None}
 use Rattle.cbor_det.specs.Canonical.{canon}
-use Rattle.cbor_det.specs.Term.{Term}
+use Rattle.cbor_det.specs.Proper.{IsProper}
+use Rattle.cbor_det.specs.Term.{Term, depth}
+use Rattle.coswid_res.specs.Fault.{field_fault}
+use Rattle.coswid_res.specs.ResourceItems.{payload_item, evidence_item}
+use Rattle.coswid_res.specs.Resources.{PayloadMap, EvidenceMap}
+use Rattle.coswid_res.specs.Schema.{Field, one, a_map, payload, evidence}
 use Rattle.coswid_tag.specs.declared.tag.Tag.{Tag}
 use Rattle.coswid_codec.specs.Answers.{limits, BeginsTag, Same}
 use Rattle.coswid_codec.specs.Forms.{TagForm}
@@ -27,3 +32,19 @@ abbrev pub OneTagOneSpelling : Type 0
 OneTagOneSpelling =
     (g h : Tag) (n m : ℕ) (input other : List ℕ) → BeginsTag input g n → BeginsTag other h m → length (canon (tag_item g)) < 2 ^ 64
     → (canon (tag_item g) ≡ canon (tag_item h)) ↔ Same g h
+
+-- What holds of the values of a form: some value is read exactly where there is no fault, all values that are read from one item are
+-- written as one item, and from that they are read again. It is proper where what was read is, and no deeper than that or so many levels.
+pub record FormLaw {A : Type 0} (field : Field) (Is : A → Term → Type 0) (item : A → Term) (levels : ℕ) : Type 0 where
+  pub no_fault : (t : Term) → (field_fault field t ≡ None) ↔ ((v : A) × Is v t)
+  pub one_item : (v w : A) (t : Term) → Is v t → Is w t → item v ≡ item w
+  pub again : (v : A) (t : Term) → Is v t → Is v (item v)
+  pub proper : (v : A) (t : Term) → Is v t → IsProper t → IsProper (item v)
+  pub shallow : (v : A) (t : Term) → Is v t → depth (item v) ≤ max levels (depth t)
+
+abbrev pub PayloadLaw : Type 0
+PayloadLaw = FormLaw (one (a_map payload)) PayloadMap payload_item 0
+
+-- A date is written with its tag, on the third level.
+abbrev pub EvidenceLaw : Type 0
+EvidenceLaw = FormLaw (one (a_map evidence)) EvidenceMap evidence_item 3

@@ -5,3 +5,4 @@ pub mod TagFault
 pub mod Answers
 pub mod Laws
 pub mod TagText
+pub mod LastKeys

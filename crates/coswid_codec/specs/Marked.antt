@@ -1,6 +1,7 @@
 -- The tag under which tags are written, and items with it and without: RFC 9393, section 8.
-use Rattle.std.specs.Prelude.{ℕ, ◌==◌, Option, Some, None, Bool, false, not, ◌&&◌, nat_le, if◌then◌else◌}
-use Rattle.cbor_det.specs.Term.{Term, tagged, depth}
+use Rattle.std.specs.Prelude.{ℕ, ◌==◌, Option, Some, None, Bool, false, not, ◌&&◌, is_some, nat_le, if◌then◌else◌}
+use Rattle.cbor_det.specs.Term.{Term, map, tagged, depth}
+use Rattle.cbor_det.specs.Lookup.{value_under}
 
 abbrev pub coswid : ℕ
 coswid = 1398229316
@@ -17,6 +18,11 @@ content t = t
 -- An item without the tag would be too deep with it.
 abbrev pub is_deep : Term → Bool
 is_deep t = not (is_marked t) && nat_le 64 (depth t)
+
+-- A map has both evidence and a payload: sections 2.9.3 and 2.9.4.
+abbrev pub has_both : Term → Bool
+has_both (map ps) = is_some (value_under 3 ps) && is_some (value_under 6 ps)
+has_both t = false
 
 -- the depth of what is there
 abbrev pub some_depth : Option Term → ℕ

@@ -37,6 +37,10 @@ finding_line number = codes "finding F" ++ (decimal number ++ codes "\n")
 abbrev pub canonical_line : List ℕ → List ℕ
 canonical_line octets = codes "canonical " ++ (decimal (length octets) ++ (codes " " ++ (encode_lower octets ++ codes "\n")))
 
--- The lines, in this order.
+-- The lines before that of the spelling, in this order.
+abbrev pub summary_text : Tag → List ℕ
+summary_text g = kind_line (kind g) ++ identifier_line (identifier_of g) ++ flat_map finding_line (findings g)
+
+-- All lines.
 unfoldable pub tag_text : Tag → List ℕ
-tag_text g = kind_line (kind g) ++ identifier_line (identifier_of g) ++ flat_map finding_line (findings g) ++ canonical_line (canon (tag_item g))
+tag_text g = summary_text g ++ canonical_line (canon (tag_item g))

@@ -5,21 +5,25 @@ ghost use Rattle.coswid_codec.specs.Items.{entity_pairs};
 ghost use Rattle.coswid_res.specs.Schema as schema;
 
 use crate::key;
-use crate::map_form::Mapped;
 use cbor_det::Pairs;
-use coswid_res::FormRefused;
+use coswid_res::{FormRefused, Mapped};
 use coswid_tag::Entity;
 use std::alloc::Global;
 use wire_base::{Memory, TryCopy};
 
-impl Mapped for Entity {
+/// The table of entities.
+pub struct EntityTable;
+
+impl Mapped for EntityTable {
+    type Value = Entity;
+
     ghost name = { schema.entity };
 
     ghost keys = { EntityKeys };
 
     ghost written = { entity_pairs };
 
-    fn read(alloc: Global, pairs: &Pairs) -> Result<Self, FormRefused> {
+    fn read(alloc: Global, pairs: &Pairs) -> Result<Entity, FormRefused> {
         key::EntityName::expect(alloc, pairs)?;
         key::Role::expect(alloc, pairs)?;
         let entity_name = key::EntityName::required(alloc, pairs)?;
@@ -36,12 +40,12 @@ impl Mapped for Entity {
         })
     }
 
-    fn write(&self) -> Result<Pairs, Memory> {
-        let mut pairs = self.extras.copy()?;
-        key::EntityName::put(&mut pairs, &self.entity_name)?;
-        key::RegId::put_optional(&mut pairs, &self.reg_id)?;
-        key::Role::put_row(&mut pairs, &self.role)?;
-        key::Thumbprint::put_optional(&mut pairs, &self.thumbprint)?;
+    fn write(entity: &Entity) -> Result<Pairs, Memory> {
+        let mut pairs = entity.extras.copy()?;
+        key::EntityName::put(&mut pairs, &entity.entity_name)?;
+        key::RegId::put_optional(&mut pairs, &entity.reg_id)?;
+        key::Role::put_row(&mut pairs, &entity.role)?;
+        key::Thumbprint::put_optional(&mut pairs, &entity.thumbprint)?;
         Ok(pairs)
     }
 }

@@ -115,33 +115,6 @@ fn optional_keys(rt: HostRuntime) -> Result<(), Fail> {
     Ok(())
 }
 
-/// Neither is read: the first that stands there is told.
-#[test]
-fn payload_and_evidence(rt: HostRuntime) -> Result<(), Fail> {
-    let alloc = rt.alloc();
-    assert_eq!(rt;
-        told(alloc, "a500616101616202a2181f61631821010c0003a0")?.as_str(),
-        "form 2/3"
-    );
-    assert_eq!(rt;
-        told(alloc, "a500616101616202a2181f61631821010c0006a0")?.as_str(),
-        "form 2/6"
-    );
-    assert_eq!(rt;
-        told(alloc, "a600616101616202a2181f61631821010c0003a006a0")?.as_str(),
-        "form 2/3"
-    );
-    assert_eq!(rt;
-        told(alloc, "a600616101616202a2181f61631821010c0004010301")?.as_str(),
-        "form 2/3"
-    );
-    assert_eq!(rt;
-        told(alloc, "a600616101616202a2181f61631821010c0006010501")?.as_str(),
-        "form 2/5"
-    );
-    Ok(())
-}
-
 #[test]
 fn entities(rt: HostRuntime) -> Result<(), Fail> {
     let alloc = rt.alloc();

@@ -1,25 +1,28 @@
 //! The keys of tags, each with its number and the form of what stands under it (RFC 9393, section 2). Behind them stand
 //! all keys that each table lists.
 
+use crate::entity::EntityTable;
 use crate::forms::{CodeForm, IdentifierForm};
-use crate::map_form::MapForm;
-use coswid_res::{BoolForm, HashForm, IntForm, Key, TextForm, UriForm};
-use coswid_tag as value;
+use crate::link::LinkTable;
+use crate::meta::MetaTable;
+use coswid_res::{
+    BoolForm, EvidenceTable, HashForm, IntForm, Key, MapForm, PayloadTable, TextForm, UriForm,
+};
 
-// Tags: section 2.3. The maps under evidence and payload are not read.
+// Tags: section 2.3.
 pub type TagId = Key<0, IdentifierForm>;
 
 pub type SoftwareName = Key<1, TextForm>;
 
-pub type Entity = Key<2, MapForm<value::Entity>>;
+pub type Entity = Key<2, MapForm<EntityTable>>;
 
-pub const EVIDENCE: u32 = 3;
+pub type Evidence = Key<3, MapForm<EvidenceTable>>;
 
-pub type Link = Key<4, MapForm<value::LinkEntry>>;
+pub type Link = Key<4, MapForm<LinkTable>>;
 
-pub type SoftwareMeta = Key<5, MapForm<value::SoftwareMeta>>;
+pub type SoftwareMeta = Key<5, MapForm<MetaTable>>;
 
-pub const PAYLOAD: u32 = 6;
+pub type Payload = Key<6, MapForm<PayloadTable>>;
 
 pub type Corpus = Key<8, BoolForm>;
 

@@ -1,6 +1,6 @@
-//! Laws of tags. The functions do nothing: their contracts are the laws.
+//! Laws of tags, and of payload and evidence by themselves. The functions do nothing: their contracts are the laws.
 
-ghost use Rattle.coswid_codec.specs.Laws.{NoFaultOrNoTag, OneTag, ReadIsWritten, OneTagOneSpelling};
+ghost use Rattle.coswid_codec.specs.Laws.{NoFaultOrNoTag, OneTag, ReadIsWritten, OneTagOneSpelling, PayloadLaw, EvidenceLaw};
 
 /// An item has no form fault exactly where some tag is read from it.
 pub fn no_fault_where_some_tag()
@@ -20,4 +20,15 @@ pub fn read_is_written()
 /// Two spellings are read as one tag exactly where their canonical octets are equal.
 pub fn one_tag_has_one_spelling()
     ensures one { OneTagOneSpelling }
+{}
+
+/// An item has no form fault exactly where some payload is read from it; all that are read from it are written as one item,
+/// and read again from that.
+pub fn payload_is_read_and_written()
+    ensures payload { PayloadLaw }
+{}
+
+/// The same of evidence.
+pub fn evidence_is_read_and_written()
+    ensures evidence { EvidenceLaw }
 {}

@@ -1,4 +1,4 @@
-//! CoSWID tags from octets to values and back (RFC 9393), and the text that the command `tag` prints of one.
+//! CoSWID tags from octets to values and back (RFC 9393), and the lines that the command `tag` prints of one.
 //!
 //! It stands on `coswid_tag` for the values, on `coswid_res` for what the maps share, on `cbor_det` for items, on
 //! `wire_base`, on `hex`, and on `thiserror` for the texts of errors. The crates above rest on `told` of `read_tag` and on
@@ -8,10 +8,9 @@
 mod deep;
 mod entity;
 mod forms;
-pub mod key;
+mod key;
 pub mod laws;
 mod link;
-mod map_form;
 mod meta;
 mod read;
 mod tag;
@@ -19,10 +18,12 @@ mod text;
 mod write;
 
 pub use read::{TagRefused, read_tag};
-pub use text::tag_text;
+pub use text::{put_canonical, put_summary, tag_text};
 pub use write::write_tag;
 
 #[cfg(test)]
 mod form_tests;
+#[cfg(test)]
+mod resource_tests;
 #[cfg(test)]
 mod tests;

@@ -5,21 +5,25 @@ ghost use Rattle.coswid_codec.specs.Items.{link_pairs};
 ghost use Rattle.coswid_res.specs.Schema as schema;
 
 use crate::key;
-use crate::map_form::Mapped;
 use cbor_det::Pairs;
-use coswid_res::FormRefused;
+use coswid_res::{FormRefused, Mapped};
 use coswid_tag::LinkEntry;
 use std::alloc::Global;
 use wire_base::{Memory, TryCopy};
 
-impl Mapped for LinkEntry {
+/// The table of links.
+pub struct LinkTable;
+
+impl Mapped for LinkTable {
+    type Value = LinkEntry;
+
     ghost name = { schema.link };
 
     ghost keys = { LinkKeys };
 
     ghost written = { link_pairs };
 
-    fn read(alloc: Global, pairs: &Pairs) -> Result<Self, FormRefused> {
+    fn read(alloc: Global, pairs: &Pairs) -> Result<LinkEntry, FormRefused> {
         key::Href::expect(alloc, pairs)?;
         key::Rel::expect(alloc, pairs)?;
         let media = key::Media::optional(alloc, pairs)?;
@@ -42,15 +46,15 @@ impl Mapped for LinkEntry {
         })
     }
 
-    fn write(&self) -> Result<Pairs, Memory> {
-        let mut pairs = self.extras.copy()?;
-        key::Media::put_optional(&mut pairs, &self.media)?;
-        key::Artifact::put_optional(&mut pairs, &self.artifact)?;
-        key::Href::put(&mut pairs, &self.href)?;
-        key::Ownership::put_optional(&mut pairs, &self.ownership)?;
-        key::Rel::put(&mut pairs, &self.rel)?;
-        key::MediaType::put_optional(&mut pairs, &self.media_type)?;
-        key::LinkUse::put_optional(&mut pairs, &self.link_use)?;
+    fn write(link: &LinkEntry) -> Result<Pairs, Memory> {
+        let mut pairs = link.extras.copy()?;
+        key::Media::put_optional(&mut pairs, &link.media)?;
+        key::Artifact::put_optional(&mut pairs, &link.artifact)?;
+        key::Href::put(&mut pairs, &link.href)?;
+        key::Ownership::put_optional(&mut pairs, &link.ownership)?;
+        key::Rel::put(&mut pairs, &link.rel)?;
+        key::MediaType::put_optional(&mut pairs, &link.media_type)?;
+        key::LinkUse::put_optional(&mut pairs, &link.link_use)?;
         Ok(pairs)
     }
 }

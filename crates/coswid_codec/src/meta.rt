@@ -5,21 +5,25 @@ ghost use Rattle.coswid_codec.specs.Items.{meta_pairs};
 ghost use Rattle.coswid_res.specs.Schema as schema;
 
 use crate::key;
-use crate::map_form::Mapped;
 use cbor_det::Pairs;
-use coswid_res::FormRefused;
+use coswid_res::{FormRefused, Mapped};
 use coswid_tag::SoftwareMeta;
 use std::alloc::Global;
 use wire_base::{Memory, TryCopy};
 
-impl Mapped for SoftwareMeta {
+/// The table of descriptions of software.
+pub struct MetaTable;
+
+impl Mapped for MetaTable {
+    type Value = SoftwareMeta;
+
     ghost name = { schema.software_meta };
 
     ghost keys = { MetaKeys };
 
     ghost written = { meta_pairs };
 
-    fn read(alloc: Global, pairs: &Pairs) -> Result<Self, FormRefused> {
+    fn read(alloc: Global, pairs: &Pairs) -> Result<SoftwareMeta, FormRefused> {
         let activation_status = key::ActivationStatus::optional(alloc, pairs)?;
         let channel_type = key::ChannelType::optional(alloc, pairs)?;
         let colloquial_version = key::ColloquialVersion::optional(alloc, pairs)?;
@@ -56,23 +60,23 @@ impl Mapped for SoftwareMeta {
         })
     }
 
-    fn write(&self) -> Result<Pairs, Memory> {
-        let mut pairs = self.extras.copy()?;
-        key::ActivationStatus::put_optional(&mut pairs, &self.activation_status)?;
-        key::ChannelType::put_optional(&mut pairs, &self.channel_type)?;
-        key::ColloquialVersion::put_optional(&mut pairs, &self.colloquial_version)?;
-        key::Description::put_optional(&mut pairs, &self.description)?;
-        key::Edition::put_optional(&mut pairs, &self.edition)?;
-        key::EntitlementDataRequired::put_optional(&mut pairs, &self.entitlement_data_required)?;
-        key::EntitlementKey::put_optional(&mut pairs, &self.entitlement_key)?;
-        key::Generator::put_optional(&mut pairs, &self.generator)?;
-        key::PersistentId::put_optional(&mut pairs, &self.persistent_id)?;
-        key::Product::put_optional(&mut pairs, &self.product)?;
-        key::ProductFamily::put_optional(&mut pairs, &self.product_family)?;
-        key::Revision::put_optional(&mut pairs, &self.revision)?;
-        key::Summary::put_optional(&mut pairs, &self.summary)?;
-        key::UnspscCode::put_optional(&mut pairs, &self.unspsc_code)?;
-        key::UnspscVersion::put_optional(&mut pairs, &self.unspsc_version)?;
+    fn write(meta: &SoftwareMeta) -> Result<Pairs, Memory> {
+        let mut pairs = meta.extras.copy()?;
+        key::ActivationStatus::put_optional(&mut pairs, &meta.activation_status)?;
+        key::ChannelType::put_optional(&mut pairs, &meta.channel_type)?;
+        key::ColloquialVersion::put_optional(&mut pairs, &meta.colloquial_version)?;
+        key::Description::put_optional(&mut pairs, &meta.description)?;
+        key::Edition::put_optional(&mut pairs, &meta.edition)?;
+        key::EntitlementDataRequired::put_optional(&mut pairs, &meta.entitlement_data_required)?;
+        key::EntitlementKey::put_optional(&mut pairs, &meta.entitlement_key)?;
+        key::Generator::put_optional(&mut pairs, &meta.generator)?;
+        key::PersistentId::put_optional(&mut pairs, &meta.persistent_id)?;
+        key::Product::put_optional(&mut pairs, &meta.product)?;
+        key::ProductFamily::put_optional(&mut pairs, &meta.product_family)?;
+        key::Revision::put_optional(&mut pairs, &meta.revision)?;
+        key::Summary::put_optional(&mut pairs, &meta.summary)?;
+        key::UnspscCode::put_optional(&mut pairs, &meta.unspsc_code)?;
+        key::UnspscVersion::put_optional(&mut pairs, &meta.unspsc_version)?;
         Ok(pairs)
     }
 }

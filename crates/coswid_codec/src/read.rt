@@ -1,23 +1,24 @@
 //! Reading tags.
 
-ghost use Rattle.std.specs.Prelude.{◌≡◌, ◌≤◌, ℕ, IfOk, IfErr, length};
+ghost use Rattle.std.specs.Prelude.{◌≡◌, ◌≤◌, ℕ, IfOk, IfErr, is_some, length};
 ghost use Rattle.cbor_det.specs.Faults.{IsFault, IsCut};
 ghost use Rattle.cbor_det.specs.Term.{depth};
-ghost use Rattle.cbor_det.specs.View.{view};
+ghost use Rattle.cbor_det.specs.Lookup.{value_under};
+ghost use Rattle.cbor_det.specs.View.{view, pairs_view};
 ghost use Rattle.coswid_codec.specs.Answers.{limits, BeginsTag, BeginsFaulty, IsRefusal, GivesTag, GivesForm, GivesCbor, of_cbor, of_form};
 ghost use Rattle.coswid_codec.specs.Forms.{TagForm};
 ghost use Rattle.coswid_codec.specs.Items.{tag_item};
-ghost use Rattle.coswid_codec.specs.Marked.{is_marked, content, is_deep};
+ghost use Rattle.coswid_codec.specs.Marked.{is_marked, content, is_deep, has_both};
 ghost use Rattle.coswid_codec.specs.TagFault.{tag_fault};
 ghost use Rattle.coswid_res.specs.Reading.{Gives};
 ghost use Rattle.coswid_res.specs.declared.fault.FormFault as fault;
 ghost use Rattle.coswid_tag.specs.declared.tag.Tag as tag;
 
 use crate::deep::reaches;
-use crate::map_form::MapForm;
+use crate::tag::TagTable;
 use crate::write::COSWID;
-use cbor_det::{CborFault, CborRefused, Item, Limits, read_item};
-use coswid_res::{DEEP, Form, FormFault, FormRefused};
+use cbor_det::{CborFault, CborRefused, Item, Limits, Pairs, read_item};
+use coswid_res::{BOTH, DEEP, Form, FormFault, FormRefused, MapForm};
 use coswid_tag::Tag;
 use std::alloc::Global;
 use thiserror::Error;
@@ -85,6 +86,12 @@ pub fn read_tag(alloc: Global, bytes: &[u8]) -> Result<(Tag, usize), TagRefused>
 /// The most levels that an item may have.
 const MOST_LEVELS: u32 = 64;
 
+/// The key of evidence.
+const EVIDENCE: u64 = 3;
+
+/// The key of payload.
+const PAYLOAD: u64 = 6;
+
 /// The tag that the item is.
 fn tag_of(alloc: Global, item: &Item) -> Result<Tag, FormRefused>
     ensures told { Gives (λ g. TagForm g (view item.now)) (tag_fault (view item.now)) result }
@@ -92,7 +99,11 @@ fn tag_of(alloc: Global, item: &Item) -> Result<Tag, FormRefused>
     if is_deep(item) {
         return Err(FormRefused::here(alloc, DEEP));
     }
-    MapForm::<Tag>::read(alloc, content(item))
+    let content = content(item);
+    if has_both(content) {
+        return Err(FormRefused::here(alloc, BOTH));
+    }
+    MapForm::<TagTable>::read(alloc, content)
 }
 
 /// Whether the item would be too deep under the tag of tags, which it does not have.
@@ -110,6 +121,23 @@ fn is_marked(item: &Item) -> bool
         Item::Tag(number, _) => *number == COSWID,
         _ => false,
     }
+}
+
+/// Whether the item is a map with both a payload and evidence.
+fn has_both(item: &Item) -> bool
+    ensures both { result ≡ has_both (view item.now) }
+{
+    match item {
+        Item::Map(pairs) => holds(pairs, EVIDENCE) && holds(pairs, PAYLOAD),
+        _ => false,
+    }
+}
+
+/// Whether the key is there.
+fn holds(pairs: &Pairs, key: u64) -> bool
+    ensures holds { result ≡ is_some (value_under key (pairs_view pairs.now)) }
+{
+    pairs.under(key).is_some()
 }
 
 /// What stands under the tag of tags, or the item itself.

@@ -1,78 +1,122 @@
 //! The map of a tag: RFC 9393, section 2.3.
 
+ghost use Rattle.std.specs.Prelude.{drop};
+ghost use Rattle.cbor_det.specs.View.{pairs_view};
 ghost use Rattle.coswid_codec.specs.Forms.{TagKeys};
+ghost use Rattle.coswid_codec.specs.LastKeys.{LastKeys};
 ghost use Rattle.coswid_codec.specs.Items.{tag_pairs};
+ghost use Rattle.coswid_res.specs.Fault.{missing};
+ghost use Rattle.coswid_res.specs.Reading.{Gives, lines_fault};
 ghost use Rattle.coswid_res.specs.Schema as schema;
+ghost use Rattle.coswid_res.specs.Schema.{table, required_keys};
 
 use crate::key;
-use crate::map_form::Mapped;
 use cbor_det::Pairs;
-use coswid_res::{FormRefused, refuse};
-use coswid_tag::Tag;
+use coswid_res::{FormRefused, Mapped};
+use coswid_tag::{CodeValue, Tag};
 use std::alloc::Global;
-use wire_base::{Memory, TryCopy};
+use wire_base::{Memory, Text, TryCopy};
 
-impl Mapped for Tag {
+/// The table of tags.
+pub struct TagTable;
+
+impl Mapped for TagTable {
+    type Value = Tag;
+
     ghost name = { schema.tag };
 
     ghost keys = { TagKeys };
 
     ghost written = { tag_pairs };
 
-    fn read(alloc: Global, pairs: &Pairs) -> Result<Self, FormRefused> {
-        key::TagId::expect(alloc, pairs)?;
-        key::SoftwareName::expect(alloc, pairs)?;
-        key::Entity::expect(alloc, pairs)?;
-        key::TagVersion::expect(alloc, pairs)?;
+    fn read(alloc: Global, pairs: &Pairs) -> Result<Tag, FormRefused> {
+        expect_required(alloc, pairs)?;
         let tag_id = key::TagId::required(alloc, pairs)?;
         let software_name = key::SoftwareName::required(alloc, pairs)?;
         let entity = key::Entity::required_row(alloc, pairs)?;
-        refuse(alloc, pairs, key::EVIDENCE)?;
+        let evidence = key::Evidence::optional(alloc, pairs)?;
         let link = key::Link::optional_row(alloc, pairs)?;
         let software_meta = key::SoftwareMeta::optional_row(alloc, pairs)?;
-        refuse(alloc, pairs, key::PAYLOAD)?;
-        let corpus = key::Corpus::optional(alloc, pairs)?;
-        let patch = key::Patch::optional(alloc, pairs)?;
-        let media = key::Media::optional(alloc, pairs)?;
-        let supplemental = key::Supplemental::optional(alloc, pairs)?;
-        let tag_version = key::TagVersion::required(alloc, pairs)?;
-        let software_version = key::SoftwareVersion::optional(alloc, pairs)?;
-        let version_scheme = key::VersionScheme::optional(alloc, pairs)?;
-        let lang = key::Lang::optional(alloc, pairs)?;
+        let payload = key::Payload::optional(alloc, pairs)?;
+        let last = read_last(alloc, pairs)?;
         let extras = pairs.other_than(&key::TAG_KEYS)?;
         Ok(Tag {
             tag_id,
             software_name,
             entity,
+            evidence,
             link,
             software_meta,
-            corpus,
-            patch,
-            media,
-            supplemental,
-            tag_version,
-            software_version,
-            version_scheme,
-            lang,
+            payload,
+            corpus: last.corpus,
+            patch: last.patch,
+            media: last.media,
+            supplemental: last.supplemental,
+            tag_version: last.tag_version,
+            software_version: last.software_version,
+            version_scheme: last.version_scheme,
+            lang: last.lang,
             extras,
         })
     }
 
-    fn write(&self) -> Result<Pairs, Memory> {
-        let mut pairs = self.extras.copy()?;
-        key::TagId::put(&mut pairs, &self.tag_id)?;
-        key::SoftwareName::put(&mut pairs, &self.software_name)?;
-        key::Entity::put_row(&mut pairs, &self.entity)?;
-        key::Link::put_optional_row(&mut pairs, &self.link)?;
-        key::SoftwareMeta::put_optional_row(&mut pairs, &self.software_meta)?;
-        key::Corpus::put_optional(&mut pairs, &self.corpus)?;
-        key::Patch::put_optional(&mut pairs, &self.patch)?;
-        key::Media::put_optional(&mut pairs, &self.media)?;
-        key::Supplemental::put_optional(&mut pairs, &self.supplemental)?;
-        key::TagVersion::put(&mut pairs, &self.tag_version)?;
-        key::SoftwareVersion::put_optional(&mut pairs, &self.software_version)?;
-        key::VersionScheme::put_optional(&mut pairs, &self.version_scheme)?;
-        key::Lang::put_optional(&mut pairs, &self.lang)?;
+    fn write(tag: &Tag) -> Result<Pairs, Memory> {
+        let mut pairs = tag.extras.copy()?;
+        key::TagId::put(&mut pairs, &tag.tag_id)?;
+        key::SoftwareName::put(&mut pairs, &tag.software_name)?;
+        key::Entity::put_row(&mut pairs, &tag.entity)?;
+        key::Evidence::put_optional(&mut pairs, &tag.evidence)?;
+        key::Link::put_optional_row(&mut pairs, &tag.link)?;
+        key::SoftwareMeta::put_optional_row(&mut pairs, &tag.software_meta)?;
+        key::Payload::put_optional(&mut pairs, &tag.payload)?;
+        key::Corpus::put_optional(&mut pairs, &tag.corpus)?;
+        key::Patch::put_optional(&mut pairs, &tag.patch)?;
+        key::Media::put_optional(&mut pairs, &tag.media)?;
+        key::Supplemental::put_optional(&mut pairs, &tag.supplemental)?;
+        key::TagVersion::put(&mut pairs, &tag.tag_version)?;
+        key::SoftwareVersion::put_optional(&mut pairs, &tag.software_version)?;
+        key::VersionScheme::put_optional(&mut pairs, &tag.version_scheme)?;
+        key::Lang::put_optional(&mut pairs, &tag.lang)?;
         Ok(pairs)
     }
+}
+
+/// Nothing where each key is there that must be; else `Form` with the fault that the lowest that is not is missing;
+/// `Memory` where there is no room.
+fn expect_required(alloc: Global, pairs: &Pairs) -> Result<(), FormRefused>
+    ensures told { Gives (λ done. Unit {0}) (missing (required_keys (table schema.tag)) (pairs_view pairs.now)) result }
+{
+    key::TagId::expect(alloc, pairs)?;
+    key::SoftwareName::expect(alloc, pairs)?;
+    key::Entity::expect(alloc, pairs)?;
+    key::TagVersion::expect(alloc, pairs)
+}
+
+/// The fields of a tag with the keys 8 to 15.
+#[derive(Drop)]
+struct LastFields {
+    corpus: Option<bool>,
+    patch: Option<bool>,
+    media: Option<Text>,
+    supplemental: Option<bool>,
+    tag_version: i64,
+    software_version: Option<Text>,
+    version_scheme: Option<CodeValue>,
+    lang: Option<Text>,
+}
+
+/// The fields with the keys 8 to 15; `Form` with the first form fault under them; `Memory` where there is no room.
+fn read_last(alloc: Global, pairs: &Pairs) -> Result<LastFields, FormRefused>
+    ensures told { Gives (λ last. LastKeys last (pairs_view pairs.now)) (lines_fault (drop 7 (table schema.tag)) (pairs_view pairs.now)) result }
+{
+    Ok(LastFields {
+        corpus: key::Corpus::optional(alloc, pairs)?,
+        patch: key::Patch::optional(alloc, pairs)?,
+        media: key::Media::optional(alloc, pairs)?,
+        supplemental: key::Supplemental::optional(alloc, pairs)?,
+        tag_version: key::TagVersion::required(alloc, pairs)?,
+        software_version: key::SoftwareVersion::optional(alloc, pairs)?,
+        version_scheme: key::VersionScheme::optional(alloc, pairs)?,
+        lang: key::Lang::optional(alloc, pairs)?,
+    })
 }

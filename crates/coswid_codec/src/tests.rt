@@ -23,7 +23,7 @@ pub(crate) fn told(alloc: Global, digits: &str) -> Result<String, Fail> {
 }
 
 /// The text of what is read, or the line of what is refused.
-fn text(alloc: Global, digits: &str) -> Result<String, Fail> {
+pub(crate) fn text(alloc: Global, digits: &str) -> Result<String, Fail> {
     let bytes = octets(alloc, digits)?;
     match read_tag(alloc, bytes.as_slice()) {
         Ok((tag, _)) => {

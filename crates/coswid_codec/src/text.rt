@@ -5,7 +5,7 @@ ghost use Rattle.std.specs.List.{flat_map};
 ghost use Rattle.cbor_det.specs.Canonical.{canon};
 ghost use Rattle.cbor_det.specs.Term.{depth};
 ghost use Rattle.coswid_codec.specs.Items.{tag_item};
-ghost use Rattle.coswid_codec.specs.TagText.{canonical_line, finding_line, identifier_line, kind_line, tag_text};
+ghost use Rattle.coswid_codec.specs.TagText.{canonical_line, finding_line, identifier_line, kind_line, summary_text, tag_text};
 ghost use Rattle.coswid_tag.specs.Identifier.{identifier_of};
 
 use crate::write::write_tag;
@@ -21,12 +21,32 @@ pub fn tag_text(alloc: Global, tag: &Tag) -> Result<Octets, Memory>
     ensures text { IfOk result (λ made. made ≡ tag_text tag.now) }
 {
     let mut out = List::new(alloc);
-    put_kind(&mut out, kind(tag))?;
-    put_identifier(alloc, &mut out, tag)?;
-    let found = constraints(alloc, tag)?;
-    put_findings(alloc, &mut out, found.as_slice())?;
+    put_summary(alloc, &mut out, tag)?;
     put_canonical(alloc, &mut out, tag)?;
     Ok(out)
+}
+
+/// Puts the lines of a tag but for its canonical spelling at the end of `out`: the kind, the software identifier and each finding;
+/// `Memory` where there is no room.
+pub fn put_summary(alloc: Global, out: &mut Octets, tag: &Tag) -> Result<(), Memory>
+    ensures lines { OnOk result (out.new ≡ out.old ++ summary_text tag.now) }
+{
+    put_kind(out, kind(tag))?;
+    put_identifier(alloc, out, tag)?;
+    let found = constraints(alloc, tag)?;
+    put_findings(alloc, out, found.as_slice())
+}
+
+/// Puts the line of a tag's canonical spelling at the end of `out`; `Memory` where there is no room.
+pub fn put_canonical(alloc: Global, out: &mut Octets, tag: &Tag) -> Result<(), Memory>
+    requires depth { depth (tag_item tag.now) ≤ 64 }
+    ensures line { OnOk result (out.new ≡ out.old ++ canonical_line (canon (tag_item tag.now))) }
+{
+    let octets = write_tag(alloc, tag)?;
+    let len = octets.len();
+    let digits = hex::encode(alloc, octets.as_slice())?;
+    let line = format!(in alloc; "canonical {len} {digits}\n")?;
+    out.extend(line.as_bytes())
 }
 
 fn put_kind(out: &mut Octets, kind: TagKind) -> Result<(), Memory>
@@ -77,16 +97,5 @@ fn put_finding(alloc: Global, out: &mut Octets, number: u8) -> Result<(), Memory
     ensures line { OnOk result (out.new ≡ out.old ++ finding_line number) }
 {
     let line = format!(in alloc; "finding F{number}\n")?;
-    out.extend(line.as_bytes())
-}
-
-fn put_canonical(alloc: Global, out: &mut Octets, tag: &Tag) -> Result<(), Memory>
-    requires depth { depth (tag_item tag.now) ≤ 64 }
-    ensures line { OnOk result (out.new ≡ out.old ++ canonical_line (canon (tag_item tag.now))) }
-{
-    let octets = write_tag(alloc, tag)?;
-    let len = octets.len();
-    let digits = hex::encode(alloc, octets.as_slice())?;
-    let line = format!(in alloc; "canonical {len} {digits}\n")?;
     out.extend(line.as_bytes())
 }

@@ -6,8 +6,9 @@ ghost use Rattle.cbor_det.specs.Term.{depth};
 ghost use Rattle.cbor_det.specs.View.{view};
 ghost use Rattle.coswid_codec.specs.Items.{tag_item};
 
-use crate::map_form::Mapped;
+use crate::tag::TagTable;
 use cbor_det::{Item, write_item};
+use coswid_res::Mapped;
 use coswid_tag::Tag;
 use std::alloc::Global;
 use wire_base::{Boxed, Memory, Octets};
@@ -27,6 +28,6 @@ pub fn write_tag(alloc: Global, tag: &Tag) -> Result<Octets, Memory>
 fn tag_item(alloc: Global, tag: &Tag) -> Result<Item, Memory>
     ensures item { IfOk result (λ made. view made ≡ tag_item tag.now) }
 {
-    let pairs = tag.write()?;
+    let pairs = TagTable::write(tag)?;
     Ok(Item::Tag(COSWID, Boxed::new(alloc, Item::Map(pairs))?))
 }

@@ -1,5 +1,5 @@
 -- Keys that are unsigned integers below 256 stand behind smaller ones alone, in the order of canonical spellings.
-use Rattle.std.proofs.Common.{◌≡◌, ℕ, ◌+◌, ◌*◌, ◌/◌, ◌%◌, ◌^◌, ◌<◌, ◌≤◌, List, [], ◌∷◌, pos, nat_lt, refl, sym, ap, ◌∙◌, subst, arith}
+use Rattle.std.proofs.Common.{◌≡◌, ℕ, ◌+◌, ◌*◌, ◌%◌, ◌^◌, ◌<◌, ◌≤◌, List, [], ◌∷◌, pos, nat_lt, refl, sym, ap, ◌∙◌, arith}
 use Rattle.std.specs.Ordering.{nat_cmp, ordering_then}
 use Rattle.std.specs.declared.cmp.Ordering.{Ordering}
 use Rattle.std.specs.declared.cmp.Ordering.TheVariants.{Less, Equal, Greater}
@@ -7,7 +7,7 @@ use Rattle.std.specs.Cmp.Lexicographic.{slice_cmp}
 use Rattle.std.proofs.lemmas.Bool.{cond_both, ltb-true, ltb-false}
 use Rattle.std.proofs.lemmas.Cmp.{ranked}
 use Rattle.wire_base.specs.Numbers.{octets_of}
-use Rattle.cbor_det.specs.Term.{Term, integer}
+use Rattle.cbor_det.specs.Term.{integer}
 use Rattle.cbor_det.specs.Canonical.{Form, direct, one, two, four, eight, head, shortest, canon}
 
 equal_less : Equal ≡ Less → ⊥

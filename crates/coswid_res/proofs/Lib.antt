@@ -3,3 +3,9 @@ pub mod Hashes
 pub mod Keys
 pub mod Lines
 pub mod Maps
+pub mod MapRead
+pub mod DirectoryDepths
+pub mod DirectoryReads
+pub mod DirectoryWrites
+pub mod Listings
+pub mod FileVerdicts

@@ -1,7 +1,6 @@
 -- Line by line and pair by pair the first fault of a map is the same.
-use Rattle.std.proofs.Common.{◌≡◌, ℕ, ◌+◌, ◌<◌, ◌≤◌, ◌⊎◌, inl, inr, Bool, true, false, ◌&&◌, nat_le, nat_lt, pos, negsuc, List, [], ◌∷◌, Option, Some, None, refl, sym, ap, ◌∙◌, subst, arith}
+use Rattle.std.proofs.Common.{◌≡◌, ℕ, ◌+◌, ◌<◌, ◌≤◌, inl, inr, Bool, true, false, ◌&&◌, nat_le, nat_lt, pos, negsuc, List, [], ◌∷◌, Option, Some, None, refl, sym, ap, ◌∙◌, subst, arith}
 use Rattle.std.proofs.lemmas.Bool.{and_parts, leb-true, ltb-true, ne_eqb, eq-eqb, cases_lt, cond-true, cond-false}
-use Rattle.std.proofs.lemmas.Option.{none-some}
 use Rattle.std.specs.Ordering.{nat_cmp}
 use Rattle.std.specs.declared.cmp.Ordering.TheVariants.{Less}
 use Rattle.std.specs.Cmp.Lexicographic.{slice_cmp}
@@ -11,24 +10,16 @@ use Rattle.cbor_det.specs.Lookup.{value_under, is_unsigned}
 use Rattle.cbor_det.specs.Spelling.{IsBelow, Rises}
 use Rattle.cbor_det.proofs.Order.{below_trans}
 use Rattle.coswid_res.specs.declared.fault.FormFault.{FormFault}
-use Rattle.coswid_res.specs.Schema.{Name, tag, entity, link, software_meta, table, Line, Field, one, anything, required, optional, key_of, field_of, required_keys}
+use Rattle.coswid_res.specs.Schema.{Name, tag, entity, link, software_meta, payload, evidence, directory, path_elements, file, process, resource, table, Line, Field, one, anything, required, optional, key_of, field_of, required_keys}
 use Rattle.coswid_res.specs.Fault.{or_else, under, absent, missing, look_up, field_fault, pairs_fault}
-use Rattle.coswid_res.specs.Reading.{value_fault, line_fault, lines_fault, LineByLine}
+use Rattle.coswid_res.specs.Reading.{value_fault, lines_fault, LineByLine}
 use Rattle.coswid_res.proofs.Keys.{numbers_in_order}
+use Rattle.coswid_res.proofs.Maps.{behind, or_none}
 
 -- the first fault of what stands under the keys, missing keys left out
 abbrev pub values_fault : List Line → Pairs → Option FormFault
 values_fault [] ps = None
 values_fault (line ∷ lines) ps = or_else (value_fault (key_of line) (field_of line) (value_under (key_of line) ps)) (values_fault lines ps)
-
--- What stands behind counts only where nothing is told first.
-behind : (first a b : Option FormFault) → (first ≡ None → a ≡ b) → or_else first a ≡ or_else first b
-behind None a b same = same refl
-behind (Some f) a b same = refl
-
-or_none : (a b : Option FormFault) → or_else a b ≡ None → (a ≡ None) × (b ≡ None)
-or_none None b is = (refl, is)
-or_none (Some f) b is = absurd (none-some f (sym is))
 
 none_first : (first later : Option FormFault) → first ≡ None → or_else first later ≡ later
 none_first first later is = ap (λ (o : Option FormFault). or_else o later) is
@@ -76,6 +67,13 @@ table_rises tag = rises 0 (table tag) refl
 table_rises entity = rises 0 (table entity) refl
 table_rises link = rises 0 (table link) refl
 table_rises software_meta = rises 0 (table software_meta) refl
+table_rises payload = rises 0 (table payload) refl
+table_rises evidence = rises 0 (table evidence) refl
+table_rises directory = rises 0 (table directory) refl
+table_rises path_elements = rises 0 (table path_elements) refl
+table_rises file = rises 0 (table file) refl
+table_rises process = rises 0 (table process) refl
+table_rises resource = rises 0 (table resource) refl
 
 -- A pair whose key no line has changes nothing.
 apart : (lines : List Line) (low : ℕ) (key v : Term) (ps : Pairs) → Rising low lines → ((k : ℕ) → low ≤ k → is_unsigned k key ≡ false)

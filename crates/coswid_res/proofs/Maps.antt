@@ -19,7 +19,7 @@ key_found k field no_pairs = refl
 key_found k field (pair key v ps) = found_or_not (is_unsigned k key) k field v ps (key_found k field ps)
 
 -- What stands behind counts only where nothing is told first.
-behind : (first a b : Option FormFault) → (first ≡ None → a ≡ b) → or_else first a ≡ or_else first b
+pub behind : (first a b : Option FormFault) → (first ≡ None → a ≡ b) → or_else first a ≡ or_else first b
 behind None a b same = same refl
 behind (Some f) a b same = refl
 

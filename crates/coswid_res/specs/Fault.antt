@@ -3,7 +3,7 @@ use Rattle.std.specs.Prelude.{ℕ, ◌+◌, ◌==◌, ℤ, pos, Bool, true, fals
 use Rattle.cbor_det.specs.Term.{Term, Terms, Pairs, integer, octets, text, array, map, tagged, boolean, no_terms, term, no_pairs, pair}
 use Rattle.cbor_det.specs.Lookup.{value_under, is_unsigned}
 use Rattle.coswid_res.specs.declared.fault.FormFault.{FormFault}
-use Rattle.coswid_res.specs.Schema.{Form, Field, Line, one, one_or_more, a_text, a_boolean, an_integer, an_identifier, a_code, a_uri, a_hash, a_map, anything, table, key_of, field_of, required_keys}
+use Rattle.coswid_res.specs.Schema.{Form, Field, Line, one, one_or_more, a_text, a_boolean, an_integer, an_unsigned, an_identifier, a_code, a_uri, a_time, a_hash, a_map, anything, table, key_of, field_of, required_keys}
 
 -- A fault has a kind, and the keys and indices that lead to it from the top.
 abbrev pub fault : ℕ → List ℤ → Option FormFault
@@ -43,12 +43,15 @@ is_plain anything t = true
 is_plain a_text (text s) = true
 is_plain a_boolean (boolean b) = true
 is_plain an_integer (integer z) = true
+is_plain an_unsigned (integer (pos n)) = true
 is_plain an_identifier (text s) = true
 is_plain an_identifier (octets s) = length s == 16
 is_plain a_code (integer z) = true
 is_plain a_code (text s) = true
 is_plain a_uri (text s) = true
 is_plain a_uri (tagged n (text s)) = n == 32
+is_plain a_time (integer z) = true
+is_plain a_time (tagged n (integer z)) = n == 1
 is_plain form t = false
 
 abbrev pub unless_wrong : Bool → Option FormFault

@@ -1,13 +1,19 @@
 -- The one item that a value is written as, and the pairs that a map is written with, each put at its place in key order.
-use Rattle.std.specs.Prelude.{ℕ, pos, List, [], ◌∷◌, Option, Some, None}
+use Rattle.std.specs.Prelude.{ℕ, ℤ, pos, List, [], ◌∷◌, Option, Some, None}
 use Rattle.cbor_det.specs.Term.{Term, Pairs, integer, octets, text, array, tagged, no_terms, term}
 use Rattle.cbor_det.specs.Adding.{put}
 use Rattle.cbor_det.specs.View.{terms_of}
 use Rattle.coswid_res.specs.declared.hash.HashEntry.{HashEntry}
 
+abbrev pub unsigned_item : ℕ → Term
+unsigned_item n = integer (pos n)
+
 -- with its tag
 abbrev pub uri_item : List ℕ → Term
 uri_item s = tagged 32 (text s)
+
+abbrev pub time_item : ℤ → Term
+time_item z = tagged 1 (integer z)
 
 abbrev pub hash_item : HashEntry → Term
 hash_item h = array (term (integer h.algorithm) (term (octets h.value) no_terms))

@@ -3,3 +3,10 @@ pub mod Fault
 pub mod Words
 pub mod Reading
 pub mod Items
+pub mod Files
+pub mod Resources
+pub mod ResourceItems
+pub mod Directories
+pub mod DirectoryItems
+pub mod Listing
+pub mod Verify

@@ -1,5 +1,5 @@
 -- The words of the tables, as relations between a value and an item, and between a value and the pairs of a map.
-use Rattle.std.specs.Prelude.{◌≡◌, ◌≢◌, ◌⊎◌, ℕ, ℤ, Bool, List, [], ◌∷◌, Option, Some, None}
+use Rattle.std.specs.Prelude.{◌≡◌, ◌≢◌, ◌⊎◌, ℕ, ℤ, pos, Bool, List, [], ◌∷◌, Option, Some, None}
 use Rattle.cbor_det.specs.Term.{Term, Terms, Pairs, integer, octets, text, array, map, tagged, boolean, no_terms, term}
 use Rattle.cbor_det.specs.Lookup.{value_under, other_than}
 use Rattle.cbor_det.specs.View.{pairs_view}
@@ -17,9 +17,15 @@ Boolean b t = t ≡ boolean b
 abbrev pub Integer : ℤ → Term → Type 0
 Integer z t = t ≡ integer z
 
+abbrev pub Unsigned : ℕ → Term → Type 0
+Unsigned n t = t ≡ integer (pos n)
+
 -- with its tag, or without
 abbrev pub Uri : List ℕ → Term → Type 0
 Uri s t = (t ≡ tagged 32 (text s)) ⊎ (t ≡ text s)
+
+abbrev pub Time : ℤ → Term → Type 0
+Time z t = (t ≡ tagged 1 (integer z)) ⊎ (t ≡ integer z)
 
 abbrev pub Hash : HashEntry → Term → Type 0
 Hash h t = t ≡ array (term (integer h.algorithm) (term (octets h.value) no_terms))
@@ -53,10 +59,6 @@ Required k Is v ps = Agree Is (Some v) (value_under k ps)
 -- The key is there and its value is this, or neither is.
 abbrev pub Optional : {A : Type 0} → ℕ → (A → Term → Type 0) → Option A → Pairs → Type 0
 Optional k Is v ps = Agree Is v (value_under k ps)
-
--- The key is not there.
-abbrev pub Absent : ℕ → Pairs → Type 0
-Absent k ps = value_under k ps ≡ None
 
 -- All other pairs are the extras.
 abbrev pub Rest : Name → code.Pairs → Pairs → Type 0

@@ -120,7 +120,7 @@ impl<const NUMBER: u32, F: Form> Key<NUMBER, F> {
 }
 
 /// Puts the value under the key, which is not held.
-fn put(pairs: &mut Pairs, key: u32, value: Item) -> Result<(), Memory>
+pub(crate) fn put(pairs: &mut Pairs, key: u32, value: Item) -> Result<(), Memory>
     ensures puts { OnOk result (pairs_view pairs.new ≡ put (integer (pos key)) (view value) (pairs_view pairs.old)) }
 {
     pairs.put(Item::Int(key as i64), value)

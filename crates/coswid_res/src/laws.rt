@@ -1,8 +1,14 @@
-//! Laws of tables. The function does nothing: its contract is the law.
+//! Laws of tables and of verdicts. The functions do nothing: their contracts are the laws.
 
 ghost use Rattle.coswid_res.specs.Reading.{LineByLine};
+ghost use Rattle.coswid_res.specs.Verify.{ToldVerdicts};
 
 /// Where the pairs of a map stand in key order, its first fault is told line by line of its table as it is told pair by pair.
 pub fn faults_are_told_line_by_line()
     ensures same { LineByLine }
+{}
+
+/// Where the contents of all files are told, each file of a payload has one verdict.
+pub fn verdicts_are_of_what_is_told()
+    ensures told { ToldVerdicts }
 {}

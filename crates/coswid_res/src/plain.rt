@@ -1,8 +1,8 @@
 //! The forms of single values.
 
-ghost use Rattle.coswid_res.specs.Items.{uri_item, hash_item};
-ghost use Rattle.coswid_res.specs.Schema.{a_text, a_boolean, an_integer, a_uri, a_hash};
-ghost use Rattle.coswid_res.specs.Words.{Text as IsText, Boolean, Integer, Uri, Hash};
+ghost use Rattle.coswid_res.specs.Items.{unsigned_item, uri_item, time_item, hash_item};
+ghost use Rattle.coswid_res.specs.Schema.{a_text, a_boolean, an_integer, an_unsigned, a_uri, a_time, a_hash};
+ghost use Rattle.coswid_res.specs.Words.{Text as IsText, Boolean, Integer, Unsigned, Uri, Time, Hash};
 ghost use Rattle.std.specs.Prelude.{◌≡◌, map};
 ghost use Rattle.cbor_det.specs.Term.{text, integer, boolean, octets, term, no_terms};
 ghost use Rattle.cbor_det.specs.View.{view, terms_of};
@@ -88,6 +88,33 @@ impl Form for IntForm {
     }
 }
 
+/// An integer that is not below 0. One above 2^63 - 1 has no item: `Memory` is answered where one is to be written.
+pub struct UintForm;
+
+impl Form for UintForm {
+    type Value = u64;
+
+    ghost form = { an_unsigned };
+
+    ghost is = { Unsigned };
+
+    ghost written = { unsigned_item };
+
+    fn read(alloc: Global, item: &Item) -> Result<u64, FormRefused> {
+        match item {
+            Item::Int(number) if *number >= 0 => Ok(*number as u64),
+            _ => Err(FormRefused::here(alloc, WRONG_FORM)),
+        }
+    }
+
+    fn write(_alloc: Global, value: &u64) -> Result<Item, Memory> {
+        match i64::try_from(*value) {
+            Ok(number) => Ok(Item::Int(number)),
+            Err(_) => Err(Memory),
+        }
+    }
+}
+
 /// The tag of a URI (RFC 8949, section 3.4.5.3).
 const URI_TAG: u64 = 32;
 
@@ -105,7 +132,7 @@ impl Form for UriForm {
 
     fn read(alloc: Global, item: &Item) -> Result<Text, FormRefused> {
         match item {
-            Item::Text(text) => Ok(text.copy()?),
+            Item::Text(_) => TextForm::read(alloc, item),
             Item::Tag(URI_TAG, content) => TextForm::read(alloc, content.get()),
             _ => Err(FormRefused::here(alloc, WRONG_FORM)),
         }
@@ -114,6 +141,34 @@ impl Form for UriForm {
     fn write(alloc: Global, value: &Text) -> Result<Item, Memory> {
         let text = Item::Text(value.copy()?);
         Ok(Item::Tag(URI_TAG, Boxed::new(alloc, text)?))
+    }
+}
+
+/// The tag of a time (RFC 8949, section 3.4.2).
+const TIME_TAG: u64 = 1;
+
+/// A time in seconds since 1970 began: an integer, under its tag or alone; it is written under its tag.
+pub struct TimeForm;
+
+impl Form for TimeForm {
+    type Value = i64;
+
+    ghost form = { a_time };
+
+    ghost is = { Time };
+
+    ghost written = { time_item };
+
+    fn read(alloc: Global, item: &Item) -> Result<i64, FormRefused> {
+        match item {
+            Item::Int(number) => Ok(*number),
+            Item::Tag(TIME_TAG, content) => IntForm::read(alloc, content.get()),
+            _ => Err(FormRefused::here(alloc, WRONG_FORM)),
+        }
+    }
+
+    fn write(alloc: Global, value: &i64) -> Result<Item, Memory> {
+        Ok(Item::Tag(TIME_TAG, Boxed::new(alloc, Item::Int(*value))?))
     }
 }
 

@@ -2,7 +2,7 @@
 
 use crate::{
     BoolForm, FormFault, FormRefused, HashEntry, HashForm, IntForm, Key, MISSING_KEY, TextForm,
-    UriForm, WRONG_FORM, refuse,
+    UriForm, WRONG_FORM,
 };
 use cbor_det::{Item, LARGEST, Pairs, read_item};
 use std::alloc::Global;
@@ -108,7 +108,5 @@ fn tells_where_a_fault_is(rt: HostRuntime) -> Result<(), Fail> {
     assert!(rt; is_refused(name, MISSING_KEY, [31].as_slice()));
     let expected = Name::expect(alloc, &pairs);
     assert!(rt; is_refused(expected, MISSING_KEY, [31].as_slice()));
-    let known = refuse(alloc, &pairs, 33);
-    assert!(rt; is_refused(known, WRONG_FORM, [33].as_slice()));
     Ok(())
 }

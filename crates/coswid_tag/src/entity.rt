@@ -1,9 +1,8 @@
 //! Entities of a tag.
 
-use crate::copied::copy_option;
 use crate::value::CodeValues;
 use cbor_det::Pairs;
-use coswid_res::HashEntry;
+use coswid_res::{HashEntry, copy_option};
 use wire_base::{List, Memory, Text, TryCopy};
 
 /// Entities in order.

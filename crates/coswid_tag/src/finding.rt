@@ -73,8 +73,8 @@ fn has_rel(links: &[LinkEntry], number: u64, name: &str) -> bool
     false
 }
 
-/// Whether the code is this number, or the text that names it.
-fn is_named(code: &CodeValue, number: u64, name: &str) -> bool
+/// Whether the code is this number of its registry, or the text that names it there (RFC 9393, section 4).
+pub fn is_named(code: &CodeValue, number: u64, name: &str) -> bool
     ensures named { result ≡ is_named number name.now code.now }
 {
     match code {

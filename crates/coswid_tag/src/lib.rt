@@ -1,13 +1,12 @@
 //! CoSWID tags as values (RFC 9393, section 2), what kind a tag is, what is wrong with it by plain rules, and its software
 //! identifier (RFC 8412, section 3.4.1).
 //!
-//! It stands on `coswid_res` and `cbor_det` for hashes and for pairs that no field tells, on `wire_base`, on `uuid` for the
-//! text of a UUID, and on `thiserror` for the texts of errors. The crates above rest on `kind` of `kind`, on `findings` of
-//! `constraints`, on `identifier` of `software_identifier`, and on `equal` of the copies. The words of these clauses are in
-//! `specs/`: `Kind`, `Findings`, `Identifier`.
+//! It stands on `coswid_res` for payload, evidence and hashes, on `cbor_det` for pairs that no field tells, on `wire_base`, on
+//! `uuid` for the text of a UUID, and on `thiserror` for the texts of errors. The crates above rest on `kind` of `kind`, on
+//! `findings` of `constraints`, on `named` of `is_named`, on `identifier` of `software_identifier`, and on `equal` of the
+//! copies. The words of these clauses are in `specs/`: `Kind`, `Findings`, `Codes`, `Identifier`.
 #![tactic(auto)]
 
-mod copied;
 mod entity;
 mod finding;
 mod identifier;
@@ -18,7 +17,7 @@ mod tag;
 mod value;
 
 pub use entity::{Entities, Entity};
-pub use finding::{Findings, constraints};
+pub use finding::{Findings, constraints, is_named};
 pub use identifier::{IdentRefused, software_identifier};
 pub use link::{LinkEntries, LinkEntry};
 pub use meta::{SoftwareMeta, SoftwareMetas};

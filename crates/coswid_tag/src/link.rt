@@ -1,8 +1,8 @@
 //! Links of a tag.
 
-use crate::copied::copy_option;
 use crate::value::CodeValue;
 use cbor_det::Pairs;
+use coswid_res::copy_option;
 use wire_base::{List, Memory, Text, TryCopy};
 
 /// Links in order.

@@ -1,8 +1,8 @@
 //! What a tag says of the software beyond its name and version.
 
-use crate::copied::copy_option;
 use crate::value::TagId;
 use cbor_det::Pairs;
+use coswid_res::copy_option;
 use wire_base::{List, Memory, Text, TryCopy};
 
 /// Descriptions in order.

@@ -1,14 +1,14 @@
 //! Tags.
 
-use crate::copied::copy_option;
 use crate::entity::Entities;
 use crate::link::LinkEntries;
 use crate::meta::SoftwareMetas;
 use crate::value::{CodeValue, TagId};
 use cbor_det::Pairs;
+use coswid_res::{Evidence, Payload, copy_option};
 use wire_base::{Memory, Text, TryCopy};
 
-/// A concise software identification tag (RFC 9393, section 2.3). Payload and evidence are not read yet.
+/// A concise software identification tag (RFC 9393, section 2.3).
 #[derive(Debug, Drop)]
 pub struct Tag {
     /// What identifies the tag, everywhere and always (0).
@@ -17,10 +17,14 @@ pub struct Tag {
     pub software_name: Text,
     /// Who made, owns or hands out the software and the tag, at least one (2).
     pub entity: Entities,
+    /// What was found of the software on an endpoint (3).
+    pub evidence: Option<Evidence>,
     /// Links, at least one (4).
     pub link: Option<LinkEntries>,
     /// Descriptions of the software, at least one (5).
     pub software_meta: Option<SoftwareMetas>,
+    /// What the software installs (6). A tag with evidence has none.
+    pub payload: Option<Payload>,
     /// Whether it describes software that is not installed yet (8).
     pub corpus: Option<bool>,
     /// Whether it describes a patch (9).
@@ -48,8 +52,10 @@ impl TryCopy for Tag {
             tag_id: self.tag_id.copy()?,
             software_name: self.software_name.copy()?,
             entity: self.entity.copy()?,
+            evidence: copy_option(&self.evidence)?,
             link: copy_option(&self.link)?,
             software_meta: copy_option(&self.software_meta)?,
+            payload: copy_option(&self.payload)?,
             corpus: self.corpus,
             patch: self.patch,
             media: copy_option(&self.media)?,

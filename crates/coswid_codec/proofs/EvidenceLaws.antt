@@ -1,0 +1,130 @@
+-- Evidence: RFC 9393, section 2.9.4.
+use Rattle.std.proofs.Common.{◌≡◌, List, [], ◌∷◌, None, refl, sym, ◌∙◌, arith}
+use Rattle.cbor_det.specs.Lookup.{other_than}
+use Rattle.cbor_det.specs.Term.{Pairs, text}
+use Rattle.cbor_det.specs.View.{pairs_view}
+use Rattle.coswid_res.specs.Schema as schema
+use Rattle.coswid_res.specs.Schema.{table, keys_of, one, a_map}
+use Rattle.coswid_res.specs.Reading.{keys_fault}
+use Rattle.coswid_res.specs.DirectoryItems.{directories_item}
+use Rattle.coswid_res.specs.Files.{files_item}
+use Rattle.coswid_res.specs.Resources.{EvidenceKeys, EvidenceMap}
+use Rattle.coswid_res.specs.ResourceItems.{evidence_pairs, evidence_item, processes_item, resources_item}
+use Rattle.coswid_res.specs.Items.{time_item}
+use Rattle.coswid_res.specs.declared.evidence.Evidence.{Evidence}
+use Rattle.coswid_codec.proofs.Directories.{directories_law}
+use Rattle.coswid_codec.proofs.Files.{files_law}
+use Rattle.coswid_codec.proofs.Plain.{text_law, time_law}
+use Rattle.coswid_codec.proofs.Processes.{processes_law}
+use Rattle.coswid_codec.proofs.Resources.{resources_law}
+use Rattle.coswid_codec.proofs.Extras.{extras_some}
+use Rattle.coswid_codec.proofs.Lawful.{Lawful, MapTold, MapLawful}
+use Rattle.coswid_codec.proofs.Lines.{AllSame, put_same, lines_of, optional_again, optional_same, optional_some, map_law}
+use Rattle.coswid_codec.proofs.Tables.{Entry, fills, Facts, made, optional_entry, optional_fact}
+
+abbrev entries : Evidence → List Entry
+entries e =
+    optional_entry 16 directories_item e.directory
+    ∷ optional_entry 17 files_item e.file
+    ∷ optional_entry 18 processes_item e.process
+    ∷ optional_entry 19 resources_item e.resource
+    ∷ optional_entry 23 text e.location
+    ∷ optional_entry 35 time_item e.date
+    ∷ optional_entry 36 text e.device_id
+    ∷ []
+
+facts : (e : Evidence) (ps : Pairs) → EvidenceKeys e ps → Facts 2 ps (table schema.evidence) (entries e)
+facts e ps is = (
+  optional_fact 2 16 e.directory ps directories_law (omega arith) is.directory,
+  (
+    optional_fact 2 17 e.file ps files_law (omega arith) is.file,
+    (
+      optional_fact 2 18 e.process ps processes_law (omega arith) is.process,
+      (
+        optional_fact 2 19 e.resource ps resources_law (omega arith) is.resource,
+        (
+          optional_fact 2 23 e.location ps text_law (omega arith) is.location,
+          (
+            optional_fact 2 35 e.date ps time_law (omega arith) is.date,
+            (
+              optional_fact 2 36 e.device_id ps text_law (omega arith) is.device_id,
+              tt,
+            ),
+          ),
+        ),
+      ),
+    ),
+  ),
+)
+
+told : (e : Evidence) (ps : Pairs) → EvidenceKeys e ps → MapTold schema.evidence EvidenceKeys evidence_pairs 2 e ps
+told e ps is =
+    let all = made schema.evidence (entries e) (pairs_view e.extras) 2 ps (facts e ps is) is.extras in
+    record {
+      none = all.none;
+      again = record {
+        directory = optional_again 16 e.directory ps (evidence_pairs e) directories_law is.directory (all.found 16 refl);
+        file = optional_again 17 e.file ps (evidence_pairs e) files_law is.file (all.found 17 refl);
+        process = optional_again 18 e.process ps (evidence_pairs e) processes_law is.process (all.found 18 refl);
+        resource = optional_again 19 e.resource ps (evidence_pairs e) resources_law is.resource (all.found 19 refl);
+        location = optional_again 23 e.location ps (evidence_pairs e) text_law is.location (all.found 23 refl);
+        date = optional_again 35 e.date ps (evidence_pairs e) time_law is.date (all.found 35 refl);
+        device_id = optional_again 36 e.device_id ps (evidence_pairs e) text_law is.device_id (all.found 36 refl);
+        extras = all.rest;
+      };
+      proper = all.proper;
+      within = λ n le deep. all.within n le deep;
+    }
+
+same : (a b : Evidence) (ps : Pairs) → EvidenceKeys a ps → EvidenceKeys b ps → evidence_pairs a ≡ evidence_pairs b
+same a b ps first second =
+    let fields : AllSame (fills (entries a)) (fills (entries b)) = (
+      optional_same 16 a.directory b.directory ps directories_law first.directory second.directory,
+      (
+        optional_same 17 a.file b.file ps files_law first.file second.file,
+        (
+          optional_same 18 a.process b.process ps processes_law first.process second.process,
+          (
+            optional_same 19 a.resource b.resource ps resources_law first.resource second.resource,
+            (
+              optional_same 23 a.location b.location ps text_law first.location second.location,
+              (
+                optional_same 35 a.date b.date ps time_law first.date second.date,
+                (
+                  optional_same 36 a.device_id b.device_id ps text_law first.device_id second.device_id,
+                  tt,
+                ),
+              ),
+            ),
+          ),
+        ),
+      ),
+    ) in
+    put_same (fills (entries a)) (fills (entries b)) (pairs_view a.extras) (pairs_view b.extras) fields (first.extras ∙ sym second.extras)
+
+some : (ps : Pairs) → keys_fault schema.evidence ps ≡ None → (e : Evidence) × EvidenceKeys e ps
+some ps none =
+    let lines_0 = lines_of schema.evidence ps none in
+    let directory = optional_some 16 ps directories_law lines_0.0 in
+    let lines_1 = lines_0.1 in
+    let file = optional_some 17 ps files_law lines_1.0 in
+    let lines_2 = lines_1.1 in
+    let process = optional_some 18 ps processes_law lines_2.0 in
+    let lines_3 = lines_2.1 in
+    let resource = optional_some 19 ps resources_law lines_3.0 in
+    let lines_4 = lines_3.1 in
+    let location = optional_some 23 ps text_law lines_4.0 in
+    let lines_5 = lines_4.1 in
+    let date = optional_some 35 ps time_law lines_5.0 in
+    let lines_6 = lines_5.1 in
+    let device_id = optional_some 36 ps text_law lines_6.0 in
+    let extras = extras_some (other_than (keys_of (table schema.evidence)) ps) in (
+      record { directory = directory.0; file = file.0; process = process.0; resource = resource.0; location = location.0; date = date.0; device_id = device_id.0; extras = extras.0 },
+      record { directory = directory.1; file = file.1; process = process.1; resource = resource.1; location = location.1; date = date.1; device_id = device_id.1; extras = extras.1 },
+    )
+
+pub evidence_map_law : MapLawful schema.evidence EvidenceKeys evidence_pairs 2
+evidence_map_law = record { told = told; same = same; some = some }
+
+pub evidence_law : Lawful (one (a_map schema.evidence)) EvidenceMap evidence_item 3
+evidence_law = map_law schema.evidence EvidenceKeys evidence_pairs 2 evidence_map_law

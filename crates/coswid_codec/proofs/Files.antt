@@ -1,0 +1,125 @@
+-- Files: RFC 9393, section 2.9.2.
+use Rattle.std.proofs.Common.{◌≡◌, List, [], ◌∷◌, None, refl, sym, ◌∙◌, arith}
+use Rattle.cbor_det.specs.Lookup.{other_than}
+use Rattle.cbor_det.specs.Term.{Pairs, map, text, boolean}
+use Rattle.cbor_det.specs.View.{pairs_view}
+use Rattle.coswid_res.specs.Schema as schema
+use Rattle.coswid_res.specs.Schema.{table, keys_of, one_or_more, a_map}
+use Rattle.coswid_res.specs.Reading.{keys_fault}
+use Rattle.coswid_res.specs.Files.{FileKeys, FileMap, file_pairs, files_item}
+use Rattle.coswid_res.specs.Items.{unsigned_item, hash_item}
+use Rattle.coswid_res.specs.Words.{OneOrMore}
+use Rattle.coswid_res.specs.declared.file.FileEntry.{FileEntry}
+use Rattle.coswid_codec.proofs.Plain.{boolean_law, hash_law, text_law, unsigned_law}
+use Rattle.coswid_codec.proofs.Several.{several_law}
+use Rattle.coswid_codec.proofs.Extras.{extras_some}
+use Rattle.coswid_codec.proofs.Lawful.{Lawful, MapTold, MapLawful}
+use Rattle.coswid_codec.proofs.Lines.{AllSame, put_same, lines_of, required_again, required_same, required_some, optional_again, optional_same, optional_some, map_law}
+use Rattle.coswid_codec.proofs.Tables.{Entry, fills, Facts, made, required_entry, required_fact, optional_entry, optional_fact}
+
+abbrev entries : FileEntry → List Entry
+entries f =
+    optional_entry 7 hash_item f.hash
+    ∷ optional_entry 20 unsigned_item f.size
+    ∷ optional_entry 21 text f.file_version
+    ∷ optional_entry 22 boolean f.key
+    ∷ optional_entry 23 text f.location
+    ∷ required_entry 24 text f.fs_name
+    ∷ optional_entry 25 text f.root
+    ∷ []
+
+facts : (f : FileEntry) (ps : Pairs) → FileKeys f ps → Facts 0 ps (table schema.file) (entries f)
+facts f ps is = (
+  optional_fact 0 7 f.hash ps hash_law (omega arith) is.hash,
+  (
+    optional_fact 0 20 f.size ps unsigned_law (omega arith) is.size,
+    (
+      optional_fact 0 21 f.file_version ps text_law (omega arith) is.file_version,
+      (
+        optional_fact 0 22 f.key ps boolean_law (omega arith) is.key,
+        (
+          optional_fact 0 23 f.location ps text_law (omega arith) is.location,
+          (
+            required_fact 0 24 f.fs_name ps text_law (omega arith) is.fs_name,
+            (
+              optional_fact 0 25 f.root ps text_law (omega arith) is.root,
+              tt,
+            ),
+          ),
+        ),
+      ),
+    ),
+  ),
+)
+
+told : (f : FileEntry) (ps : Pairs) → FileKeys f ps → MapTold schema.file FileKeys file_pairs 0 f ps
+told f ps is =
+    let all = made schema.file (entries f) (pairs_view f.extras) 0 ps (facts f ps is) is.extras in
+    record {
+      none = all.none;
+      again = record {
+        hash = optional_again 7 f.hash ps (file_pairs f) hash_law is.hash (all.found 7 refl);
+        size = optional_again 20 f.size ps (file_pairs f) unsigned_law is.size (all.found 20 refl);
+        file_version = optional_again 21 f.file_version ps (file_pairs f) text_law is.file_version (all.found 21 refl);
+        key = optional_again 22 f.key ps (file_pairs f) boolean_law is.key (all.found 22 refl);
+        location = optional_again 23 f.location ps (file_pairs f) text_law is.location (all.found 23 refl);
+        fs_name = required_again 24 f.fs_name ps (file_pairs f) text_law is.fs_name (all.found 24 refl);
+        root = optional_again 25 f.root ps (file_pairs f) text_law is.root (all.found 25 refl);
+        extras = all.rest;
+      };
+      proper = all.proper;
+      within = λ n le deep. all.within n le deep;
+    }
+
+same : (a b : FileEntry) (ps : Pairs) → FileKeys a ps → FileKeys b ps → file_pairs a ≡ file_pairs b
+same a b ps first second =
+    let fields : AllSame (fills (entries a)) (fills (entries b)) = (
+      optional_same 7 a.hash b.hash ps hash_law first.hash second.hash,
+      (
+        optional_same 20 a.size b.size ps unsigned_law first.size second.size,
+        (
+          optional_same 21 a.file_version b.file_version ps text_law first.file_version second.file_version,
+          (
+            optional_same 22 a.key b.key ps boolean_law first.key second.key,
+            (
+              optional_same 23 a.location b.location ps text_law first.location second.location,
+              (
+                required_same 24 a.fs_name b.fs_name ps text_law first.fs_name second.fs_name,
+                (
+                  optional_same 25 a.root b.root ps text_law first.root second.root,
+                  tt,
+                ),
+              ),
+            ),
+          ),
+        ),
+      ),
+    ) in
+    put_same (fills (entries a)) (fills (entries b)) (pairs_view a.extras) (pairs_view b.extras) fields (first.extras ∙ sym second.extras)
+
+some : (ps : Pairs) → keys_fault schema.file ps ≡ None → (f : FileEntry) × FileKeys f ps
+some ps none =
+    let lines_0 = lines_of schema.file ps none in
+    let hash = optional_some 7 ps hash_law lines_0.0 in
+    let lines_1 = lines_0.1 in
+    let size = optional_some 20 ps unsigned_law lines_1.0 in
+    let lines_2 = lines_1.1 in
+    let file_version = optional_some 21 ps text_law lines_2.0 in
+    let lines_3 = lines_2.1 in
+    let key = optional_some 22 ps boolean_law lines_3.0 in
+    let lines_4 = lines_3.1 in
+    let location = optional_some 23 ps text_law lines_4.0 in
+    let lines_5 = lines_4.1 in
+    let fs_name = required_some 24 ps text_law lines_5.0 in
+    let lines_6 = lines_5.1 in
+    let root = optional_some 25 ps text_law lines_6.0 in
+    let extras = extras_some (other_than (keys_of (table schema.file)) ps) in (
+      record { hash = hash.0; size = size.0; file_version = file_version.0; key = key.0; location = location.0; fs_name = fs_name.0; root = root.0; extras = extras.0 },
+      record { hash = hash.1; size = size.1; file_version = file_version.1; key = key.1; location = location.1; fs_name = fs_name.1; root = root.1; extras = extras.1 },
+    )
+
+pub file_law : MapLawful schema.file FileKeys file_pairs 0
+file_law = record { told = told; same = same; some = some }
+
+pub files_law : Lawful (one_or_more (a_map schema.file)) (OneOrMore FileMap) files_item 0
+files_law = several_law (a_map schema.file) FileMap (λ (f : FileEntry). map (file_pairs f)) 0 (map_law schema.file FileKeys file_pairs 0 file_law) (λ f. tt)

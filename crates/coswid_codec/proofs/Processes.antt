@@ -1,0 +1,75 @@
+-- Processes: RFC 9393, section 2.9.2.
+use Rattle.std.proofs.Common.{◌≡◌, List, [], ◌∷◌, None, refl, sym, ◌∙◌, arith}
+use Rattle.cbor_det.specs.Lookup.{other_than}
+use Rattle.cbor_det.specs.Term.{Pairs, map, text, integer}
+use Rattle.cbor_det.specs.View.{pairs_view}
+use Rattle.coswid_res.specs.Schema as schema
+use Rattle.coswid_res.specs.Schema.{table, keys_of, one_or_more, a_map}
+use Rattle.coswid_res.specs.Reading.{keys_fault}
+use Rattle.coswid_res.specs.Resources.{ProcessKeys, ProcessMap}
+use Rattle.coswid_res.specs.ResourceItems.{process_pairs, processes_item}
+use Rattle.coswid_res.specs.Words.{OneOrMore}
+use Rattle.coswid_res.specs.declared.process.ProcessEntry.{ProcessEntry}
+use Rattle.coswid_codec.proofs.Plain.{integer_law, text_law}
+use Rattle.coswid_codec.proofs.Several.{several_law}
+use Rattle.coswid_codec.proofs.Extras.{extras_some}
+use Rattle.coswid_codec.proofs.Lawful.{Lawful, MapTold, MapLawful}
+use Rattle.coswid_codec.proofs.Lines.{AllSame, put_same, lines_of, required_again, required_same, required_some, optional_again, optional_same, optional_some, map_law}
+use Rattle.coswid_codec.proofs.Tables.{Entry, fills, Facts, made, required_entry, required_fact, optional_entry, optional_fact}
+
+abbrev entries : ProcessEntry → List Entry
+entries p =
+    required_entry 27 text p.process_name
+    ∷ optional_entry 28 integer p.pid
+    ∷ []
+
+facts : (p : ProcessEntry) (ps : Pairs) → ProcessKeys p ps → Facts 0 ps (table schema.process) (entries p)
+facts p ps is = (
+  required_fact 0 27 p.process_name ps text_law (omega arith) is.process_name,
+  (
+    optional_fact 0 28 p.pid ps integer_law (omega arith) is.pid,
+    tt,
+  ),
+)
+
+told : (p : ProcessEntry) (ps : Pairs) → ProcessKeys p ps → MapTold schema.process ProcessKeys process_pairs 0 p ps
+told p ps is =
+    let all = made schema.process (entries p) (pairs_view p.extras) 0 ps (facts p ps is) is.extras in
+    record {
+      none = all.none;
+      again = record {
+        process_name = required_again 27 p.process_name ps (process_pairs p) text_law is.process_name (all.found 27 refl);
+        pid = optional_again 28 p.pid ps (process_pairs p) integer_law is.pid (all.found 28 refl);
+        extras = all.rest;
+      };
+      proper = all.proper;
+      within = λ n le deep. all.within n le deep;
+    }
+
+same : (a b : ProcessEntry) (ps : Pairs) → ProcessKeys a ps → ProcessKeys b ps → process_pairs a ≡ process_pairs b
+same a b ps first second =
+    let fields : AllSame (fills (entries a)) (fills (entries b)) = (
+      required_same 27 a.process_name b.process_name ps text_law first.process_name second.process_name,
+      (
+        optional_same 28 a.pid b.pid ps integer_law first.pid second.pid,
+        tt,
+      ),
+    ) in
+    put_same (fills (entries a)) (fills (entries b)) (pairs_view a.extras) (pairs_view b.extras) fields (first.extras ∙ sym second.extras)
+
+some : (ps : Pairs) → keys_fault schema.process ps ≡ None → (p : ProcessEntry) × ProcessKeys p ps
+some ps none =
+    let lines_0 = lines_of schema.process ps none in
+    let process_name = required_some 27 ps text_law lines_0.0 in
+    let lines_1 = lines_0.1 in
+    let pid = optional_some 28 ps integer_law lines_1.0 in
+    let extras = extras_some (other_than (keys_of (table schema.process)) ps) in (
+      record { process_name = process_name.0; pid = pid.0; extras = extras.0 },
+      record { process_name = process_name.1; pid = pid.1; extras = extras.1 },
+    )
+
+pub process_law : MapLawful schema.process ProcessKeys process_pairs 0
+process_law = record { told = told; same = same; some = some }
+
+pub processes_law : Lawful (one_or_more (a_map schema.process)) (OneOrMore ProcessMap) processes_item 0
+processes_law = several_law (a_map schema.process) ProcessMap (λ (p : ProcessEntry). map (process_pairs p)) 0 (map_law schema.process ProcessKeys process_pairs 0 process_law) (λ p. tt)

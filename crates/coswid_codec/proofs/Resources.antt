@@ -1,0 +1,65 @@
+-- Other resources: RFC 9393, section 2.9.2.
+use Rattle.std.proofs.Common.{◌≡◌, List, [], ◌∷◌, None, refl, sym, ◌∙◌, arith}
+use Rattle.cbor_det.specs.Lookup.{other_than}
+use Rattle.cbor_det.specs.Term.{Pairs, map, text}
+use Rattle.cbor_det.specs.View.{pairs_view}
+use Rattle.coswid_res.specs.Schema as schema
+use Rattle.coswid_res.specs.Schema.{table, keys_of, one_or_more, a_map}
+use Rattle.coswid_res.specs.Reading.{keys_fault}
+use Rattle.coswid_res.specs.Resources.{ResourceKeys, ResourceMap}
+use Rattle.coswid_res.specs.ResourceItems.{resource_pairs, resources_item}
+use Rattle.coswid_res.specs.Words.{OneOrMore}
+use Rattle.coswid_res.specs.declared.resource.ResourceEntry.{ResourceEntry}
+use Rattle.coswid_codec.proofs.Plain.{text_law}
+use Rattle.coswid_codec.proofs.Several.{several_law}
+use Rattle.coswid_codec.proofs.Extras.{extras_some}
+use Rattle.coswid_codec.proofs.Lawful.{Lawful, MapTold, MapLawful}
+use Rattle.coswid_codec.proofs.Lines.{AllSame, put_same, lines_of, required_again, required_same, required_some, map_law}
+use Rattle.coswid_codec.proofs.Tables.{Entry, fills, Facts, made, required_entry, required_fact}
+
+abbrev entries : ResourceEntry → List Entry
+entries r =
+    required_entry 29 text r.resource_type
+    ∷ []
+
+facts : (r : ResourceEntry) (ps : Pairs) → ResourceKeys r ps → Facts 0 ps (table schema.resource) (entries r)
+facts r ps is = (
+  required_fact 0 29 r.resource_type ps text_law (omega arith) is.resource_type,
+  tt,
+)
+
+told : (r : ResourceEntry) (ps : Pairs) → ResourceKeys r ps → MapTold schema.resource ResourceKeys resource_pairs 0 r ps
+told r ps is =
+    let all = made schema.resource (entries r) (pairs_view r.extras) 0 ps (facts r ps is) is.extras in
+    record {
+      none = all.none;
+      again = record {
+        resource_type = required_again 29 r.resource_type ps (resource_pairs r) text_law is.resource_type (all.found 29 refl);
+        extras = all.rest;
+      };
+      proper = all.proper;
+      within = λ n le deep. all.within n le deep;
+    }
+
+same : (a b : ResourceEntry) (ps : Pairs) → ResourceKeys a ps → ResourceKeys b ps → resource_pairs a ≡ resource_pairs b
+same a b ps first second =
+    let fields : AllSame (fills (entries a)) (fills (entries b)) = (
+      required_same 29 a.resource_type b.resource_type ps text_law first.resource_type second.resource_type,
+      tt,
+    ) in
+    put_same (fills (entries a)) (fills (entries b)) (pairs_view a.extras) (pairs_view b.extras) fields (first.extras ∙ sym second.extras)
+
+some : (ps : Pairs) → keys_fault schema.resource ps ≡ None → (r : ResourceEntry) × ResourceKeys r ps
+some ps none =
+    let lines_0 = lines_of schema.resource ps none in
+    let resource_type = required_some 29 ps text_law lines_0.0 in
+    let extras = extras_some (other_than (keys_of (table schema.resource)) ps) in (
+      record { resource_type = resource_type.0; extras = extras.0 },
+      record { resource_type = resource_type.1; extras = extras.1 },
+    )
+
+pub resource_law : MapLawful schema.resource ResourceKeys resource_pairs 0
+resource_law = record { told = told; same = same; some = some }
+
+pub resources_law : Lawful (one_or_more (a_map schema.resource)) (OneOrMore ResourceMap) resources_item 0
+resources_law = several_law (a_map schema.resource) ResourceMap (λ (r : ResourceEntry). map (resource_pairs r)) 0 (map_law schema.resource ResourceKeys resource_pairs 0 resource_law) (λ r. tt)

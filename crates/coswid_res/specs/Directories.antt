@@ -1,0 +1,51 @@
+-- The items that a directory is read from, key by key, and what it holds: RFC 9393, section 2.9.2.
+use Rattle.std.specs.Prelude.{◌≢◌, List, [], ◌∷◌, Option, Some, None}
+use Rattle.cbor_det.specs.Lookup.{value_under}
+use Rattle.cbor_det.specs.Term.{Term, Terms, Pairs, array, map, no_terms, term}
+use Rattle.coswid_res.specs.declared.directory.DirEntry.{DirEntry, out-DirEntry}
+use Rattle.coswid_res.specs.declared.directory.PathElements.{PathElements, out-PathElements}
+use Rattle.coswid_res.specs.declared.directory.DirEntry.TheOpen.{DirEntry-F, PathElements-F}
+use Rattle.coswid_res.specs.Files.{FileMap}
+use Rattle.coswid_res.specs.Schema as schema
+use Rattle.coswid_res.specs.Words.{Text, Boolean, OneOrMore, IsMap, Required, Optional, Rest}
+
+-- The lines of a directory but for what it holds.
+pub record DirectoryKeys (d : DirEntry-F DirEntry PathElements) (ps : Pairs) : Type 0 where
+  pub key : Optional 22 Boolean d.key ps
+  pub location : Optional 23 Text d.location ps
+  pub fs_name : Required 24 Text d.fs_name ps
+  pub root : Optional 25 Text d.root ps
+  pub extras : Rest schema.directory d.extras ps
+
+-- The lines of what it holds but for the directories in it.
+pub record PathKeys (p : PathElements-F DirEntry PathElements) (ps : Pairs) : Type 0 where
+  pub file : Optional 17 (OneOrMore FileMap) p.file ps
+  pub extras : Rest schema.path_elements p.extras ps
+
+mutual
+  pub data DirectoryPairs : DirEntry → Pairs → Type 0 where
+    directory : (d : DirEntry) (ps : Pairs) → DirectoryKeys (out-DirEntry d) ps → PathUnder (out-DirEntry d).path_elements (value_under 26 ps) → DirectoryPairs d ps
+
+  -- what stands under key 26
+  pub data PathUnder : Option PathElements → Option Term → Type 0 where
+    no_path : PathUnder None None
+    path : (p : PathElements) (ps : Pairs) → PathPairs p ps → PathUnder (Some p) (Some (map ps))
+
+  pub data PathPairs : PathElements → Pairs → Type 0 where
+    path_elements : (p : PathElements) (ps : Pairs) → PathKeys (out-PathElements p) ps → DirectoriesUnder (out-PathElements p).directory (value_under 16 ps) → PathPairs p ps
+
+  -- what stands under key 16: one directory, or an array that is not empty
+  pub data DirectoriesUnder : Option (List DirEntry) → Option Term → Type 0 where
+    no_directories : DirectoriesUnder None None
+    alone : (d : DirEntry) (ps : Pairs) → DirectoryPairs d ps → DirectoriesUnder (Some (d ∷ [])) (Some (map ps))
+    several : (ds : List DirEntry) (ts : Terms) → ds ≢ [] → EachDirectory ds ts → DirectoriesUnder (Some ds) (Some (array ts))
+
+  pub data EachDirectory : List DirEntry → Terms → Type 0 where
+    no_more : EachDirectory [] no_terms
+    one_more : (d : DirEntry) (ds : List DirEntry) (ps : Pairs) (ts : Terms) → DirectoryPairs d ps → EachDirectory ds ts → EachDirectory (d ∷ ds) (term (map ps) ts)
+
+abbrev pub DirectoryMap : DirEntry → Term → Type 0
+DirectoryMap d = IsMap (DirectoryPairs d)
+
+abbrev pub PathMap : PathElements → Term → Type 0
+PathMap p = IsMap (PathPairs p)

@@ -1,0 +1,43 @@
+-- The pairs that a directory is written as, and the item of several: RFC 9393, section 2.9.2.
+use Rattle.std.specs.Prelude.{List, [], ◌∷◌, map as map_list}
+use Rattle.cbor_det.specs.Term.{Term, Pairs, text, map, boolean}
+use Rattle.cbor_det.specs.View.{pairs_view}
+use Rattle.coswid_res.specs.declared.directory.DirEntry.{DirEntry, fold-DirEntry}
+use Rattle.coswid_res.specs.declared.directory.PathElements.{PathElements, fold-PathElements}
+use Rattle.coswid_res.specs.declared.directory.DirEntry.TheOpen as layer
+use Rattle.coswid_res.specs.Files.{files_item}
+use Rattle.coswid_res.specs.Items.{row_item, required_pair, optional_pair, put_all}
+
+-- A directory, whose parts stand as the pairs that they are written as.
+abbrev pub directory_step : layer.DirEntry-F Pairs Pairs → Pairs
+directory_step d =
+    put_all (
+    optional_pair 22 boolean d.key
+    ∷ optional_pair 23 text d.location
+    ∷ required_pair 24 text d.fs_name
+    ∷ optional_pair 25 text d.root
+    ∷ optional_pair 26 map d.path_elements
+    ∷ []) (pairs_view d.extras)
+
+-- What a directory holds, likewise.
+abbrev pub path_step : layer.PathElements-F Pairs Pairs → Pairs
+path_step p =
+    put_all (
+    optional_pair 16 (λ ds. row_item (map_list map ds)) p.directory
+    ∷ optional_pair 17 files_item p.file
+    ∷ []) (pairs_view p.extras)
+
+abbrev pub directory_pairs : DirEntry → Pairs
+directory_pairs = fold-DirEntry Pairs Pairs directory_step path_step
+
+abbrev pub path_pairs : PathElements → Pairs
+path_pairs = fold-PathElements Pairs Pairs directory_step path_step
+
+abbrev pub directory_item : DirEntry → Term
+directory_item d = map (directory_pairs d)
+
+abbrev pub path_item : PathElements → Term
+path_item p = map (path_pairs p)
+
+abbrev pub directories_item : List DirEntry → Term
+directories_item ds = row_item (map_list directory_item ds)

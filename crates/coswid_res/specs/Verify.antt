@@ -1,0 +1,104 @@
+-- The verdicts on the files of a payload (RFC 9393, section 2.9.2).
+use Rattle.std.specs.Prelude.{◌≡◌, ◌==◌, ◌&&◌, ℕ, ℤ, pos, Bool, true, false, IsTrue, List, map as map_list, Option, Some, None, Result, Ok, Err, length, nat_lt, if◌then◌else◌, IfSome}
+use Rattle.std.specs.List.{AllZip, list_any}
+use Rattle.std.specs.Ordering.{int_eq}
+use Rattle.std.specs.Str.{bytes_eq}
+use Rattle.coswid_res.specs.declared.hash.HashEntry.{HashEntry}
+use Rattle.coswid_res.specs.declared.listing.ListedFile.{ListedFile}
+use Rattle.coswid_res.specs.declared.verdict.Algorithm.{Algorithm}
+use Rattle.coswid_res.specs.declared.verdict.Algorithm.TheVariants as algorithm
+use Rattle.coswid_res.specs.declared.verdict.Verdict.{Verdict}
+use Rattle.coswid_res.specs.declared.verdict.Verdict.TheVariants as verdict
+use Rattle.coswid_res.specs.declared.file_check.VerifyRefused.{VerifyRefused}
+use Rattle.coswid_res.specs.declared.file_check.VerifyRefused.TheVariants as refused
+use Rattle.sha2.specs.Sha256.{sha256}
+use Rattle.sha2.specs.Sha512.{sha384, sha512}
+use Rattle.wire_base.specs.declared.files.NamedFile.{NamedFile}
+use Rattle.wire_base.specs.NamedFile.{content_of}
+
+-- The algorithms that are known, by their numbers in the Named Information Hash Algorithm Registry (RFC 6920, section 9.4).
+abbrev pub algorithm_of : ℤ → Option Algorithm
+algorithm_of number =
+    if int_eq number (pos 1) then Some algorithm.Sha256
+    else if int_eq number (pos 7) then Some algorithm.Sha384
+    else if int_eq number (pos 8) then Some algorithm.Sha512
+    else None
+
+abbrev pub digest : Algorithm → List ℕ → List ℕ
+digest algorithm.Sha256 content = sha256 content
+digest algorithm.Sha384 content = sha384 content
+digest algorithm.Sha512 content = sha512 content
+
+-- The size is this, where one is stated.
+abbrev pub is_size : Option ℕ → ℕ → Bool
+is_size None len = true
+is_size (Some size) len = size == len
+
+-- The most octets of a file that is looked at.
+abbrev pub FILE_OCTETS : ℕ
+FILE_OCTETS = 67108864
+
+-- The verdict where the algorithm is known, on what the file holds; on nothing, where there is no such file.
+abbrev pub read_verdict : Algorithm → List ℕ → Option ℕ → Option (List ℕ) → Verdict
+read_verdict known value size None = verdict.Missing
+read_verdict known value size (Some content) =
+    if nat_lt FILE_OCTETS (length content) then verdict.LongFile (length content)
+    else if bytes_eq (digest known content) value && is_size size (length content) then verdict.Same
+    else verdict.Differs
+
+abbrev pub hashed_verdict : HashEntry → Option Algorithm → Option ℕ → Option (List ℕ) → Verdict
+hashed_verdict h None size held = verdict.UnknownAlgorithm h.algorithm
+hashed_verdict h (Some known) size held = read_verdict known h.value size held
+
+-- The verdict on a file of which a payload states this hash and this size: the first that holds.
+abbrev pub verdict_on : Option HashEntry → Option ℕ → Option (List ℕ) → Verdict
+verdict_on None size held = verdict.Unhashed
+verdict_on (Some h) size held = hashed_verdict h (algorithm_of h.algorithm) size held
+
+-- The verdict where the contents of all files are told.
+abbrev pub verdict_of : List NamedFile → ListedFile → Verdict
+verdict_of all file = verdict_on file.hash file.size (content_of all file.path)
+
+-- The verdict is that on what the file holds, and this is what is told of it, where files are told.
+abbrev pub IsVerdict : Option (List NamedFile) → ListedFile → Verdict → Type 0
+IsVerdict told file v = (held : Option (List ℕ)) × (v ≡ verdict_on file.hash file.size held) × IfSome told (λ all. content_of all file.path ≡ held)
+
+-- It has the path of the file and its verdict.
+abbrev pub IsLine : Option (List NamedFile) → ListedFile → List ℕ × Verdict → Type 0
+IsLine told file line = (line.0 ≡ file.path) × IsVerdict told file line.1
+
+-- All files in order, each with its verdict.
+abbrev pub IsVerdicts : Option (List NamedFile) → List ListedFile → List (List ℕ × Verdict) → Type 0
+IsVerdicts told = AllZip (IsLine told)
+
+-- All verdicts where the contents of all files are told.
+abbrev pub verdicts_of : List NamedFile → List ListedFile → List (List ℕ × Verdict)
+verdicts_of all = map_list (λ file. (file.path, verdict_of all file))
+
+-- Where they are told, no other verdicts are verdicts on these files.
+abbrev pub ToldVerdicts : Type 0
+ToldVerdicts = (all : List NamedFile) (files : List ListedFile) (lines : List (List ℕ × Verdict)) → IsVerdicts (Some all) files lines → lines ≡ verdicts_of all files
+
+-- Its verdict hangs on what it holds.
+abbrev pub is_read_by : Option Algorithm → Bool
+is_read_by None = false
+is_read_by (Some known) = true
+
+abbrev pub is_read : Option HashEntry → Bool
+is_read None = false
+is_read (Some h) = is_read_by (algorithm_of h.algorithm)
+
+-- The answer is that a file was not read.
+abbrev pub is_fault : {A : Type 0} → Result A VerifyRefused → Bool
+is_fault (Ok value) = false
+is_fault (Err (refused.FileFault path)) = true
+is_fault (Err refused.Memory) = false
+
+-- A file that was not read has this path, and is one of those whose verdict hangs on what they hold.
+abbrev pub names : List ℕ → ListedFile → Bool
+names path file = is_read file.hash && bytes_eq file.path path
+
+abbrev pub NamesFile : {A : Type 0} → List ListedFile → Result A VerifyRefused → Type 0
+NamesFile files (Ok value) = Unit {0}
+NamesFile files (Err (refused.FileFault path)) = IsTrue (list_any (names path) files)
+NamesFile files (Err refused.Memory) = Unit {0}

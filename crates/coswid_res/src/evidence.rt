@@ -1,0 +1,118 @@
+//! Evidence: RFC 9393, section 2.9.4.
+
+ghost use Rattle.std.specs.Prelude.{◌≡◌, IfOk};
+ghost use Rattle.cbor_det.specs.View.{view};
+ghost use Rattle.coswid_res.specs.Fault.{field_fault};
+ghost use Rattle.coswid_res.specs.Reading.{Gives};
+ghost use Rattle.coswid_res.specs.Resources.{EvidenceKeys, EvidenceMap};
+ghost use Rattle.coswid_res.specs.ResourceItems.{evidence_pairs, evidence_item};
+ghost use Rattle.coswid_res.specs.Schema as schema;
+
+use crate::copied::copy_option;
+use crate::directory::DirEntries;
+use crate::fault::FormRefused;
+use crate::file::FileEntries;
+use crate::form::Form;
+use crate::map_form::{MapForm, Mapped};
+use crate::process::ProcessEntries;
+use crate::resource::ResourceEntries;
+use crate::table;
+use cbor_det::{Item, Pairs};
+use std::alloc::Global;
+use wire_base::{Memory, Text, TryCopy};
+
+/// What was found of the software on an endpoint.
+#[derive(Debug, Drop)]
+pub struct Evidence {
+    /// Directories, at least one (16).
+    pub directory: Option<DirEntries>,
+    /// Files, at least one (17).
+    pub file: Option<FileEntries>,
+    /// Processes, at least one (18).
+    pub process: Option<ProcessEntries>,
+    /// Other resources, at least one (19).
+    pub resource: Option<ResourceEntries>,
+    /// Where the tag lies that was made of the evidence, a path (23).
+    pub location: Option<Text>,
+    /// When it was found, in seconds since 1970 began (35).
+    pub date: Option<i64>,
+    /// The endpoint on which it was found (36).
+    pub device_id: Option<Text>,
+    /// The pairs under all other keys.
+    pub extras: Pairs,
+}
+
+impl TryCopy for Evidence {
+    fn copy(&self) -> Result<Self, Memory> {
+        Ok(Evidence {
+            directory: copy_option(&self.directory)?,
+            file: copy_option(&self.file)?,
+            process: copy_option(&self.process)?,
+            resource: copy_option(&self.resource)?,
+            location: copy_option(&self.location)?,
+            date: self.date,
+            device_id: copy_option(&self.device_id)?,
+            extras: self.extras.copy()?,
+        })
+    }
+}
+
+/// The table of evidence.
+pub struct EvidenceTable;
+
+impl Mapped for EvidenceTable {
+    type Value = Evidence;
+
+    ghost name = { schema.evidence };
+
+    ghost keys = { EvidenceKeys };
+
+    ghost written = { evidence_pairs };
+
+    fn read(alloc: Global, pairs: &Pairs) -> Result<Evidence, FormRefused> {
+        let directory = table::Directory::optional_row(alloc, pairs)?;
+        let file = table::File::optional_row(alloc, pairs)?;
+        let process = table::Process::optional_row(alloc, pairs)?;
+        let resource = table::Resource::optional_row(alloc, pairs)?;
+        let location = table::Location::optional(alloc, pairs)?;
+        let date = table::Date::optional(alloc, pairs)?;
+        let device_id = table::DeviceId::optional(alloc, pairs)?;
+        let extras = pairs.other_than(&table::EVIDENCE_KEYS)?;
+        Ok(Evidence {
+            directory,
+            file,
+            process,
+            resource,
+            location,
+            date,
+            device_id,
+            extras,
+        })
+    }
+
+    fn write(evidence: &Evidence) -> Result<Pairs, Memory> {
+        let mut pairs = evidence.extras.copy()?;
+        table::Directory::put_optional_row(&mut pairs, &evidence.directory)?;
+        table::File::put_optional_row(&mut pairs, &evidence.file)?;
+        table::Process::put_optional_row(&mut pairs, &evidence.process)?;
+        table::Resource::put_optional_row(&mut pairs, &evidence.resource)?;
+        table::Location::put_optional(&mut pairs, &evidence.location)?;
+        table::Date::put_optional(&mut pairs, &evidence.date)?;
+        table::DeviceId::put_optional(&mut pairs, &evidence.device_id)?;
+        Ok(pairs)
+    }
+}
+
+/// The evidence that the item is. `Form` with the first form fault exactly where it is none; `Memory` where there is no room.
+pub fn evidence_of(alloc: Global, item: &Item) -> Result<Evidence, FormRefused>
+    ensures told { Gives (λ e. EvidenceMap e (view item.now)) (field_fault (schema.one (schema.a_map schema.evidence)) (view item.now)) result }
+{
+    MapForm::<EvidenceTable>::read(alloc, item)
+}
+
+/// The item that the evidence is written as; `Memory` where there is no room.
+pub fn evidence_item(alloc: Global, evidence: &Evidence) -> Result<Item, Memory>
+    ensures written { IfOk result (λ made. view made ≡ evidence_item evidence.now) }
+{
+    MapForm::<EvidenceTable>::write(alloc, evidence)
+}

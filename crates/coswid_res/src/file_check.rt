@@ -1,0 +1,83 @@
+//! The check of a payload against files: RFC 9393, section 2.9.
+
+ghost use Rattle.std.specs.Prelude.{◌≡◌, ◌∷◌, [], IfOk};
+ghost use Rattle.coswid_res.specs.Listing.{listed};
+ghost use Rattle.coswid_res.specs.Verify.{IsLine, IsVerdicts, NamesFile, is_fault};
+ghost use Rattle.coswid_res.specs.declared.file_check.VerifyRefused.TheVariants as refused;
+ghost use Rattle.wire_base.specs.Outside.{HasCause};
+
+use crate::listing::{ListedFile, listed_files};
+use crate::payload::Payload;
+use crate::verdict::{Verdict, verdict_on};
+use std::alloc::Global;
+use thiserror::Error;
+use wire_base::{Files, List, Memory, Stopped, Text};
+
+/// Paths of files, each with the verdict on its file.
+pub type Verdicts = List<(Text, Verdict)>;
+
+/// Why there are no verdicts.
+#[derive(Debug, Drop, Error)]
+pub enum VerifyRefused {
+    /// The read of a file failed.
+    #[error("a file was not read")]
+    FileFault {
+        /// The path of that file.
+        path: Text,
+    },
+    /// Want of memory.
+    #[error("out of memory")]
+    Memory,
+}
+
+impl From<Memory> for VerifyRefused {
+    ghost from_gives = { λ _ e. e ≡ refused.Memory };
+
+    fn from(_memory: Memory) -> Self {
+        VerifyRefused::Memory
+    }
+}
+
+/// The verdicts on all files of a payload, files before directories, depth first. A file is read once, and only where its
+/// hash is by a known algorithm. `FileFault` exactly where a read failed; `Memory` also where all paths together take
+/// more than 67108864 octets.
+pub fn verify<F: Files>(
+    alloc: Global,
+    payload: &Payload,
+    files: &mut F,
+) -> Result<Verdicts, VerifyRefused>
+    ensures verdicts { IfOk result (λ verdicts. IsVerdicts (F.contents files.old) (listed payload.now) verdicts) }
+    ensures contents { F.contents files.new ≡ F.contents files.old }
+    ensures cause { HasCause (F.faults files.old) (F.faults files.new) (is_fault result) }
+    ensures path { NamesFile (listed payload.now) result }
+{
+    let listed = listed_files(alloc, payload)?;
+    verdicts_on(files, listed)
+}
+
+fn verdicts_on<F: Files>(files: &mut F, listed: List<ListedFile>) -> Result<Verdicts, VerifyRefused>
+    ensures verdicts { IfOk result (λ verdicts. IsVerdicts (F.contents files.old) listed verdicts) }
+    ensures contents { F.contents files.new ≡ F.contents files.old }
+    ensures cause { HasCause (F.faults files.old) (F.faults files.new) (is_fault result) }
+    ensures path { NamesFile listed result }
+{
+    let mut verdicts = List::with_capacity(listed.allocator(), listed.len())?;
+    for file in listed.into_vec() {
+        verdicts.push(with_verdict(files, file)?)?;
+    }
+    Ok(verdicts)
+}
+
+/// The path of a file and the verdict on it.
+fn with_verdict<F: Files>(files: &mut F, file: ListedFile) -> Result<(Text, Verdict), VerifyRefused>
+    ensures verdict { IfOk result (IsLine (F.contents files.old) file) }
+    ensures contents { F.contents files.new ≡ F.contents files.old }
+    ensures cause { HasCause (F.faults files.old) (F.faults files.new) (is_fault result) }
+    ensures path { NamesFile (file ∷ []) result }
+{
+    match verdict_on(files, &file) {
+        Ok(verdict) => Ok((file.path, verdict)),
+        Err(Stopped::Fault) => Err(VerifyRefused::FileFault { path: file.path }),
+        Err(Stopped::Memory) => Err(VerifyRefused::Memory),
+    }
+}
