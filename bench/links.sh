@@ -1,0 +1,71 @@
+#!/usr/bin/env bash
+# Measures the findings on a list of tags. It is a measurement and no test: it judges no output, and no time makes it fail.
+#
+# usage: bench/links.sh [RUNS]     each row is run RUNS times, 3 if not given
+#
+# The program crates/links_bench is built first where that is needed, which proves it, and building is not measured.
+# `bench/link_tags.py` writes the inputs into a temporary folder, which is removed at the end; it says what the shapes are.
+# Needs python3, awk and GNU time (/usr/bin/time).
+#
+# The table has 1,000, 3,000 and 10,000 tags of each shape; of `apart`, where each pair of tags is a finding, 1,000 and 3,000.
+# Columns: the shape; how many tags; how many findings; the wall time to read the tags, and to read and check them, the lowest
+# of all runs; the microseconds of checking for each tag, and the same over those of 1,000 tags, which grows as the logarithm
+# where the time grows as n log n; and the peak memory, the highest of all runs. Checking is what is left of the second time
+# without the first.
+
+set -u
+
+top=$(dirname -- "$(readlink -f -- "${BASH_SOURCE[0]}")")/..
+crate=$top/crates/links_bench
+program=$crate/out/links_bench
+runs=${1:-3}
+
+if [[ ! $runs =~ ^[1-9][0-9]*$ ]] || [ $# -gt 1 ]; then
+    echo "usage: bench/links.sh [RUNS]" >&2
+    exit 2
+fi
+if [ ! -x /usr/bin/time ]; then
+    echo "links.sh: needs GNU time, /usr/bin/time" >&2
+    exit 1
+fi
+(cd -- "$crate" && rt run -- check) </dev/null >&2
+if [ ! -x "$program" ]; then
+    echo "links.sh: the program was not built" >&2
+    exit 1
+fi
+
+folder=$(mktemp -d) || exit 1
+trap 'rm -rf -- "$folder"' EXIT
+input=$folder/input
+
+# Runs a command on the input, and prints its lowest microseconds, its highest KiB, and the last line that it printed.
+run() {
+    local best='' peak=0 start took used
+    for ((run = 0; run < runs; run++)); do
+        start=${EPOCHREALTIME/[.,]/}
+        /usr/bin/time -q -f %M -o "$folder/kib" "$@" <"$input" >"$folder/output"
+        took=$((${EPOCHREALTIME/[.,]/} - start))
+        used=$(<"$folder/kib")
+        if [ -z "$best" ] || [ "$took" -lt "$best" ]; then best=$took; fi
+        if [ "$used" -gt "$peak" ]; then peak=$used; fi
+    done
+    printf '%s\t%s\t%s\n' "$best" "$peak" "$(tail -n 1 "$folder/output")"
+}
+
+for shape in linked dangling fronts alike last turns apart; do
+    for count in 1000 3000 10000; do
+        if [ "$shape" = apart ] && [ "$count" -gt 3000 ]; then continue; fi
+        python3 "$top/bench/link_tags.py" "$shape" "$count" "$input" || exit 1
+        printf '%s\t%s\t%s\t%s\n' "$shape" "$count" "$(run "$program" read)" "$(run "$program" check)"
+    done
+done | awk -F '\t' -v runs="$runs" '
+    BEGIN {
+        printf "lowest time and highest memory of %d runs\n\n", runs
+        printf "%-8s %6s %9s %9s %9s %9s %7s %9s\n", "shape", "tags", "findings", "read ms", "all ms", "us a tag", "growth", "KiB"
+    }
+    {
+        each = ($6 - $3) / $2
+        if ($2 == 1000) base = each
+        printf "%-8s %6s %9s %9.1f %9.1f %9.2f %7.2f %9s%s\n", $1, $2, $8, $3 / 1000, $6 / 1000, each,
+            (base > 0 ? each / base : 0), $7, ($5 == $2 ? "" : "  not read: " $5)
+    }'

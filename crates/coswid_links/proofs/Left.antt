@@ -1,0 +1,59 @@
+-- What is listed of pairs of tags, a tag at a time.
+use Rattle.std.proofs.Common.{◌≡◌, ℕ, suc, ◌+◌, ◌-◌, ◌<◌, ◌&&◌, not, Bool, List, [], ◌∷◌, ◌++◌, length, get_or, drop, append_assoc, refl, sym, ap, ◌∙◌, subst, arith, length-drop, get_or-drop}
+use Rattle.std.proofs.lemmas.List.{drop_more, get_or_default}
+use Rattle.coswid_tag.specs.declared.tag.Tag.{Tag}
+use Rattle.coswid_links.specs.declared.finding.LinkFinding.{LinkFinding}
+use Rattle.coswid_links.specs.Behind.{has, rivals, rival_findings, rivals_of, span}
+use Rattle.coswid_links.specs.Listed.{finding, each_from, each_pair_from}
+use Rattle.coswid_links.specs.Numbered.{Tells}
+use Rattle.coswid_links.proofs.Numbers.{some_of}
+use Rattle.coswid_links.specs.Rivals.{are_rivals, same_release, same_spelling, pair_findings}
+
+-- What is given of places one after another is what is listed of the values there.
+span_each : {A B : Type 0} (f : ℕ → A → List B) (h : ℕ → List B) (xs : List A) (n : ℕ)
+    → ((j : ℕ) (d : A) → j < length xs → h (n + j) ≡ f (n + j + 1) (get_or xs j d)) → span h n (length xs) ≡ each_from f (n + 1) xs
+span_each f h [] n same = refl
+span_each f h (x ∷ xs) n same =
+    let none : n + 0 ≡ n = omega arith in
+    let here : h n ≡ f (n + 1) x = subst (λ (m : ℕ). h m ≡ f (m + 1) x) none (same 0 x (omega arith)) in
+    let next : (j : ℕ) → n + suc j ≡ n + 1 + j = λ j. omega arith in
+    ap (λ (ys : List _). ys ++ span h (n + 1) (length xs)) here
+    ∙ ap (λ (ys : List _). f (n + 1) x ++ ys)
+    (span_each f h xs (n + 1) (λ j d lt. subst (λ (m : ℕ). h m ≡ f (m + 1) (get_or xs j d)) (next j) (same (suc j) d (omega arith))))
+
+module _ (gs : List Tag) (releases spellings : List ℕ) (by_release : Tells same_release gs releases) (by_spelling : Tells same_spelling gs spellings) where
+  rivals_told : (i k : ℕ) (d : Tag) → i < length gs → k < length gs → rivals releases spellings i k ≡ are_rivals (get_or gs i d) (get_or gs k d)
+  rivals_told i k d lt below =
+      ap (λ (b : Bool). b && not (has spellings (get_or spellings i 0) k)) (by_release.apart i k d lt below)
+      ∙ ap (λ (b : Bool). same_release (get_or gs i d) (get_or gs k d) && not b) (by_spelling.apart i k d lt below)
+
+  rivals_listed : (i : ℕ) (g : Tag) → i < length gs → g ≡ get_or gs i g
+      → rivals_of releases spellings i ≡ each_from (pair_findings (i + 1) g) (i + 1 + 1) (drop (i + 1) gs)
+  rivals_listed i g lt is =
+      let count : length releases - (i + 1) ≡ length (drop (i + 1) gs) = ap (λ (n : ℕ). n - (i + 1)) by_release.one_each ∙ sym (length-drop (i + 1) gs) in
+      ap (λ (n : ℕ). span (rival_findings releases spellings i) (i + 1) n) count
+      ∙ span_each (pair_findings (i + 1) g) (rival_findings releases spellings i) (drop (i + 1) gs) (i + 1)
+      (λ j d below.
+      let within : i + 1 + j < length gs = omega (arith, length-drop (i + 1) gs) in
+      ap (λ (b : Bool). finding 4 b (i + 1) (i + 1 + j + 1)) (rivals_told i (i + 1 + j) d lt within)
+      ∙ ap (λ (h : Tag). pair_findings (i + 1) h (i + 1 + j + 1) (get_or gs (i + 1 + j) d)) (get_or_default gs i d g lt ∙ sym is)
+      ∙ ap (λ (h : Tag). pair_findings (i + 1) g (i + 1 + j + 1) h) (sym (get_or-drop (i + 1) gs j d)))
+
+  pairs_of : (i : ℕ) (g : Tag) (before old new : List LinkFinding) → i < length gs → g ≡ get_or gs i g
+      → old ++ each_pair_from pair_findings (i + 1) (drop i gs) ≡ before → new ≡ old ++ rivals_of releases spellings i
+      → new ++ each_pair_from pair_findings (i + 1 + 1) (drop (i + 1) gs) ≡ before
+  pairs_of i g before old new lt is so_far put =
+      let rest = each_pair_from pair_findings (i + 1 + 1) (drop (i + 1) gs) in
+      let here = each_from (pair_findings (i + 1) g) (i + 1 + 1) (drop (i + 1) gs) in
+      let parts : drop i gs ≡ g ∷ drop (i + 1) gs = drop_more gs i g lt ∙ ap (λ (h : Tag). h ∷ drop (i + 1) gs) (sym is) in
+      ap (λ (ys : List LinkFinding). ys ++ rest) (put ∙ ap (λ (ys : List LinkFinding). old ++ ys) (rivals_listed i g lt is))
+      ∙ append_assoc old here rest
+      ∙ ap (λ (ys : List Tag). old ++ each_pair_from pair_findings (i + 1) ys) (sym parts) ∙ so_far
+
+  -- With the pairs of a tag put behind the rest, those of the tags behind it are left.
+  pub pairs_more : (i : ℕ) (before old new : List LinkFinding) → i < length gs → old ++ each_pair_from pair_findings (i + 1) (drop i gs) ≡ before
+      → new ≡ old ++ rivals_of releases spellings i → new ++ each_pair_from pair_findings (i + 1 + 1) (drop (i + 1) gs) ≡ before
+  pairs_more i before old new lt so_far put =
+      let some = some_of gs (omega arith) in
+      let here = get_or gs i some in
+      pairs_of i here before old new lt (get_or_default gs i some here lt) so_far put

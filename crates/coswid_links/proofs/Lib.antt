@@ -1,0 +1,9 @@
+pub mod Naming
+pub mod Found
+pub mod Firsts
+pub mod Spans
+pub mod Numbers
+pub mod Walking
+pub mod Left
+pub mod Equal
+pub mod Ordered

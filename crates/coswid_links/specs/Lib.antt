@@ -1,0 +1,9 @@
+pub mod Aims
+pub mod Listed
+pub mod Links
+pub mod Rivals
+pub mod Numbered
+pub mod Behind
+pub mod LinkFindings
+pub mod Names
+pub mod Releases

@@ -1,0 +1,41 @@
+//! What is wrong between tags of a list.
+
+ghost use Rattle.std.specs.Prelude.{◌≡◌, ◌≤◌, IfOk};
+ghost use Rattle.std.specs.List.{All};
+ghost use Rattle.cbor_det.specs.Term.{depth};
+ghost use Rattle.coswid_codec.specs.Items.{tag_item};
+ghost use Rattle.coswid_links.specs.LinkFindings.{findings};
+
+use crate::link::put_link_findings;
+use crate::names::Names;
+use crate::rival::put_rivals;
+use coswid_tag::Tag;
+use std::alloc::Global;
+use wire_base::{List, Memory};
+
+/// Something that is wrong between tags of a list.
+#[derive(Clone, Copy, Debug, PartialEq, Eq)]
+pub struct LinkFinding {
+    /// Which finding, 1 to 4, by the table of `docs/tags.md`.
+    pub kind: u8,
+    /// The number of the tag that has the link, or of the first of two tags, from 1.
+    pub first: u64,
+    /// The number of the link in its tag, or of the second of two tags, from 1.
+    pub second: u64,
+}
+
+/// Findings in order.
+pub type LinkFindings = List<LinkFinding>;
+
+/// All that is wrong between the tags: first 1 to 3 by tag and link, then 4 by pairs of tags; `Memory` where there is no room.
+#[tactic(auto, unfolding(crate::specs::LinkFindings::findings))]
+pub fn check_links(alloc: Global, tags: &[Tag]) -> Result<LinkFindings, Memory>
+    requires depth { All (λ g. depth (tag_item g) ≤ 64) tags.now }
+    ensures findings { IfOk result (λ found. found ≡ findings tags.now) }
+{
+    let names = Names::of(alloc, tags)?;
+    let mut found = List::new(alloc);
+    put_link_findings(&mut found, &names, tags)?;
+    put_rivals(alloc, &mut found, tags)?;
+    Ok(found)
+}

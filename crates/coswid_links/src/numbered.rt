@@ -1,0 +1,26 @@
+//! Values told apart by numbers.
+
+ghost use Rattle.std.specs.Prelude.{◌≡◌, IfOk};
+ghost use Rattle.std.specs.Ordering.{eq_by_cmp};
+ghost use Rattle.coswid_links.specs.Numbered.{first_places};
+
+use std::alloc::Global;
+use std::collections::BTreeMap;
+use wire_base::Memory;
+
+/// For each value the place of the first that equals it; `Memory` where there is no room.
+pub(crate) fn first_places<K: Ord + Drop>(
+    alloc: Global,
+    values: Vec<K>,
+) -> Result<Vec<usize>, Memory>
+    ensures places { IfOk result (λ places. places.items ≡ first_places (eq_by_cmp K.cmp) values.items) }
+{
+    let mut known = BTreeMap::new(alloc);
+    let mut places = Vec::with_capacity(alloc, values.len())?;
+    for value in values {
+        let first = known.get(&value).copied().unwrap_or(places.len());
+        known.insert(value, first)?;
+        places.push(first)?;
+    }
+    Ok(places)
+}
