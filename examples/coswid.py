@@ -12,12 +12,15 @@ from formats import printed, text
 
 COSWID = 1398229316  # the tag of a CoSWID tag
 URI = 32  # the tag of a URI
+TIME = 1  # the tag of a time
 MOST_DEEP = 64
 
 # The keys, by name.
 TAG_ID, SOFTWARE_NAME, ENTITY, EVIDENCE, LINK, SOFTWARE_META, PAYLOAD = range(7)
-CORPUS, PATCH, MEDIA, SUPPLEMENTAL, TAG_VERSION, SOFTWARE_VERSION, VERSION_SCHEME, LANG = range(8, 16)
-ENTITY_NAME, REG_ID, ROLE, THUMBPRINT = range(31, 35)
+HASH, CORPUS, PATCH, MEDIA, SUPPLEMENTAL, TAG_VERSION, SOFTWARE_VERSION, VERSION_SCHEME, LANG = range(7, 16)
+DIRECTORY, FILE, PROCESS, RESOURCE, SIZE, FILE_VERSION, KEY, LOCATION, FS_NAME, ROOT, PATH_ELEMENTS = range(16, 27)
+PROCESS_NAME, PID, TYPE = range(27, 30)
+ENTITY_NAME, REG_ID, ROLE, THUMBPRINT, DATE, DEVICE_ID = range(31, 37)
 ARTIFACT, HREF, OWNERSHIP, REL, MEDIA_TYPE, USE = range(37, 43)
 COLLOQUIAL_VERSION, DESCRIPTION, EDITION, GENERATOR, PRODUCT, SUMMARY = 45, 46, 47, 50, 52, 55
 
@@ -26,9 +29,11 @@ IS_PLAIN = {
     "text": lambda it: isinstance(it, str),
     "bool": lambda it: isinstance(it, bool),
     "int": lambda it: is_integer(it),
+    "uint": lambda it: is_integer(it) and it >= 0,
     "id": lambda it: isinstance(it, str) or isinstance(it, bytes) and len(it) == 16,
     "code": lambda it: is_integer(it) or isinstance(it, str),
     "uri": lambda it: isinstance(it, str) or isinstance(it, Tagged) and it.number == URI and isinstance(it.item, str),
+    "time": lambda it: is_integer(it) or isinstance(it, Tagged) and it.number == TIME and is_integer(it.item),
 }
 
 
@@ -72,6 +77,20 @@ META_NAMES = {
     57: "unspsc-version",
 }
 METAS = ({}, {key: (name, {48: "bool", GENERATOR: "id"}.get(key, "text")) for key, name in META_NAMES.items()})
+# What a directory and a file are both told by, a directory and what it holds, and what a payload and evidence both have.
+PLACES = {KEY: ("key", "bool"), LOCATION: ("location", "text"), ROOT: ("root", "text")}
+FILES = (
+    {FS_NAME: ("fs-name", "text")},
+    {HASH: ("hash", "hash"), SIZE: ("size", "uint"), FILE_VERSION: ("file-version", "text"), **PLACES},
+)
+HELD = ({}, {FILE: ("file", Some(FILES))})
+DIRECTORIES = ({FS_NAME: ("fs-name", "text")}, {**PLACES, PATH_ELEMENTS: ("path-elements", HELD)})
+HELD[1][DIRECTORY] = ("directory", Some(DIRECTORIES))
+PROCESSES = ({PROCESS_NAME: ("process-name", "text")}, {PID: ("pid", "int")})
+RESOURCES = ({TYPE: ("type", "text")}, {})
+PAYLOADS = ({}, {**HELD[1], PROCESS: ("process", Some(PROCESSES)), RESOURCE: ("resource", Some(RESOURCES))})
+SEEN = {LOCATION: ("location", "text"), DATE: ("date", "time"), DEVICE_ID: ("device-id", "text")}
+EVIDENCES = ({}, {**PAYLOADS[1], **SEEN})
 TAGS = (
     {
         TAG_ID: ("tag-id", "id"),
@@ -80,8 +99,10 @@ TAGS = (
         TAG_VERSION: ("tag-version", "int"),
     },
     {
+        EVIDENCE: ("evidence", EVIDENCES),
         LINK: ("link", Some(LINKS)),
         SOFTWARE_META: ("software-meta", Some(METAS)),
+        PAYLOAD: ("payload", PAYLOADS),
         CORPUS: ("corpus", "bool"),
         PATCH: ("patch", "bool"),
         MEDIA: ("media", "text"),
@@ -91,9 +112,8 @@ TAGS = (
         LANG: ("lang", "text"),
     },
 )
-NAMES = {key: name for table in (TAGS, ENTITIES, LINKS, METAS) for keys in table for key, (name, _) in keys.items()}
-
-NAMES |= {PAYLOAD: "payload", 7: "hash", 17: "file", 24: "fs-name"}
+TABLES = (TAGS, ENTITIES, LINKS, METAS, EVIDENCES, DIRECTORIES, FILES, PROCESSES, RESOURCES)
+NAMES = {key: name for table in TABLES for keys in table for key, (name, _) in keys.items()}
 
 # Numbers of the registries: roles, rels, ownerships, uses, version schemes and algorithms of hashes.
 TAG_CREATOR, SOFTWARE_CREATOR, DISTRIBUTOR = 1, 2, 4
@@ -104,7 +124,7 @@ SEMANTIC_VERSION = 16384
 SHA_256 = 1
 REL_NAMES = {"patches": PATCHES, "supplemental": SUPPLEMENTS}
 
-MISSING_KEY, WRONG_FORM, DEEP = 1, 2, 4  # the kinds of form faults
+MISSING_KEY, WRONG_FORM, BOTH, DEEP = range(1, 5)  # the kinds of form faults
 
 
 def is_integer(item):
@@ -155,9 +175,13 @@ def hash_fault(item):
 
 def tag_fault(item):
     """The first form fault of a tag, alone or under the tag of tags."""
-    if isinstance(item, Tagged) and item.number == COSWID:
-        return form_fault(TAGS, item.item)
-    return (DEEP, []) if depth(item) == MOST_DEEP else form_fault(TAGS, item)
+    is_marked = isinstance(item, Tagged) and item.number == COSWID
+    if not is_marked and depth(item) == MOST_DEEP:
+        return DEEP, []
+    content = item.item if is_marked else item
+    if isinstance(content, dict) and EVIDENCE in content and PAYLOAD in content:
+        return BOTH, []
+    return form_fault(TAGS, content)
 
 
 # What is told of a tag: its map, which is in the form.
@@ -173,6 +197,8 @@ def written(form, item):
         return {key: written(known[key], it) if key in known else it for key, it in item.items()}
     if form == "uri" and isinstance(item, str):
         return Tagged(URI, item)
+    if form == "time" and is_integer(item):
+        return Tagged(TIME, item)
     return item
 
 
@@ -220,12 +246,14 @@ def identifier(tag):
     return printed(octets) if len(octets) <= 65535 else f"long {len(octets)}"
 
 
-def told(tag):
-    """The lines of a tag, and its status."""
+def told(tag, verdicts=()):
+    """The lines of a tag with verdicts on files, each with its path, and its status."""
     found = findings(tag)
     octets = canonical(Tagged(COSWID, written(TAGS, tag)))
     lines = [f"tag {kind(tag)}", f"ident {identifier(tag)}", *(f"finding F{it}" for it in found)]
-    return [*lines, f"canonical {len(octets)} {octets.hex()}"], 1 if found else 0
+    lines += [f"file {verdict} {printed(path.encode('utf-8'))}" for path, verdict in verdicts]
+    wrong = [verdict for _, verdict in verdicts if verdict not in ("same", "unhashed")]
+    return [*lines, f"canonical {len(octets)} {octets.hex()}"], 1 if found or wrong else 0
 
 
 # Inputs.

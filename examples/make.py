@@ -1,10 +1,11 @@
 #!/usr/bin/env python3
-"""Writes the example files of this folder and of tags/, each with the words, the output and the status that belong to it.
+"""Writes the example files of this folder, tags/, files/ and links/, each with the words, the output and the status that belong to it.
 
 Each example of this folder is a kind of mirror and a list of values. `formats.py` says what octets and what output belong
 to them. NAME.patnc has the octets, NAME.args the words after `swid`, NAME.out the output, and NAME.status the status
 where it is not 0. The examples of tags/ are the values of `tag_values.py`, and `coswid.py` says the same of them:
-tags/NAME.coswid has the octets, and tags/NAME.diag says them in words. The program is not run.
+tags/NAME.coswid has the octets, and tags/NAME.diag says them in words. Those of files/ are the values of `file_values.py`, by
+`coswid_files.py`, and those of links/ the values of `list_values.py`, by `coswid_links.py`. The program is not run.
 """
 
 import os
@@ -16,6 +17,8 @@ sys.dont_write_bytecode = True
 from formats import ALTERATION, COSWID, CREATION, DELETION, FULFILMENT, FULL, IDS, NOSKIP, SWID_2009, SWID_2015
 from formats import Event, Events, Inventory, Record, Refused, Skipped, Torn, attribute, replaced, run
 import coswid
+import file_values
+import list_values
 import tag_values
 
 HERE = os.path.dirname(os.path.abspath(__file__))
@@ -172,6 +175,13 @@ EXAMPLES = {
     "fault-action": (IDS, [GOOD, wrong(NEXT_EVENTS, "action", b"\x04", 2)]),
 }
 
+# The folders of examples of tags: the words, and the values.
+TAG_EXAMPLES = {
+    "tags": ("tag", tag_values.CASES),
+    "files": ("tag verify", file_values.CASES),
+    "links": ("links", list_values.CASES),
+}
+
 
 def write(name, octets):
     with open(os.path.join(HERE, name), "wb") as it:
@@ -190,11 +200,15 @@ def main():
         octets, output, status = run(kind, parts)
         write(f"{name}.patnc", octets)
         write_answer(name, f"mirror {kind}", output, status)
-    for name, case in tag_values.CASES.items():
-        octets, notation, output, status = coswid.run(case)
-        write(f"tags/{name}.coswid", octets)
-        write(f"tags/{name}.diag", notation.encode("utf-8"))
-        write_answer(f"tags/{name}", "tag", output, status)
+    for path, content in file_values.FILES.items():
+        os.makedirs(os.path.join(HERE, "files", os.path.dirname(path)), exist_ok=True)
+        write(f"files/{path}", content)
+    for folder, (words, cases) in TAG_EXAMPLES.items():
+        for name, case in cases.items():
+            octets, notation, output, status = coswid.run(case)
+            write(f"{folder}/{name}.coswid", octets)
+            write(f"{folder}/{name}.diag", notation.encode("utf-8"))
+            write_answer(f"{folder}/{name}", words, output, status)
 
 
 if __name__ == "__main__":

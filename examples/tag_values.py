@@ -1,11 +1,11 @@
 """The tags of the folder tags/, as values. Beside each stands what `swid tag` tells of it."""
 
 from cbor import Bad, Chunks, Open, Tagged, Wide
-from coswid import COLLOQUIAL_VERSION, CORPUS, COSWID, DESCRIPTION, DISTRIBUTOR, EDITION, ENTITY, ENTITY_NAME, GENERATOR
-from coswid import HREF, LANG, LINK, MEDIA_TYPE, OWNERSHIP, PATCH, PATCHES, PAYLOAD, PRODUCT, REG_ID, REL, REQUIRES, ROLE
-from coswid import SEE_ALSO, SEMANTIC_VERSION, SHA_256, SHARED, SOFTWARE_CREATOR, SOFTWARE_META, SOFTWARE_NAME
-from coswid import SOFTWARE_VERSION, SUMMARY, SUPPLEMENTAL, SUPPLEMENTS, TAG_CREATOR, TAG_ID, TAG_VERSION, THUMBPRINT, URI
-from coswid import USE, USE_REQUIRED, VERSION_SCHEME
+from coswid import COLLOQUIAL_VERSION, CORPUS, COSWID, DATE, DESCRIPTION, DISTRIBUTOR, EDITION, ENTITY, ENTITY_NAME, EVIDENCE
+from coswid import FILE, FS_NAME, GENERATOR, HASH, HREF, LANG, LINK, MEDIA_TYPE, OWNERSHIP, PATCH, PATCHES, PAYLOAD, PRODUCT
+from coswid import REG_ID, REL, REQUIRES, ROLE, SEE_ALSO, SEMANTIC_VERSION, SHA_256, SHARED, SIZE, SOFTWARE_CREATOR
+from coswid import SOFTWARE_META, SOFTWARE_NAME, SOFTWARE_VERSION, SUMMARY, SUPPLEMENTAL, SUPPLEMENTS, TAG_CREATOR, TAG_ID
+from coswid import TAG_VERSION, THUMBPRINT, URI, USE, USE_REQUIRED, VERSION_SCHEME
 from coswid import Followed, Torn, Whole
 
 
@@ -86,6 +86,13 @@ EXTRAS = {
     "vendor": {},
 }
 
+# A payload of one file with the SHA-256 digest of `abc`, and evidence of a moment alone, without the tag of times.
+ABC = bytes.fromhex("ba7816bf8f01cfea414140de5dae2223b00361a396177a9cb410ff61f20015ad")
+SHORT = {TAG_ID: "a", SOFTWARE_NAME: "b", ENTITY: {ENTITY_NAME: "c", ROLE: TAG_CREATOR}}
+HASHED_FILE = {HASH: [SHA_256, ABC], SIZE: 3, FS_NAME: "f"}
+PAYLOAD_TAG = {**SHORT, PAYLOAD: {FILE: HASHED_FILE}, TAG_VERSION: 0, SOFTWARE_VERSION: "1"}
+EVIDENCE_TAG = {**SHORT, EVIDENCE: {DATE: 0}, TAG_VERSION: 0}
+
 
 # Findings, each alone.
 
@@ -111,7 +118,7 @@ DOUBLED = Bad(b"\x00", 8, "the key 0 again")
 NO_ROLE = {ENTITY_NAME: "Café du Code"}
 BARE_HASH = {**SHOP, THUMBPRINT: [SHA_256, "not octets"]}
 FIRMWARE = {
-    **tag("firmware", {PAYLOAD: [{17: [{24: "firmware.bin", 7: [[SHA_256, bytes(32)]]}]}]}),
+    **tag("firmware", {PAYLOAD: [{FILE: [{FS_NAME: "firmware.bin", HASH: [[SHA_256, bytes(32)]]}]}]}),
 }
 del FIRMWARE[TAG_VERSION]
 
@@ -128,6 +135,8 @@ CASES = {
     "corpus": marked(EDITOR_SETUP),
     "uuid": marked(UUID_TAG),
     "extras": marked(EXTRAS),
+    "payload": Whole(PAYLOAD_TAG),
+    "evidence": Whole(EVIDENCE_TAG),
     "finding-1": marked(FINDING_1),
     "finding-2": marked(FINDING_2),
     "finding-3": marked(FINDING_3),
@@ -142,6 +151,7 @@ CASES = {
     "form-hash": marked(tag("bare", entity=[MAKER, BARE_HASH])),  # form 2 2/1/34/1
     "form-order": marked(tag("untold", {SOFTWARE_NAME: 1, LINK: {HREF: 2}}, entity=NO_ROLE)),  # form 2 1: the lowest key
     "form-firmware": marked(FIRMWARE),  # form 1 12: before what is wrong in other keys
+    "form-both": marked({**SHORT, EVIDENCE: {DATE: 0}, PAYLOAD: {FILE: 1}, TAG_VERSION: 0}),  # form 3 .: before form 2 6/17
     "form-deep": Whole({**EDITOR_SETUP, 200: nested(63)}),  # form 4 .: under the tag of tags it would be 65 deep
     "trailing": Followed(Tagged(COSWID, EDITOR_SETUP), b"\x00"),
 }

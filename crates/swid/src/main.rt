@@ -7,7 +7,7 @@ use std::env;
 use std::io::ErrorKind;
 use std::process::ExitCode;
 use swid_cli::run_plain;
-use wire_base::{MemFiles, Memory, StdinSource, StdoutSink};
+use wire_base::{FolderFiles, Memory, StdinSource, StdoutSink};
 
 fn main(rt: HostRuntime) -> ExitCode {
     match run(&rt) {
@@ -16,7 +16,7 @@ fn main(rt: HostRuntime) -> ExitCode {
     }
 }
 
-/// Runs the command line over the standard streams and no files.
+/// Runs the command line over the standard streams and the files of the system.
 fn run(rt: &HostRuntime) -> Result<u8, Memory> {
     let alloc = rt.alloc();
     let owned = words(rt)?;
@@ -26,7 +26,7 @@ fn run(rt: &HostRuntime) -> Result<u8, Memory> {
     }
     let mut input = StdinSource::new(rt.stdin());
     let mut output = StdoutSink::new(rt.stdout());
-    let mut files = MemFiles::empty(alloc);
+    let mut files = FolderFiles::new(alloc, rt);
     Ok(run_plain(alloc, &words, &mut input, &mut output, &mut files))
 }
 

@@ -8,4 +8,11 @@ pub mod Running
 pub mod FirstLaws
 pub mod Answered
 pub mod Telling
+pub mod TagTelling
+pub mod Reading
+pub mod LinksTelling
+pub mod SameListing
 pub mod OneText
+pub mod SameLinks
+pub mod SameParts
+pub mod OneList

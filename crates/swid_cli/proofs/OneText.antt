@@ -1,150 +1,231 @@
 -- An input is spelled in one way only, if any, so `tag` prints one text of it.
-use Rattle.std.proofs.Common.{◌≡◌, ℕ, ◌<◌, ◌≤◌, List, length, ◌⊎◌, inl, inr, Option, Some, None, refl, sym, ap, subst, ◌∙◌, arith}
+use Rattle.std.proofs.Common.{◌≡◌, ℕ, ◌<◌, ◌≤◌, Bool, true, false, List, [], ◌∷◌, ◌++◌, map as map_list, length, ◌⊎◌, inl, inr, Option, Some, None, refl, sym, ap, subst, ◌∙◌, arith}
 use Rattle.std.specs.Prelude.{codes}
+use Rattle.std.specs.List.{flat_map}
+use Rattle.std.specs.Option.{option_map}
 use Rattle.std.proofs.lemmas.Bool.{cases_lt}
 use Rattle.std.proofs.lemmas.Option.{none-some}
 use Rattle.wire_base.specs.Layout.{AreOctets}
+use Rattle.wire_base.specs.NamedFile.{content_of}
+use Rattle.wire_base.specs.declared.files.NamedFile.{NamedFile}
 use Rattle.cbor_det.specs.Answers.{IsRefusal}
 use Rattle.cbor_det.specs.Faults.{Begins, IsFault, IsCut}
 use Rattle.cbor_det.specs.Laws.{SomeOutcome}
-use Rattle.cbor_det.specs.Term.{Term, map}
+use Rattle.cbor_det.specs.Canonical.{canon}
+use Rattle.cbor_det.specs.Term.{Term}
 use Rattle.cbor_det.specs.declared.fault.CborFault.{CborFault}
 use Rattle.cbor_det.specs.declared.fault.CborRefused.TheVariants as refused
 use Rattle.cbor_det.proofs.Outcome.{item_unique, fault_unique, item_no_fault}
 use Rattle.cbor_det.proofs.Outcomes.{some_outcome}
 use Rattle.coswid_res.specs.declared.fault.FormFault.{FormFault}
-use Rattle.coswid_res.specs.Schema.{one, a_map}
-use Rattle.coswid_res.specs.Schema as schema
-use Rattle.coswid_res.specs.Words.{IsMap}
+use Rattle.coswid_res.specs.Listing.{listed}
+use Rattle.coswid_res.specs.Verify.{IsLine, IsVerdicts, verdict_of, verdict_on, verdicts_of}
+use Rattle.coswid_res.specs.declared.listing.ListedFile.{ListedFile}
+use Rattle.coswid_res.specs.declared.payload.Payload.{Payload}
+use Rattle.coswid_res.specs.declared.verdict.Verdict.{Verdict}
 use Rattle.coswid_tag.specs.Findings.{findings}
 use Rattle.coswid_tag.specs.declared.tag.Tag.{Tag}
 use Rattle.coswid_codec.specs.Answers.{limits, BeginsTag, BeginsFaulty}
-use Rattle.coswid_codec.specs.Forms.{TagForm, TagKeys}
-use Rattle.coswid_codec.specs.Items.{tag_item, tag_pairs}
-use Rattle.coswid_codec.specs.Marked.{content}
+use Rattle.coswid_codec.specs.Forms.{TagForm}
+use Rattle.coswid_codec.specs.Items.{tag_item}
 use Rattle.coswid_codec.specs.TagFault.{tag_fault}
-use Rattle.coswid_codec.specs.TagText.{tag_text}
-use Rattle.coswid_codec.proofs.Lawful.{Lawful}
-use Rattle.coswid_codec.proofs.Lines.{map_law}
-use Rattle.coswid_codec.proofs.SameText.{same_text, same_findings}
-use Rattle.coswid_codec.proofs.Tags.{tag_law}
-use Rattle.coswid_codec.proofs.Whole.{no_fault_or_no_tag, one_tag}
+use Rattle.coswid_codec.specs.TagText.{canonical_line, summary_text}
+use Rattle.coswid_codec.proofs.SameText.{same_findings, same_summary}
+use Rattle.coswid_codec.proofs.Whole.{no_fault_or_no_tag, one_tag, written_form}
 use Rattle.swid_cli.specs.declared.step.Ending.{Ending}
 use Rattle.swid_cli.specs.declared.step.Ending.TheVariants as ending
-use Rattle.swid_cli.specs.Tagging.{TAG_OCTETS, TagTells, long_input, more_follows, no_item, no_tag, form_line, tag_ending, whole_tag}
-use Rattle.swid_cli.specs.TagLaws.{OneTagText, SomeTagText, ToldAlike}
+use Rattle.swid_cli.specs.Checking.{PayloadVerdicts, TagVerdicts, checked_ending, checked_text, file_line}
+use Rattle.swid_cli.proofs.SameListing.{payload_listed}
+use Rattle.swid_cli.specs.Tagging.{TAG_OCTETS, TagTells, long_input, more_follows, no_item, no_tag, form_line, whole_tag}
+use Rattle.swid_cli.specs.TagLaws.{OneTagText, OneText, OneVerifiedText, SomeTagText, ToldAlike}
 use Rattle.swid_cli.specs.Text.{fault_line, refusal}
 
 -- ---- two outcomes of one input
 
-fault_same : (octets : List ℕ) (f e : CborFault) → IsRefusal limits octets (refused.Fault f) → IsRefusal limits octets (refused.Fault e) → (f.kind ≡ e.kind) × (f.at ≡ e.at)
+pub fault_same : (octets : List ℕ) (f e : CborFault) → IsRefusal limits octets (refused.Fault f) → IsRefusal limits octets (refused.Fault e) → (f.kind ≡ e.kind) × (f.at ≡ e.at)
 fault_same octets f e (inl a) (inl b) = fault_unique limits octets f.kind f.at e.kind e.at a b
 fault_same octets f e (inr a) (inr b) = (a.0 ∙ sym b.0, a.1 ∙ sym b.1)
 fault_same octets f e (inl a) (inr b) = absurd (b.2.no_fault f.kind f.at a)
 fault_same octets f e (inr a) (inl b) = absurd (a.2.no_fault e.kind e.at b)
 
-line_same : (octets : List ℕ) (f e : CborFault) → IsRefusal limits octets (refused.Fault f) → IsRefusal limits octets (refused.Fault e) → fault_line f.kind f.at ≡ fault_line e.kind e.at
+pub line_same : (octets : List ℕ) (f e : CborFault) → IsRefusal limits octets (refused.Fault f) → IsRefusal limits octets (refused.Fault e) → fault_line f.kind f.at ≡ fault_line e.kind e.at
 line_same octets f e a b =
     let s = fault_same octets f e a b in
     ap (λ (k : ℕ). fault_line k f.at) s.0 ∙ ap (λ (n : ℕ). fault_line e.kind n) s.1
 
-not_both : (octets : List ℕ) (f : CborFault) (t : Term) (n : ℕ) → IsRefusal limits octets (refused.Fault f) → Begins limits octets t n → ⊥
+pub not_both : (octets : List ℕ) (f : CborFault) (t : Term) (n : ℕ) → IsRefusal limits octets (refused.Fault f) → Begins limits octets t n → ⊥
 not_both octets f t n (inl a) begins = item_no_fault limits octets t n f.kind f.at begins a
 not_both octets f t n (inr a) begins = a.2.no_item t n begins
 
 some_same : (f e : FormFault) → Some f ≡ Some e → f ≡ e
 some_same f e is = cc
 
-form_same : (octets : List ℕ) (f e : FormFault) → BeginsFaulty octets f → BeginsFaulty octets e → f ≡ e
+pub form_same : (octets : List ℕ) (f e : FormFault) → BeginsFaulty octets f → BeginsFaulty octets e → f ≡ e
 form_same octets f e a b =
     let items = (item_unique limits octets a.item b.item a.len b.len a.begins b.begins).0 in
     some_same f e (sym a.fault ∙ ap tag_fault items ∙ b.fault)
 
-length_same : (octets : List ℕ) (g h : Tag) (n m : ℕ) → BeginsTag octets g n → BeginsTag octets h m → n ≡ m
+pub length_same : (octets : List ℕ) (g h : Tag) (n m : ℕ) → BeginsTag octets g n → BeginsTag octets h m → n ≡ m
 length_same octets g h n m a b = (item_unique limits octets a.item b.item n m a.begins b.begins).1
 
-form_of : (octets : List ℕ) (g h : Tag) (n m : ℕ) (a : BeginsTag octets g n) (b : BeginsTag octets h m) → TagForm h a.item
+pub form_of : (octets : List ℕ) (g h : Tag) (n m : ℕ) (a : BeginsTag octets g n) (b : BeginsTag octets h m) → TagForm h a.item
 form_of octets g h n m a b = subst (λ (t : Term). TagForm h t) (sym (item_unique limits octets a.item b.item n m a.begins b.begins).0) b.form
 
-no_tag_and_tag : (octets : List ℕ) (f : FormFault) (g : Tag) (n : ℕ) → BeginsFaulty octets f → BeginsTag octets g n → ⊥
+pub no_tag_and_tag : (octets : List ℕ) (f : FormFault) (g : Tag) (n : ℕ) → BeginsFaulty octets f → BeginsTag octets g n → ⊥
 no_tag_and_tag octets f g n a b =
     let items = (item_unique limits octets a.item b.item a.len n a.begins b.begins).0 in
     none-some f (sym ((no_fault_or_no_tag b.item).1 (g, b.form)) ∙ ap tag_fault (sym items) ∙ a.fault)
 
-text_same : (octets : List ℕ) (g h : Tag) → BeginsTag octets g (length octets) → BeginsTag octets h (length octets) → (tag_text g ≡ tag_text h) × (tag_ending (findings g) ≡ tag_ending (findings h))
-text_same octets g h a b =
-    let form = form_of octets g h (length octets) (length octets) a b in (
-      same_text g h a.item a.form form (one_tag g h a.item a.form form),
-      ap tag_ending (same_findings g h a.item a.form form),
-    )
+-- ---- verdicts
 
-pub one_text : OneTagText
-one_text octets text other how also (long_input _ _) (long_input _ _) = (refl, refl)
-one_text octets text other how also (long_input _ over) (no_item _ e within _) = absurd (omega (arith, over, within))
-one_text octets text other how also (long_input _ over) (no_tag _ e within _) = absurd (omega (arith, over, within))
-one_text octets text other how also (long_input _ over) (more_follows _ h m within _ _) = absurd (omega (arith, over, within))
-one_text octets text other how also (long_input _ over) (whole_tag _ h b) = absurd (omega (arith, over, b.begins.short))
-one_text octets text other how also (no_item _ f within _) (long_input _ over) = absurd (omega (arith, over, within))
-one_text octets text other how also (no_item _ f _ a) (no_item _ e _ b) = (line_same octets f e a b, refl)
-one_text octets text other how also (no_item _ f _ a) (no_tag _ e _ b) = absurd (not_both octets f b.item b.len a b.begins)
-one_text octets text other how also (no_item _ f _ a) (more_follows _ h m _ b _) = absurd (not_both octets f b.item m a b.begins)
-one_text octets text other how also (no_item _ f _ a) (whole_tag _ h b) = absurd (not_both octets f b.item (length octets) a b.begins)
-one_text octets text other how also (no_tag _ f within _) (long_input _ over) = absurd (omega (arith, over, within))
-one_text octets text other how also (no_tag _ f _ a) (no_item _ e _ b) = absurd (not_both octets e a.item a.len b a.begins)
-one_text octets text other how also (no_tag _ f _ a) (no_tag _ e _ b) = (ap form_line (form_same octets f e a b), refl)
-one_text octets text other how also (no_tag _ f _ a) (more_follows _ h m _ b _) = absurd (no_tag_and_tag octets f h m a b)
-one_text octets text other how also (no_tag _ f _ a) (whole_tag _ h b) = absurd (no_tag_and_tag octets f h (length octets) a b)
-one_text octets text other how also (more_follows _ g n within _ _) (long_input _ over) = absurd (omega (arith, over, within))
-one_text octets text other how also (more_follows _ g n _ a _) (no_item _ e _ b) = absurd (not_both octets e a.item n b a.begins)
-one_text octets text other how also (more_follows _ g n _ a _) (no_tag _ e _ b) = absurd (no_tag_and_tag octets e g n b a)
-one_text octets text other how also (more_follows _ g n _ a _) (more_follows _ h m _ b _) = (ap (λ (k : ℕ). refusal (codes "trailing") k) (length_same octets g h n m a b), refl)
-one_text octets text other how also (more_follows _ g n _ a less) (whole_tag _ h b) = absurd (omega (arith, less, length_same octets g h n (length octets) a b))
-one_text octets text other how also (whole_tag _ g a) (long_input _ over) = absurd (omega (arith, over, a.begins.short))
-one_text octets text other how also (whole_tag _ g a) (no_item _ e _ b) = absurd (not_both octets e a.item (length octets) b a.begins)
-one_text octets text other how also (whole_tag _ g a) (no_tag _ e _ b) = absurd (no_tag_and_tag octets e g (length octets) b a)
-one_text octets text other how also (whole_tag _ g a) (more_follows _ h m _ b less) = absurd (omega (arith, less, length_same octets h g m (length octets) b a))
-one_text octets text other how also (whole_tag _ g a) (whole_tag _ h b) = text_same octets g h a b
+-- the text of a tag, by its parts
+abbrev text_by : List ℕ → List (List ℕ × Verdict) → Term → List ℕ
+text_by summary verdicts item = summary ++ flat_map file_line verdicts ++ canonical_line (canon item)
+
+summaries_same : (g h : Tag) (t : Term) (verdicts : List (List ℕ × Verdict)) → TagForm g t → TagForm h t → tag_item g ≡ tag_item h → checked_text g verdicts ≡ checked_text h verdicts
+summaries_same g h t verdicts a b item =
+    ap (λ (s : List ℕ). text_by s verdicts (tag_item g)) (same_summary g h t a b) ∙ ap (λ (u : Term). text_by (summary_text h) verdicts u) item
+
+module _ (looked_at : Bool) (files : Option (List NamedFile)) where
+  -- Of tags that are read from one item the verdicts are the same.
+  abbrev pub OneVerdicts : Type 0
+  OneVerdicts = (g h : Tag) (t : Term) (vs ws : List (List ℕ × Verdict)) → TagForm g t → TagForm h t → TagVerdicts looked_at files g vs → TagVerdicts looked_at files h ws → vs ≡ ws
+
+  text_same : OneVerdicts → (octets : List ℕ) (g h : Tag) (vs ws : List (List ℕ × Verdict)) → BeginsTag octets g (length octets) → BeginsTag octets h (length octets)
+      → TagVerdicts looked_at files g vs → TagVerdicts looked_at files h ws → (checked_text g vs ≡ checked_text h ws) × (checked_ending (findings g) vs ≡ checked_ending (findings h) ws)
+  text_same one octets g h vs ws a b is are =
+      let form = form_of octets g h (length octets) (length octets) a b in
+      let verdicts = one g h a.item vs ws a.form form is are in (
+        summaries_same g h a.item vs a.form form (one_tag g h a.item a.form form) ∙ ap (λ (xs : List (List ℕ × Verdict)). checked_text h xs) verdicts,
+        ap (λ (fs : List ℕ). checked_ending fs vs) (same_findings g h a.item a.form form) ∙ ap (λ (xs : List (List ℕ × Verdict)). checked_ending (findings h) xs) verdicts,
+      )
+
+  one_text : OneVerdicts → OneText looked_at files
+  one_text one octets text other how also (long_input _ _) (long_input _ _) = (refl, refl)
+  one_text one octets text other how also (long_input _ over) (no_item _ e within _) = absurd (omega (arith, over, within))
+  one_text one octets text other how also (long_input _ over) (no_tag _ e within _) = absurd (omega (arith, over, within))
+  one_text one octets text other how also (long_input _ over) (more_follows _ h m within _ _) = absurd (omega (arith, over, within))
+  one_text one octets text other how also (long_input _ over) (whole_tag _ h ws b are) = absurd (omega (arith, over, b.begins.short))
+  one_text one octets text other how also (no_item _ f within _) (long_input _ over) = absurd (omega (arith, over, within))
+  one_text one octets text other how also (no_item _ f _ a) (no_item _ e _ b) = (line_same octets f e a b, refl)
+  one_text one octets text other how also (no_item _ f _ a) (no_tag _ e _ b) = absurd (not_both octets f b.item b.len a b.begins)
+  one_text one octets text other how also (no_item _ f _ a) (more_follows _ h m _ b _) = absurd (not_both octets f b.item m a b.begins)
+  one_text one octets text other how also (no_item _ f _ a) (whole_tag _ h ws b are) = absurd (not_both octets f b.item (length octets) a b.begins)
+  one_text one octets text other how also (no_tag _ f within _) (long_input _ over) = absurd (omega (arith, over, within))
+  one_text one octets text other how also (no_tag _ f _ a) (no_item _ e _ b) = absurd (not_both octets e a.item a.len b a.begins)
+  one_text one octets text other how also (no_tag _ f _ a) (no_tag _ e _ b) = (ap form_line (form_same octets f e a b), refl)
+  one_text one octets text other how also (no_tag _ f _ a) (more_follows _ h m _ b _) = absurd (no_tag_and_tag octets f h m a b)
+  one_text one octets text other how also (no_tag _ f _ a) (whole_tag _ h ws b are) = absurd (no_tag_and_tag octets f h (length octets) a b)
+  one_text one octets text other how also (more_follows _ g n within _ _) (long_input _ over) = absurd (omega (arith, over, within))
+  one_text one octets text other how also (more_follows _ g n _ a _) (no_item _ e _ b) = absurd (not_both octets e a.item n b a.begins)
+  one_text one octets text other how also (more_follows _ g n _ a _) (no_tag _ e _ b) = absurd (no_tag_and_tag octets e g n b a)
+  one_text one octets text other how also (more_follows _ g n _ a _) (more_follows _ h m _ b _) = (ap (λ (k : ℕ). refusal (codes "trailing") k) (length_same octets g h n m a b), refl)
+  one_text one octets text other how also (more_follows _ g n _ a less) (whole_tag _ h ws b are) = absurd (omega (arith, less, length_same octets g h n (length octets) a b))
+  one_text one octets text other how also (whole_tag _ g vs a is) (long_input _ over) = absurd (omega (arith, over, a.begins.short))
+  one_text one octets text other how also (whole_tag _ g vs a is) (no_item _ e _ b) = absurd (not_both octets e a.item (length octets) b a.begins)
+  one_text one octets text other how also (whole_tag _ g vs a is) (no_tag _ e _ b) = absurd (no_tag_and_tag octets e g (length octets) b a)
+  one_text one octets text other how also (whole_tag _ g vs a is) (more_follows _ h m _ b less) = absurd (omega (arith, less, length_same octets h g m (length octets) b a))
+  one_text one octets text other how also (whole_tag _ g vs a is) (whole_tag _ h ws b are) = text_same one octets g h vs ws a b is are
+
+pub one_tag_text : OneTagText
+one_tag_text files = one_text false files (λ g h t vs ws a b is are. is ∙ sym are)
+
+-- A file has one verdict where it is told what it holds.
+
+abbrev line_of : List ℕ → Verdict → List ℕ × Verdict
+line_of path verdict = (path, verdict)
+
+line_told : (all : List NamedFile) (file : ListedFile) (line : List ℕ × Verdict) → IsLine (Some all) file line → line ≡ line_of file.path (verdict_of all file)
+line_told all file line is =
+    ap (λ (path : List ℕ). line_of path line.1) is.0
+    ∙ ap (λ (verdict : Verdict). line_of file.path verdict) (is.1.1 ∙ sym (ap (λ (held : Option (List ℕ)). verdict_on file.hash file.size held) is.1.2))
+
+lines_told : (all : List NamedFile) (files : List ListedFile) (lines : List (List ℕ × Verdict)) → IsVerdicts (Some all) files lines → lines ≡ verdicts_of all files
+lines_told all [] [] is = refl
+lines_told all [] (line ∷ lines) is = absurd is
+lines_told all (file ∷ files) [] is = absurd is
+lines_told all (file ∷ files) (line ∷ lines) is =
+    ap (λ (first : List ℕ × Verdict). first ∷ lines) (line_told all file line is.0)
+    ∙ ap (λ (rest : List (List ℕ × Verdict)). line_of file.path (verdict_of all file) ∷ rest) (lines_told all files lines is.1)
+
+files_same : (p q : Payload) → Some (listed p) ≡ Some (listed q) → listed p ≡ listed q
+files_same p q e = cc
+
+payload_same : (all : List NamedFile) (x y : Option Payload) (vs ws : List (List ℕ × Verdict)) → option_map listed x ≡ option_map listed y → PayloadVerdicts (Some all) x vs → PayloadVerdicts (Some all) y ws → vs ≡ ws
+payload_same all None None vs ws e is are = is ∙ sym are
+payload_same all (Some p) (Some q) vs ws e is are =
+    lines_told all (listed p) vs is ∙ ap (λ (files : List ListedFile). verdicts_of all files) (files_same p q e) ∙ sym (lines_told all (listed q) ws are)
+payload_same all None (Some q) vs ws e is are = absurd cc
+payload_same all (Some p) None vs ws e is are = absurd cc
+
+pub one_verified_text : OneVerifiedText
+one_verified_text all = one_text true (Some all) (λ g h t vs ws a b is are. payload_same all g.payload h.payload vs ws (payload_listed g h t a b) is are)
+
+-- Some verdicts there are, whatever is told.
+
+abbrev held_of : Option (List NamedFile) → List ℕ → Option (List ℕ)
+held_of None path = None
+held_of (Some all) path = content_of all path
+
+some_line : (told : Option (List NamedFile)) (file : ListedFile) → IsLine told file (line_of file.path (verdict_on file.hash file.size (held_of told file.path)))
+some_line None file = (refl, (None, refl, tt))
+some_line (Some all) file = (refl, (content_of all file.path, refl, refl))
+
+abbrev some_lines : Option (List NamedFile) → List ListedFile → List (List ℕ × Verdict)
+some_lines told files = map_list (λ (file : ListedFile). line_of file.path (verdict_on file.hash file.size (held_of told file.path))) files
+
+lines_there : (told : Option (List NamedFile)) (files : List ListedFile) → IsVerdicts told files (some_lines told files)
+lines_there told [] = tt
+lines_there told (file ∷ files) = (some_line told file, lines_there told files)
+
+some_verdicts : (looked_at : Bool) (told : Option (List NamedFile)) (g : Tag) → (verdicts : List (List ℕ × Verdict)) × TagVerdicts looked_at told g verdicts
+some_verdicts false told g = ([], refl)
+some_verdicts true told g = by_payload g.payload
+  where
+    by_payload : (x : Option Payload) → (verdicts : List (List ℕ × Verdict)) × PayloadVerdicts told x verdicts
+    by_payload None = ([], refl)
+    by_payload (Some p) = (some_lines told (listed p), lines_there told (listed p))
 
 -- ---- some outcome
 
-abbrev Told : List ℕ → Type 0
-Told octets = (text : List ℕ) × (how : Ending) × TagTells octets text how
+module _ (looked_at : Bool) (files : Option (List NamedFile)) where
+  abbrev Told : List ℕ → Type 0
+  Told octets = (text : List ℕ) × (how : Ending) × TagTells looked_at files octets text how
 
-told_tag : (octets : List ℕ) (t : Term) (n : ℕ) (g : Tag) → length octets ≤ TAG_OCTETS → Begins limits octets t n → TagForm g t → Told octets
-told_tag octets t n g within begins form =
-    let tag : BeginsTag octets g n = record { item = t; begins = begins; form = form } in
-    elim (cases_lt n (length octets)) [
-      | inl less ↦ (_, _, more_follows octets g n within tag less)
-      | inr all ↦ (_, _, whole_tag octets g (subst (λ (m : ℕ). BeginsTag octets g m) (whole n (length octets) all begins.within) tag))
-    ]
-  where
-    whole : (n m : ℕ) → m ≤ n → n ≤ m → n ≡ m
-    whole n m a b = omega (arith, a, b)
+  told_tag : (octets : List ℕ) (t : Term) (n : ℕ) (g : Tag) → length octets ≤ TAG_OCTETS → Begins limits octets t n → TagForm g t → Told octets
+  told_tag octets t n g within begins form =
+      let tag : BeginsTag octets g n = record { item = t; begins = begins; form = form } in
+      elim (cases_lt n (length octets)) [
+        | inl less ↦ (_, _, more_follows octets g n within tag less)
+        | inr all ↦
+            let made = some_verdicts looked_at files g in
+            (_, _, whole_tag octets g made.0 (subst (λ (m : ℕ). BeginsTag octets g m) (whole n (length octets) all begins.within) tag) made.1)
+      ]
+    where
+      whole : (n m : ℕ) → m ≤ n → n ≤ m → n ≡ m
+      whole n m a b = omega (arith, a, b)
 
-told_item : (octets : List ℕ) (t : Term) (n : ℕ) (first : Option FormFault) → length octets ≤ TAG_OCTETS → Begins limits octets t n → tag_fault t ≡ first → Told octets
-told_item octets t n None within begins is = let made = (no_fault_or_no_tag t).0 is in told_tag octets t n made.0 within begins made.1
-told_item octets t n (Some f) within begins is = (_, _, no_tag octets f within (record { item = t; len = n; begins = begins; fault = is }))
+  told_item : (octets : List ℕ) (t : Term) (n : ℕ) (first : Option FormFault) → length octets ≤ TAG_OCTETS → Begins limits octets t n → tag_fault t ≡ first → Told octets
+  told_item octets t n None within begins is = let made = (no_fault_or_no_tag t).0 is in told_tag octets t n made.0 within begins made.1
+  told_item octets t n (Some f) within begins is = (_, _, no_tag octets f within (record { item = t; len = n; begins = begins; fault = is }))
 
-told_outcome : (octets : List ℕ) → length octets ≤ TAG_OCTETS → SomeOutcome limits octets → Told octets
-told_outcome octets within (inl a) = told_item octets a.0 a.1 (tag_fault a.0) within a.2 refl
-told_outcome octets within (inr (inl a)) = (_, _, no_item octets (record { kind = a.0; at = a.1 }) within (inl a.2))
-told_outcome octets within (inr (inr a)) = (_, _, no_item octets (record { kind = 1; at = length octets }) within (inr (refl, refl, a)))
+  told_outcome : (octets : List ℕ) → length octets ≤ TAG_OCTETS → SomeOutcome limits octets → Told octets
+  told_outcome octets within (inl a) = told_item octets a.0 a.1 (tag_fault a.0) within a.2 refl
+  told_outcome octets within (inr (inl a)) = (_, _, no_item octets (record { kind = a.0; at = a.1 }) within (inl a.2))
+  told_outcome octets within (inr (inr a)) = (_, _, no_item octets (record { kind = 1; at = length octets }) within (inr (refl, refl, a)))
 
-pub some_text : SomeTagText
-some_text octets are =
-    elim (cases_lt TAG_OCTETS (length octets)) [
-      | inl over ↦ (_, _, long_input octets over)
-      | inr within ↦ told_outcome octets within (some_outcome limits octets are)
-    ]
+  some_text : (octets : List ℕ) → AreOctets octets → Told octets
+  some_text octets are =
+      elim (cases_lt TAG_OCTETS (length octets)) [
+        | inl over ↦ (_, _, long_input octets over)
+        | inr within ↦ told_outcome octets within (some_outcome limits octets are)
+      ]
+
+pub some_tag_text : SomeTagText
+some_tag_text looked_at files octets are = some_text looked_at files octets are
 
 -- ---- tags that are written as one
 
-law : Lawful (one (a_map schema.tag)) (λ (g : Tag). IsMap (TagKeys g)) (λ (g : Tag). map (tag_pairs g)) 5
-law = map_law schema.tag TagKeys tag_pairs 4 tag_law
-
-written_form : (g : Tag) (t : Term) → TagForm g t → TagForm g (tag_item g)
-written_form g t form = record { keys = (law.told g (content t) form.keys).again; shallow = refl }
-
 pub told_alike : ToldAlike
-told_alike g h n m input other a b same =
-    same_text g h (tag_item g) (written_form g a.item a.form) (subst (λ (t : Term). TagForm h t) (sym same) (written_form h b.item b.form)) same
+told_alike g h n m input other verdicts a b same =
+    summaries_same g h (tag_item g) verdicts (written_form g a.item a.form) (subst (λ (t : Term). TagForm h t) (sym same) (written_form h b.item b.form)) same

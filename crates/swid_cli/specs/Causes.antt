@@ -1,5 +1,5 @@
 -- Why a command over an input and an output stopped.
-use Rattle.std.specs.Prelude.{◌≡◌, ◌≤◌, ℕ, Result, Ok, Err}
+use Rattle.std.specs.Prelude.{◌≡◌, ◌≤◌, ℕ, Bool, true, Result, Ok, Err}
 use Rattle.std.specs.Prelude.{◌⊎◌}
 use Rattle.wire_base.specs.Outside.{Rose}
 use Rattle.wire_base.specs.declared.passing.Stopped.{Stopped}
@@ -16,3 +16,18 @@ pub record HasCauses {A : Type 0} (input-before input-after output-before output
   pub input : input-before ≤ input-after
   pub output : output-before ≤ output-after
   pub cause : Cause input-before input-after output-before output-after result
+
+-- The same of a command that may look at files: then a fault of theirs stopped it too.
+abbrev pub FilesCause : {A : Type 0} → Bool → ℕ → ℕ → ℕ → ℕ → ℕ → ℕ → Result A Stopped → Type 0
+FilesCause looked_at input-before input-after output-before output-after files-before files-after (Ok ended) =
+    (input-after ≡ input-before) × (output-after ≡ output-before) × (files-after ≡ files-before)
+FilesCause looked_at input-before input-after output-before output-after files-before files-after (Err stopped.Fault) =
+    Rose input-before input-after ⊎ Rose output-before output-after ⊎ ((looked_at ≡ true) × Rose files-before files-after)
+FilesCause looked_at input-before input-after output-before output-after files-before files-after (Err stopped.Memory) =
+    (input-after ≡ input-before) × (output-after ≡ output-before) × (files-after ≡ files-before)
+
+pub record HasFilesCauses {A : Type 0} (looked_at : Bool) (input-before input-after output-before output-after files-before files-after : ℕ) (result : Result A Stopped) : Type 0 where
+  pub input : input-before ≤ input-after
+  pub output : output-before ≤ output-after
+  pub files : files-before ≤ files-after
+  pub cause : FilesCause looked_at input-before input-after output-before output-after files-before files-after result

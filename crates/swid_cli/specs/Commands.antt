@@ -1,10 +1,12 @@
 -- Which command the words say.
-use Rattle.std.specs.Prelude.{ℕ, List}
+use Rattle.std.specs.Prelude.{ℕ, true, false, List}
 use Rattle.swid_cli.specs.declared.command.Command.{Command}
-use Rattle.swid_cli.specs.declared.command.Command.TheVariants.{Mirror, Tag}
-use Rattle.swid_cli.specs.Words.{IsMirror, IsTag}
+use Rattle.swid_cli.specs.declared.command.Command.TheVariants.{Mirror, Tag, Links}
+use Rattle.swid_cli.specs.Words.{IsMirror, IsTag, IsTagVerify, IsLinks}
 
 -- The words say the command.
 abbrev pub Says : Command → List (List ℕ) → Type 0
 Says (Mirror kind) words = IsMirror kind words
-Says Tag words = IsTag words
+Says (Tag false) words = IsTag words
+Says (Tag true) words = IsTagVerify words
+Says Links words = IsLinks words

@@ -8,5 +8,11 @@ pub mod Steps
 pub mod Run
 pub mod Causes
 pub mod Answering
+pub mod Answer
+pub mod Telling
+pub mod Checking
 pub mod Tagging
 pub mod TagLaws
+pub mod TagList
+pub mod Links
+pub mod LinksLaws

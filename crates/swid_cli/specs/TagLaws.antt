@@ -1,20 +1,29 @@
 -- What `tag` prints of each input is one text, and of tags that are written as one.
-use Rattle.std.specs.Prelude.{◌≡◌, ℕ, List}
+use Rattle.std.specs.Prelude.{◌≡◌, ℕ, Bool, true, false, List, Option, Some}
 use Rattle.wire_base.specs.Layout.{AreOctets}
+use Rattle.wire_base.specs.declared.files.NamedFile.{NamedFile}
+use Rattle.coswid_res.specs.declared.verdict.Verdict.{Verdict}
 use Rattle.coswid_tag.specs.declared.tag.Tag.{Tag}
 use Rattle.coswid_codec.specs.Answers.{BeginsTag, Same}
-use Rattle.coswid_codec.specs.TagText.{tag_text}
 use Rattle.swid_cli.specs.declared.step.Ending.{Ending}
+use Rattle.swid_cli.specs.Checking.{checked_text}
 use Rattle.swid_cli.specs.Tagging.{TagTells}
 
 -- An input has at most one text, and one ending.
+abbrev pub OneText : Bool → Option (List NamedFile) → Type 0
+OneText looked_at files = (octets text other : List ℕ) (how also : Ending) → TagTells looked_at files octets text how → TagTells looked_at files octets other also → (text ≡ other) × (how ≡ also)
+
+-- So it is where files are not looked at, and where what they hold is told.
 abbrev pub OneTagText : Type 0
-OneTagText = (octets text other : List ℕ) (how also : Ending) → TagTells octets text how → TagTells octets other also → (text ≡ other) × (how ≡ also)
+OneTagText = (files : Option (List NamedFile)) → OneText false files
+
+abbrev pub OneVerifiedText : Type 0
+OneVerifiedText = (all : List NamedFile) → OneText true (Some all)
 
 -- Each input, of numbers below 256, has one.
 abbrev pub SomeTagText : Type 0
-SomeTagText = (octets : List ℕ) → AreOctets octets → (text : List ℕ) × (how : Ending) × TagTells octets text how
+SomeTagText = (looked_at : Bool) (files : Option (List NamedFile)) (octets : List ℕ) → AreOctets octets → (text : List ℕ) × (how : Ending) × TagTells looked_at files octets text how
 
--- Tags that are written as one item are told alike, in whatever spellings they came.
+-- Tags that are written as one item are told alike with the same verdicts, in whatever spellings they came.
 abbrev pub ToldAlike : Type 0
-ToldAlike = (g h : Tag) (n m : ℕ) (input other : List ℕ) → BeginsTag input g n → BeginsTag other h m → Same g h → tag_text g ≡ tag_text h
+ToldAlike = (g h : Tag) (n m : ℕ) (input other : List ℕ) (verdicts : List (List ℕ × Verdict)) → BeginsTag input g n → BeginsTag other h m → Same g h → checked_text g verdicts ≡ checked_text h verdicts

@@ -1,21 +1,19 @@
 -- What `tag` prints, of all octets of the input.
-use Rattle.std.specs.Prelude.{◌≡◌, ◌<◌, ◌≤◌, ◌+◌, ℕ, ℤ, List, [], ◌∷◌, ◌++◌, Option, Result, Ok, Err, length, drop, codes, decimal}
+use Rattle.std.specs.Prelude.{◌<◌, ◌≤◌, ℕ, ℤ, Bool, Option, List, [], ◌∷◌, ◌++◌, length, codes, decimal}
 use Rattle.std.specs.Fmt.{signed_decimal}
 use Rattle.std.specs.List.{flat_map}
-use Rattle.wire_base.specs.Passing.{AddsFront}
-use Rattle.wire_base.specs.declared.passing.Stopped.{Stopped}
+use Rattle.wire_base.specs.declared.files.NamedFile.{NamedFile}
 use Rattle.cbor_det.specs.Answers.{IsRefusal}
 use Rattle.cbor_det.specs.declared.fault.CborFault.{CborFault}
 use Rattle.cbor_det.specs.declared.fault.CborRefused.TheVariants as refused
 use Rattle.coswid_res.specs.declared.fault.FormFault.{FormFault}
+use Rattle.coswid_res.specs.declared.verdict.Verdict.{Verdict}
 use Rattle.coswid_tag.specs.Findings.{findings}
 use Rattle.coswid_tag.specs.declared.tag.Tag.{Tag}
 use Rattle.coswid_codec.specs.Answers.{limits, BeginsTag, BeginsFaulty}
-use Rattle.coswid_codec.specs.TagText.{tag_text}
 use Rattle.swid_cli.specs.declared.step.Ending.{Ending}
 use Rattle.swid_cli.specs.declared.step.Ending.TheVariants as ending
-use Rattle.swid_cli.specs.Run.{Ran}
-use Rattle.swid_cli.specs.Stream.{Printed}
+use Rattle.swid_cli.specs.Checking.{TagVerdicts, checked_ending, checked_text}
 use Rattle.swid_cli.specs.Text.{fault_line, line, refusal}
 
 -- The most octets of the input.
@@ -35,36 +33,19 @@ path_text (step ∷ steps) = signed_decimal step ++ flat_map step_behind steps
 abbrev pub form_line : FormFault → List ℕ
 form_line fault = line (codes "form" ∷ decimal fault.kind ∷ path_text fault.path ∷ [])
 
--- How the text of a tag with these findings ends.
-abbrev pub tag_ending : List ℕ → Ending
-tag_ending [] = ending.Whole
-tag_ending (finding ∷ others) = ending.Findings
-
--- The text that is printed of all octets of the input, and how it ends: a rule for each row of the table in docs/commands.md.
-pub data TagTells : List ℕ → List ℕ → Ending → Type 0 where
+-- The text that is printed of all octets of the input, and how it ends: a rule for each row of the table in docs/commands.md. The
+-- files of a tag are looked at or not, and what they hold is told or not.
+pub data TagTells (looked_at : Bool) (files : Option (List NamedFile)) : List ℕ → List ℕ → Ending → Type 0 where
   -- the input has more octets than it may have
-  long_input : (octets : List ℕ) → TAG_OCTETS < length octets → TagTells octets (refusal (codes "limit") TAG_OCTETS) ending.Refused
+  long_input : (octets : List ℕ) → TAG_OCTETS < length octets → TagTells looked_at files octets (refusal (codes "limit") TAG_OCTETS) ending.Refused
   -- it begins with no item
   no_item : (octets : List ℕ) (fault : CborFault) → length octets ≤ TAG_OCTETS → IsRefusal limits octets (refused.Fault fault)
-      → TagTells octets (fault_line fault.kind fault.at) ending.Refused
+      → TagTells looked_at files octets (fault_line fault.kind fault.at) ending.Refused
   -- it begins with an item that is no tag
-  no_tag : (octets : List ℕ) (fault : FormFault) → length octets ≤ TAG_OCTETS → BeginsFaulty octets fault → TagTells octets (form_line fault) ending.Refused
+  no_tag : (octets : List ℕ) (fault : FormFault) → length octets ≤ TAG_OCTETS → BeginsFaulty octets fault → TagTells looked_at files octets (form_line fault) ending.Refused
   -- octets follow the tag
   more_follows : (octets : List ℕ) (g : Tag) (len : ℕ) → length octets ≤ TAG_OCTETS → BeginsTag octets g len → len < length octets
-      → TagTells octets (refusal (codes "trailing") len) ending.Refused
+      → TagTells looked_at files octets (refusal (codes "trailing") len) ending.Refused
   -- it is a tag
-  whole_tag : (octets : List ℕ) (g : Tag) → BeginsTag octets g (length octets) → TagTells octets (tag_text g) (tag_ending (findings g))
-
--- The text and the ending with what is left of the input: what is behind one octet more than it may have.
-pub record TagPrints (octets : List ℕ) (printed : Printed) : Type 0 where
-  pub told : TagTells octets printed.text printed.ending
-  pub left : printed.left ≡ drop (TAG_OCTETS + 1) octets
-
--- A front of the text was printed.
-abbrev pub TagPrintsFront : List ℕ → Option (List ℕ) → Option (List ℕ) → Type 0
-TagPrintsFront octets before after = (printed : Printed) → TagPrints octets printed → AddsFront before after printed.text
-
--- The command over the octets that were left of its input.
-abbrev pub TagRan : List ℕ → Option (List ℕ) → Option (List ℕ) → Option (List ℕ) → Result Ending Stopped → Type 0
-TagRan octets left-after before after (Ok ended) = (printed : Printed) × TagPrints octets printed × Ran printed left-after before after (Ok ended)
-TagRan octets left-after before after (Err stop) = TagPrintsFront octets before after
+  whole_tag : (octets : List ℕ) (g : Tag) (verdicts : List (List ℕ × Verdict)) → BeginsTag octets g (length octets) → TagVerdicts looked_at files g verdicts
+      → TagTells looked_at files octets (checked_text g verdicts) (checked_ending (findings g) verdicts)

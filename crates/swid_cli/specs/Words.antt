@@ -16,6 +16,14 @@ IsMirror kind words = words ≡ codes "mirror" ∷ kind_word kind ∷ []
 abbrev pub IsTag : List (List ℕ) → Type 0
 IsTag words = words ≡ codes "tag" ∷ []
 
+-- The words are `tag` and `verify`.
+abbrev pub IsTagVerify : List (List ℕ) → Type 0
+IsTagVerify words = words ≡ codes "tag" ∷ codes "verify" ∷ []
+
+-- The word is `links`.
+abbrev pub IsLinks : List (List ℕ) → Type 0
+IsLinks words = words ≡ codes "links" ∷ []
+
 -- The words are a command line.
 abbrev pub IsCommandLine : List (List ℕ) → Type 0
-IsCommandLine words = IsMirror Ids words ⊎ IsMirror Full words ⊎ IsTag words
+IsCommandLine words = IsMirror Ids words ⊎ IsMirror Full words ⊎ IsTag words ⊎ IsTagVerify words ⊎ IsLinks words

@@ -11,8 +11,10 @@ use swima_model::Kind;
 pub enum Command {
     /// `mirror ids` or `mirror full`: take the reports of a kind that come in, and show what a mirror holds then.
     Mirror(Kind),
-    /// `tag`: say what a tag tells and what is wrong with it.
-    Tag,
+    /// `tag` or `tag verify`: say what a tag tells and what is wrong with it, and with `verify` what is wrong with its files.
+    Tag { looks_at_files: bool },
+    /// `links`: say what is wrong between tags.
+    Links,
 }
 
 /// The command that the words say; `None` exactly where they are no command line.
@@ -23,7 +25,13 @@ pub fn command_of(words: &[&str]) -> Option<Command>
     match words {
         ["mirror", "ids"] => Some(Command::Mirror(Kind::Ids)),
         ["mirror", "full"] => Some(Command::Mirror(Kind::Full)),
-        ["tag"] => Some(Command::Tag),
+        ["tag"] => Some(Command::Tag {
+            looks_at_files: false,
+        }),
+        ["tag", "verify"] => Some(Command::Tag {
+            looks_at_files: true,
+        }),
+        ["links"] => Some(Command::Links),
         _ => None,
     }
 }

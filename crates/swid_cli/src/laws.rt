@@ -2,8 +2,9 @@
 
 ghost use Rattle.swid_cli.specs.Answering.{PrintedMirrorIsRight};
 ghost use Rattle.swid_cli.specs.FirstLaws.{EndIsNothing, FaultyShows, LimitIsBeyond, TornIsUnfinished, WholeIsAttribute};
+ghost use Rattle.swid_cli.specs.LinksLaws.{OneLinksText, SomeLinksText};
 ghost use Rattle.swid_cli.specs.Stream.{StreamGoesOn};
-ghost use Rattle.swid_cli.specs.TagLaws.{OneTagText, SomeTagText, ToldAlike};
+ghost use Rattle.swid_cli.specs.TagLaws.{OneTagText, OneVerifiedText, SomeTagText, ToldAlike};
 
 /// What a stream prints is what its first attribute makes, and behind it what the stream behind that attribute prints.
 pub fn stream_goes_on()
@@ -48,12 +49,27 @@ pub fn one_tag_text()
     ensures law { OneTagText }
 {}
 
-/// Of each input `tag` prints some text.
+/// Of an input `tag verify` prints one text at most, with one ending, where it is told what files hold.
+pub fn one_verified_text()
+    ensures law { OneVerifiedText }
+{}
+
+/// Of each input `tag` and `tag verify` print some text.
 pub fn some_tag_text()
     ensures law { SomeTagText }
 {}
 
-/// Tags that are written as one item have one text, in whatever spellings they came.
+/// Tags that are written as one item have one text with the same verdicts, in whatever spellings they came.
 pub fn tags_are_told_alike()
     ensures law { ToldAlike }
+{}
+
+/// Of an input `links` prints one text at most, with one ending.
+pub fn one_links_text()
+    ensures law { OneLinksText }
+{}
+
+/// Of each input `links` prints some text.
+pub fn some_links_text()
+    ensures law { SomeLinksText }
 {}

@@ -1,17 +1,20 @@
 //! The top call.
 
-ghost use Rattle.std.specs.Prelude.{◌≡◌, ◌≢◌, ◌≤◌, ◌⊎◌, ◌↔◌, List, ℕ, IfSome, map};
+ghost use Rattle.std.specs.Prelude.{◌≡◌, ◌≢◌, ◌≤◌, ◌⊎◌, ◌↔◌, true, false, List, ℕ, IfSome, map};
 ghost use Rattle.swid_cli.specs.Answering.{AllAnswer, PrintsRight};
 ghost use Rattle.swid_cli.specs.Run.{Prints, status_of, usage};
+ghost use Rattle.swid_cli.specs.Links.{LIST_OCTETS, LinksTells};
 ghost use Rattle.swid_cli.specs.Stream.{Printed, stream_text};
-ghost use Rattle.swid_cli.specs.Tagging.{TagPrints, TagPrintsFront};
-ghost use Rattle.swid_cli.specs.Words.{IsCommandLine, IsMirror, IsTag};
+ghost use Rattle.swid_cli.specs.Tagging.{TAG_OCTETS, TagTells};
+ghost use Rattle.swid_cli.specs.Telling.{IsTold, PrintsFront};
+ghost use Rattle.swid_cli.specs.Words.{IsCommandLine, IsLinks, IsMirror, IsTag, IsTagVerify};
 ghost use Rattle.swima_model.specs.History.{History, IsHonest};
 ghost use Rattle.swima_model.specs.declared.report.Kind.{Kind as KindValue};
 ghost use Rattle.wire_base.specs.Outside.{Adds, Rose};
 ghost use Rattle.wire_base.specs.Passing.{AddsFront};
 
 use crate::command::{Command, command_of};
+use crate::links::links;
 use crate::mirror::mirror;
 use crate::step::Ending;
 use crate::tag::tag;
@@ -23,7 +26,7 @@ const USAGE: &[u8; 6] = b"usage\n";
 
 /// Does what the words of the command line say, over the objects of the outside that it is lent, and answers the
 /// status: 2 exactly where the words are no command line; else 4 at want of memory; else 3 exactly where a count of
-/// faults rose; else 1 exactly where the input was refused, or `tag` found something wrong; else 0, and then the input was read
+/// faults rose; else 1 exactly where the input was refused, or something is wrong with what it tells; else 0, and then the input was read
 /// to its end.
 pub fn run_plain<S: Source, K: Sink, F: Files>(
     alloc: Global,
@@ -57,11 +60,33 @@ pub fn run_plain<S: Source, K: Sink, F: Files>(
     // Where the word is `tag`, likewise by the rules of `TagTells`, of which one fits.
     ensures tag { result ≢ 3 → result ≢ 4
         → IsTag (map (λ word. word.now) words.now)
-        → IfSome (S.left input.old) (λ octets. (told : Printed) × TagPrints octets told
+        → IfSome (S.left input.old) (λ octets. (told : Printed)
+        × IsTold TAG_OCTETS (TagTells false (F.contents files.old)) octets told
         × Prints told (S.left input.new) (K.written output.old) (K.written output.new) result) }
     ensures tag_front { IsTag (map (λ word. word.now) words.now)
         → IfSome (S.left input.old) (λ octets.
-        TagPrintsFront octets (K.written output.old) (K.written output.new)) }
+        PrintsFront TAG_OCTETS (TagTells false (F.contents files.old)) octets
+        (K.written output.old) (K.written output.new)) }
+
+    // Where the words are `tag verify`, with the verdicts on what the files hold, where they tell that.
+    ensures tag_verify { result ≢ 3 → result ≢ 4
+        → IsTagVerify (map (λ word. word.now) words.now)
+        → IfSome (S.left input.old) (λ octets. (told : Printed)
+        × IsTold TAG_OCTETS (TagTells true (F.contents files.old)) octets told
+        × Prints told (S.left input.new) (K.written output.old) (K.written output.new) result) }
+    ensures tag_verify_front { IsTagVerify (map (λ word. word.now) words.now)
+        → IfSome (S.left input.old) (λ octets.
+        PrintsFront TAG_OCTETS (TagTells true (F.contents files.old)) octets
+        (K.written output.old) (K.written output.new)) }
+
+    // Where the word is `links`, likewise by `LinksTells`, which one text fits.
+    ensures links { result ≢ 3 → result ≢ 4
+        → IsLinks (map (λ word. word.now) words.now)
+        → IfSome (S.left input.old) (λ octets. (told : Printed) × IsTold LIST_OCTETS LinksTells octets told
+        × Prints told (S.left input.new) (K.written output.old) (K.written output.new) result) }
+    ensures links_front { IsLinks (map (λ word. word.now) words.now)
+        → IfSome (S.left input.old) (λ octets.
+        PrintsFront LIST_OCTETS LinksTells octets (K.written output.old) (K.written output.new)) }
 
     // At status 0 what `mirror` printed ends with a mirror that is right over each honest history from which the reports answer.
     ensures right { result ≡ 0 → (kind : KindValue)
@@ -73,15 +98,22 @@ pub fn run_plain<S: Source, K: Sink, F: Files>(
     // Status 3 tells a fault, no other status hides one, and no count falls.
     ensures fault { result ≡ 3
         → Rose (S.faults input.old) (S.faults input.new)
-        ⊎ Rose (K.faults output.old) (K.faults output.new) }
+        ⊎ Rose (K.faults output.old) (K.faults output.new)
+        ⊎ (IsTagVerify (map (λ word. word.now) words.now)
+        × Rose (F.faults files.old) (F.faults files.new)) }
     ensures no_input_fault { result ≢ 3 → S.faults input.new ≡ S.faults input.old }
     ensures no_output_fault { result ≢ 2 → result ≢ 3
         → K.faults output.new ≡ K.faults output.old }
+    ensures no_files_fault { result ≢ 3 → F.faults files.new ≡ F.faults files.old }
     ensures input_count { S.faults input.old ≤ S.faults input.new }
     ensures output_count { K.faults output.old ≤ K.faults output.new }
 
+    ensures files_count { F.faults files.old ≤ F.faults files.new }
+
     ensures status { result ≤ 4 }
-    ensures files { files.new ≡ files.old }
+    // Files are left as they are, and nothing but `tag verify` looks at them.
+    ensures contents { F.contents files.new ≡ F.contents files.old }
+    ensures files { ¬ IsTagVerify (map (λ word. word.now) words.now) → files.new ≡ files.old }
 {
     match command_of(words) {
         None => {
@@ -89,7 +121,10 @@ pub fn run_plain<S: Source, K: Sink, F: Files>(
             2
         }
         Some(Command::Mirror(kind)) => status(mirror(alloc, kind, input, output)),
-        Some(Command::Tag) => status(tag(alloc, input, output)),
+        Some(Command::Tag { looks_at_files }) => {
+            status(tag(alloc, looks_at_files, input, output, files))
+        }
+        Some(Command::Links) => status(links(alloc, input, output)),
     }
 }
 

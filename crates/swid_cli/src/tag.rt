@@ -1,99 +1,154 @@
-//! The command `tag`.
+//! The commands `tag` and `tag verify`.
 
-ghost use Rattle.std.specs.Prelude.{◌≡◌, ◌≤◌, IfOk, IfSome, length};
+ghost use Rattle.std.specs.Prelude.{◌≡◌, ◌≤◌, true, false, IfOk, IfSome, length};
+ghost use Rattle.std.specs.Bool.{OnTrue};
 ghost use Rattle.cbor_det.specs.Term.{depth};
 ghost use Rattle.coswid_codec.specs.Answers.{BeginsTag};
 ghost use Rattle.coswid_codec.specs.Items.{tag_item};
-ghost use Rattle.swid_cli.specs.Causes.{HasCauses};
-ghost use Rattle.swid_cli.specs.Tagging.{TAG_OCTETS, TagRan, TagTells, tag_ending};
+ghost use Rattle.coswid_tag.specs.Findings.{findings};
+ghost use Rattle.swid_cli.specs.Causes.{HasFilesCauses};
+ghost use Rattle.swid_cli.specs.Checking.{TagVerdicts, checked_ending, checked_text};
+ghost use Rattle.swid_cli.specs.Tagging.{TAG_OCTETS, TagTells};
+ghost use Rattle.swid_cli.specs.Telling.{RanTelling};
+ghost use Rattle.wire_base.specs.Outside.{HasCause};
+ghost use Rattle.wire_base.specs.Passing.{is_fault};
 
+use crate::answer::{Answer, beyond_limit, ending_of, refused};
 use crate::step::Ending;
 use crate::tag_line::form_line;
 use crate::text::{fault_line, refusal};
-use coswid_codec::{TagRefused, read_tag, tag_text};
+use crate::verdict_line::{has_wrong, push_files};
+use coswid_codec::{TagRefused, put_canonical, put_summary, read_tag};
+use coswid_res::{Verdict, Verdicts, VerifyRefused, verify};
 use coswid_tag::{Tag, constraints};
 use std::alloc::Global;
-use wire_base::{List, Memory, Octets, Sink, Source, Stopped, fill, write_all};
+use wire_base::{Files, List, Memory, Sink, Source, Stopped, Text, fill, write_all};
 
 /// The most octets of the input.
 const MOST_TAG_OCTETS: usize = 8_388_608;
 
-/// A text, and how the output ends with it.
-#[derive(Debug, Drop)]
-struct Answer {
-    /// What is printed.
-    text: Octets,
-    /// How it ends.
-    ending: Ending,
-}
-
-/// Reads one tag, to the end of the input, and prints its text, or why there is none.
-pub fn tag<S: Source, K: Sink>(
+/// Reads one tag, to the end of the input, and prints its text, or why there is none. Where `looks_at_files`, the text has a
+/// verdict on each file of its payload.
+pub fn tag<S: Source, K: Sink, F: Files>(
     alloc: Global,
+    looks_at_files: bool,
     input: &mut S,
     output: &mut K,
+    files: &mut F,
 ) -> Result<Ending, Stopped>
     ensures printed { IfSome (S.left input.old) (λ octets.
-        TagRan octets (S.left input.new) (K.written output.old) (K.written output.new) result) }
-    ensures causes { HasCauses (S.faults input.old) (S.faults input.new)
-        (K.faults output.old) (K.faults output.new) result }
+        RanTelling TAG_OCTETS (TagTells looks_at_files (F.contents files.old)) octets
+        (S.left input.new) (K.written output.old) (K.written output.new) result) }
+    ensures causes { HasFilesCauses looks_at_files (S.faults input.old) (S.faults input.new)
+        (K.faults output.old) (K.faults output.new) (F.faults files.old) (F.faults files.new) result }
+    ensures contents { F.contents files.new ≡ F.contents files.old }
+    ensures files { looks_at_files ≡ false → files.new ≡ files.old }
 {
     let mut held = List::new(alloc);
     fill(input, &mut held, MOST_TAG_OCTETS + 1)?;
-    let answer = answer_to(alloc, held.as_slice())?;
+    let answer = answer_to(alloc, looks_at_files, held.as_slice(), files)?;
     write_all(output, answer.text.as_slice())?;
     Ok(answer.ending)
 }
 
 /// What is printed of the octets of an input, of which one more than it may have are looked at.
-fn answer_to(alloc: Global, octets: &[u8]) -> Result<Answer, Memory>
-    ensures told { IfOk result (λ made. TagTells octets.now made.text made.ending) }
+fn answer_to<F: Files>(
+    alloc: Global,
+    looks_at_files: bool,
+    octets: &[u8],
+    files: &mut F,
+) -> Result<Answer, Stopped>
+    ensures told { IfOk result (λ made. TagTells looks_at_files (F.contents files.old) octets.now made.text made.ending) }
+    ensures contents { F.contents files.new ≡ F.contents files.old }
+    ensures files { looks_at_files ≡ false → files.new ≡ files.old }
+    ensures cause { HasCause (F.faults files.old) (F.faults files.new) (is_fault result) }
+    ensures looked { OnTrue (is_fault result) (looks_at_files ≡ true) }
 {
     if MOST_TAG_OCTETS < octets.len() {
-        return Ok(refused(refusal(alloc, "limit", MOST_TAG_OCTETS as u64)?));
+        return Ok(beyond_limit(alloc, MOST_TAG_OCTETS)?);
     }
     match read_tag(alloc, octets) {
-        Ok((tag, used)) => answer_to_tag(alloc, octets, &tag, used),
+        Ok((tag, used)) => answer_to_tag(alloc, looks_at_files, octets, &tag, used, files),
         Err(TagRefused::Cbor(fault)) => {
             Ok(refused(fault_line(alloc, fault.kind as u32, fault.at)?))
         }
         Err(TagRefused::Form(fault)) => Ok(refused(form_line(alloc, &fault)?)),
-        Err(TagRefused::Memory) => Err(Memory),
+        Err(TagRefused::Memory) => Err(Stopped::Memory),
     }
 }
 
 /// What is printed of octets that begin with a tag of `used` octets.
-fn answer_to_tag(alloc: Global, octets: &[u8], tag: &Tag, used: usize) -> Result<Answer, Memory>
+fn answer_to_tag<F: Files>(
+    alloc: Global,
+    looks_at_files: bool,
+    octets: &[u8],
+    tag: &Tag,
+    used: usize,
+    files: &mut F,
+) -> Result<Answer, Stopped>
     requires within { length octets.now ≤ TAG_OCTETS }
     requires begins { BeginsTag octets.now tag.now used }
     requires shallow { depth (tag_item tag.now) ≤ 64 }
-    ensures told { IfOk result (λ made. TagTells octets.now made.text made.ending) }
+    ensures told { IfOk result (λ made. TagTells looks_at_files (F.contents files.old) octets.now made.text made.ending) }
+    ensures contents { F.contents files.new ≡ F.contents files.old }
+    ensures files { looks_at_files ≡ false → files.new ≡ files.old }
+    ensures cause { HasCause (F.faults files.old) (F.faults files.new) (is_fault result) }
+    ensures looked { OnTrue (is_fault result) (looks_at_files ≡ true) }
 {
     if used < octets.len() {
         return Ok(refused(refusal(alloc, "trailing", used as u64)?));
     }
-    let text = tag_text(alloc, tag)?;
+    let verdicts = verdicts_on(alloc, looks_at_files, tag, files)?;
+    Ok(checked(alloc, tag, verdicts.as_slice())?)
+}
+
+/// The verdicts on the files of a tag's payload; none where files are not looked at, or there is no payload.
+fn verdicts_on<F: Files>(
+    alloc: Global,
+    looks_at_files: bool,
+    tag: &Tag,
+    files: &mut F,
+) -> Result<Verdicts, Stopped>
+    ensures verdicts { IfOk result (TagVerdicts looks_at_files (F.contents files.old) tag.now) }
+    ensures contents { F.contents files.new ≡ F.contents files.old }
+    ensures files { looks_at_files ≡ false → files.new ≡ files.old }
+    ensures cause { HasCause (F.faults files.old) (F.faults files.new) (is_fault result) }
+    ensures looked { OnTrue (is_fault result) (looks_at_files ≡ true) }
+{
+    if !looks_at_files {
+        return Ok(List::new(alloc));
+    }
+    let Some(payload) = &tag.payload else {
+        return Ok(List::new(alloc));
+    };
+    match verify(alloc, payload, files) {
+        Ok(verdicts) => Ok(verdicts),
+        Err(VerifyRefused::FileFault { .. }) => Err(Stopped::Fault),
+        Err(VerifyRefused::Memory) => Err(Stopped::Memory),
+    }
+}
+
+/// What is printed of a tag with these verdicts.
+fn checked(alloc: Global, tag: &Tag, verdicts: &[(Text, Verdict)]) -> Result<Answer, Memory>
+    requires shallow { depth (tag_item tag.now) ≤ 64 }
+    ensures text { IfOk result (λ made. made.text ≡ checked_text tag.now verdicts.now) }
+    ensures ending { IfOk result (λ made. made.ending ≡ checked_ending (findings tag.now) verdicts.now) }
+{
+    let mut text = List::new(alloc);
+    put_summary(alloc, &mut text, tag)?;
+    push_files(alloc, &mut text, verdicts)?;
+    put_canonical(alloc, &mut text, tag)?;
     let found = constraints(alloc, tag)?;
-    let ending = tag_ending(found.as_slice());
+    let ending = checked_ending(found.as_slice(), verdicts);
     Ok(Answer { text, ending })
 }
 
-/// How the text of a tag with these findings ends.
-fn tag_ending(found: &[u8]) -> Ending
-    ensures ending { result ≡ tag_ending found.now }
+/// How the text of a tag with these findings and verdicts ends.
+fn checked_ending(found: &[u8], verdicts: &[(Text, Verdict)]) -> Ending
+    ensures ending { result ≡ checked_ending found.now verdicts.now }
 {
-    if found.is_empty() {
-        return Ending::Whole;
+    if has_wrong(verdicts) {
+        return Ending::Findings;
     }
-    Ending::Findings
-}
-
-/// The answer to an input that is refused.
-fn refused(text: Octets) -> Answer
-    ensures refused { result ≡ record { text = text; ending = Ending.Refused } }
-{
-    Answer {
-        text,
-        ending: Ending::Refused,
-    }
+    ending_of(found)
 }

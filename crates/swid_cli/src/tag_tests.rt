@@ -125,9 +125,9 @@ const REFUSED: [Row; 11] = [
         output: "form 2 2/0/33\n",
         status: 1,
     },
-    // A payload.
+    // A payload that is a number.
     Row {
-        input: "a500616101616202a2181f616318210206a00c00",
+        input: "a500616101616202a2181f616318210206000c00",
         output: "form 2 6\n",
         status: 1,
     },
