@@ -390,7 +390,7 @@ fn refuses_other_words(rt: HostRuntime) -> Result<(), Fail> {
         &[],
         &["mirror"],
         &["tag", "all"],
-        &["tag", "verify"],
+        &["tag", "verify", "all"],
         &["tags"],
         &["mirror", "tags"],
         &["make", "39"],
