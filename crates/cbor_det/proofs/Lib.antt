@@ -26,3 +26,4 @@ pub mod Others
 pub mod Puts
 pub mod Integers
 pub mod Rising
+pub mod Orders

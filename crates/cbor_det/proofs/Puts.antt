@@ -1,5 +1,5 @@
 -- A pair put before the first whose key is not below its own.
-use Rattle.std.proofs.Common.{◌≡◌, ℕ, suc, List, [], ◌∷◌, Bool, true, false, refl, ap, ◌∙◌, sym, if◌then◌else◌, OnOk, Result, Ok, Err}
+use Rattle.std.proofs.Common.{◌≡◌, ℕ, suc, List, [], ◌∷◌, Bool, true, false, refl, ap, ◌∙◌, sym, if◌then◌else◌, OnErr, OnOk, Result, Ok, Err}
 use Rattle.std.specs.List.{insert}
 use Rattle.cbor_det.specs.declared.item.Item.{Item}
 use Rattle.cbor_det.specs.declared.item.Item.TheViews.{roll-Pairs, roll-Pair}
@@ -47,3 +47,9 @@ module _ (before : code.Pairs) (ys xs : List Pair) (place : ℕ) (key value held
       → OnOk r (pairs_view (roll-Pairs (record { pairs = ys })) ≡ put (view key) (view value) (pairs_view before))
   pair_put (Ok t) is = placed is
   pair_put (Err e) is = tt
+
+-- Where the pair was not put in, the pairs are as they were.
+pub pairs_kept : {T E : Type 0} (before : code.Pairs) (ys : List Pair) (r : Result T E) → OnErr r (ys ≡ (out-Pairs before).pairs)
+    → OnErr r (pairs_view (roll-Pairs (record { pairs = ys })) ≡ pairs_view before)
+pairs_kept before ys (Ok t) is = tt
+pairs_kept before ys (Err e) is = made_pairs ys ∙ ap (λ (zs : List Pair). listed zs) is ∙ sym (view_pairs before)

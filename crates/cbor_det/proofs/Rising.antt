@@ -4,7 +4,7 @@ use Rattle.std.specs.Prelude.{Result, Ok, Err}
 use Rattle.std.specs.Result.{OnOk, OnErr}
 use Rattle.std.specs.Option.{option_map, is_some}
 use Rattle.std.proofs.lemmas.Bool.{both_ways}
-use Rattle.std.specs.Prelude.{IfOk}
+use Rattle.std.specs.Bool.{OnTrue}
 use Rattle.std.proofs.lemmas.List.{take_all, length-map}
 use Rattle.std.specs.Ordering.{match_ordering}
 use Rattle.std.specs.declared.cmp.Ordering.{Ordering}
@@ -84,11 +84,11 @@ module _ (xs ys : List Pair) (key : Option Item) (k v : Item) (some : key ≡ So
       subst P (sym none) (subst Q (sym err) parts.0)
 
 -- A key is admitted where it is above the last.
-pub admitted : {E : Type 0} (r : Result Bool E) (xs : List Pair) (x : Pair) (key : Option Item) (k : Term) → 0 < length xs → x ≡ get_or xs (length xs - 1) x → RisesTo (listed xs) (option_map view key)
-    → is_some key ≡ false → IfOk r (λ above. above ≡ is_above k (key_of x)) → IfOk r (λ admits. admits ≡ true → MayCome (listed xs) (option_map view key) k)
-admitted (Ok b) xs x None k some at rises none test = λ so. above_last k xs (length xs - 1) x (omega arith) at (sym test ∙ so) rises
-admitted (Ok b) xs x (Some i) k some at rises none test = absurd (both_ways true none refl)
-admitted (Err e) xs x key k some at rises none test = tt
+pub admitted : (b : Bool) (xs : List Pair) (x : Pair) (key : Option Item) (k : Term) → 0 < length xs → x ≡ get_or xs (length xs - 1) x → RisesTo (listed xs) (option_map view key)
+    → is_some key ≡ false → OnTrue b (is_above k (key_of x) ≡ true) → OnTrue b (MayCome (listed xs) (option_map view key) k)
+admitted false xs x key k some at rises none test = tt
+admitted true xs x None k some at rises none test = above_last k xs (length xs - 1) x (omega arith) at test rises
+admitted true xs x (Some i) k some at rises none test = absurd (both_ways true none refl)
 
 -- an ordered map takes a key
 module _ {A : Type 0} (f : A → Term) (ps : Pairs) (t : Term) where

@@ -1,5 +1,6 @@
 -- What a feed has taken, and what it answers for a piece.
-use Rattle.std.specs.Prelude.{◌<◌, ◌≤◌, ◌+◌, ℕ, List, [], ◌++◌, length}
+use Rattle.std.specs.Prelude.{◌≡◌, ◌<◌, ◌≤◌, ◌+◌, ℕ, List, [], ◌++◌, length}
+use Rattle.cbor_det.specs.declared.fault.CborFault.{CborFault}
 use Rattle.cbor_det.specs.declared.feed.CborFeed.{CborFeed}
 use Rattle.cbor_det.specs.declared.feed.CborFed.{CborFed}
 use Rattle.cbor_det.specs.declared.feed.CborFed.TheVariants as fed
@@ -16,7 +17,7 @@ limits_of feed = feed.limits
 abbrev pub HasTakenAt : Progress → CborFeed → List ℕ → Type 0
 HasTakenAt (progress.Reading reading) feed before = Stands feed.limits feed.stack.items reading.phase feed.taken before
 HasTakenAt (progress.Failed f) feed before = IsFault feed.limits before f.kind f.at
-HasTakenAt progress.OutOfMemory feed before = Unit {0}
+HasTakenAt progress.OutOfMemory feed before = ⊥
 
 -- The feed has taken these octets of its item, or has answered the fault that they show.
 abbrev pub HasTaken : CborFeed → List ℕ → Type 0
@@ -31,13 +32,18 @@ IsSpentAt (progress.Failed f) = ⊥
 abbrev pub IsSpent : CborFeed → Type 0
 IsSpent feed = IsSpentAt feed.progress
 
+-- The feed has answered this fault.
+abbrev pub HasFailed : CborFeed → CborFault → Type 0
+HasFailed feed f = feed.progress ≡ progress.Failed f
+
 -- The answer for a piece behind octets that were taken, and the feed afterwards: More exactly where the joined octets are
 -- neither an item nor a fault, and behind an item the next one begins.
 abbrev pub IsFed : Limits → List ℕ → List ℕ → CborFed → CborFeed → Type 0
 IsFed limits before piece fed.More new = IsCut limits (before ++ piece) × HasTaken new (before ++ piece)
 IsFed limits before piece (fed.Done item used) new =
     Begins limits (before ++ piece) (view item) (length before + used) × (0 < used) × (used ≤ length piece) × HasTaken new []
-IsFed limits before piece (fed.Fault f) new = IsFault limits (before ++ piece) f.kind f.at × HasTaken new (before ++ piece)
+IsFed limits before piece (fed.Fault f) new =
+    IsFault limits (before ++ piece) f.kind f.at × HasTaken new (before ++ piece) × HasFailed new f
 IsFed limits before piece fed.Memory new = IsSpent new
 
 abbrev pub IsMemory : CborFed → Type 0

@@ -1,16 +1,35 @@
 -- Laws of spellings, faults and canonical spellings.
-use Rattle.std.specs.Prelude.{◌≡◌, ◌<◌, ◌≤◌, ◌⊎◌, ℕ, ◌^◌, List, ◌++◌, length}
+use Rattle.std.specs.Prelude.{◌≡◌, ◌<◌, ◌≤◌, ◌⊎◌, ℕ, ◌^◌, List, [], ◌∷◌, ◌++◌, length}
+use Rattle.std.specs.List.Sorted.{IsPermutation}
 use Rattle.wire_base.specs.Layout.{AreOctets}
 use Rattle.cbor_det.specs.declared.limits.Limits.{Limits}
-use Rattle.cbor_det.specs.Term.{Term, depth}
+use Rattle.cbor_det.specs.Term.{Term, Pairs, depth}
 use Rattle.cbor_det.specs.Canonical.{canon}
-use Rattle.cbor_det.specs.Spelling.{Spelling}
+use Rattle.cbor_det.specs.Spelling.{Spelling, PairSeries}
 use Rattle.cbor_det.specs.Faults.{Begins, IsFault, IsCut}
 use Rattle.cbor_det.specs.Proper.{IsProper}
 
 -- A spelling is of one item, and begins no other spelling.
 abbrev pub OneItem : Type 0
 OneItem = (t u : Term) (o q x y : List ℕ) → Spelling t o → Spelling u q → o ++ x ≡ q ++ y → (t ≡ u) × (x ≡ y)
+
+-- A member of a map, as it comes: a spelling of its key, and behind it one of its value.
+pub record Member : Type 0 where
+  pub key : Term
+  pub value : Term
+  pub key_octets : List ℕ
+  pub value_octets : List ℕ
+  pub key_spelled : Spelling key key_octets
+  pub value_spelled : Spelling value value_octets
+
+-- members one after another
+abbrev pub joined : List Member → List ℕ
+joined [] = []
+joined (m ∷ ms) = (m.key_octets ++ m.value_octets) ++ joined ms
+
+-- The order in which the members of a map come does not matter: in each other order they spell the same pairs.
+abbrev pub OrderIsFree : Type 0
+OrderIsFree = (ps : Pairs) (ms ns : List Member) → IsPermutation ms ns → PairSeries ps (joined ms) → PairSeries ps (joined ns)
 
 -- What has a spelling is proper, and has its canonical spelling.
 abbrev pub SpelledIsProper : Type 0

@@ -1,4 +1,4 @@
--- Proper items, and the octets that are the canonical spelling of one.
+-- Proper items, and the octets that are the canonical spelling of one (RFC 8949).
 use Rattle.std.specs.Prelude.{◌≡◌, ◌<◌, ℕ, ◌^◌, pos, negsuc, List, length}
 use Rattle.std.specs.Str.{IsUtf8}
 use Rattle.cbor_det.specs.Term.{Term, Terms, Pairs, integer, octets, text, array, map, tagged, boolean, no_terms, term, no_pairs, pair}
@@ -7,8 +7,9 @@ use Rattle.cbor_det.specs.Spelling.{Rises}
 use Rattle.cbor_det.specs.Faults.{Begins}
 use Rattle.cbor_det.specs.declared.limits.Limits.{Limits}
 
--- Integers of 64 bits with a sign, texts of UTF-8, tag numbers of 64 bits, and maps whose keys rise strictly in bytewise
--- order of their canonical spellings, so that no two keys are one.
+-- Integers of 64 bits with a sign (of those of section 3.1), texts of UTF-8 (sections 3.1 and 5.3.1), tag numbers of 64 bits
+-- (section 3.4), and maps whose keys rise strictly in bytewise order of their canonical spellings (section 4.2.1), so that no two
+-- keys are one (sections 5.3.1 and 5.6).
 abbrev mutual
   pub IsProper : Term → Type 0
   IsProper (integer (pos n)) = n < 2 ^ 63
@@ -32,12 +33,12 @@ abbrev mutual
 abbrev pub IsProperMap : Pairs → Type 0
 IsProperMap ps = IsProper (map ps)
 
--- These octets are one item and nothing more, spelled as it is written.
+-- These octets are one item and nothing more, spelled as it is written (section 4.2.1).
 pub record IsCanonical (limits : Limits) (input : List ℕ) : Type 0 where
   pub item : Term
   pub whole : Begins limits input item (length input)
   pub is : input ≡ canon item
 
--- the largest limits
+-- the largest limits (our own)
 abbrev pub largest : Limits
 largest = record { octets = 16777216; depth = 64 }

@@ -3,6 +3,8 @@
 ghost use Rattle.std.specs.Prelude.{◌≡◌, ◌≤◌, ◌^◌, ℕ, List, []};
 ghost use Rattle.cbor_det.specs.Frames.{Fits};
 ghost use Rattle.cbor_det.specs.Pieces.{fits_prop};
+ghost use Rattle.cbor_det.specs.declared.fault.CborFault.{CborFault};
+ghost use Rattle.cbor_det.specs.declared.feed.CborFed.TheVariants as fed;
 
 use crate::fault::CborFault;
 use crate::frame::{Frame, Phase};
@@ -56,7 +58,7 @@ pub struct CborFeed {
 
 impl CborFeed {
     ghost use Rattle.cbor_det.specs.Pieces.{Stands};
-    ghost use Rattle.cbor_det.specs.Feeding.{HasTaken, IsFed, IsMemory, IsSpent, limits_of};
+    ghost use Rattle.cbor_det.specs.Feeding.{HasFailed, HasTaken, IsFed, IsMemory, IsSpent, limits_of};
 
     /// A feed of items within the limits. It takes no memory.
     pub fn new(alloc: Global, limits: Limits) -> Self
@@ -77,6 +79,7 @@ impl CborFeed {
     /// pieces were.
     pub fn feed(&mut self, piece: &[u8]) -> CborFed
         ensures fed { (before : List ℕ) → HasTaken self.old before → IsFed (limits_of self.old) before piece.now result self.new }
+        ensures stays { (f : CborFault) → HasFailed self.old f → (result ≡ fed.Fault f) × HasFailed self.new f }
         ensures spent { IsSpent self.old → IsMemory result × IsSpent self.new }
         ensures limits { limits_of self.new ≡ limits_of self.old }
     {
@@ -110,7 +113,10 @@ impl CborFeed {
             piece,
         );
         match read {
-            Err(_) => CborFed::Memory,
+            Err(_) => {
+                self.stack.clear();
+                CborFed::Memory
+            }
             Ok(came) => match came {
                 Came::More(phase, taken) => {
                     self.taken = taken;
@@ -123,9 +129,10 @@ impl CborFeed {
                     self.progress = Progress::Reading(Reading { phase: Phase::Due });
                     CborFed::Done(item, used)
                 }
-                Came::Fault(fault) => {
-                    self.progress = Progress::Failed(fault);
-                    CborFed::Fault(fault)
+                Came::Fault(found) => {
+                    self.stack.clear();
+                    self.progress = Progress::Failed(found);
+                    CborFed::Fault(found)
                 }
             },
         }

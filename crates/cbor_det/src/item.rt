@@ -56,7 +56,7 @@ impl TryCopy for Pairs {
     }
 }
 
-/// A copy of the item, whose depth is at most 64: so deep it calls itself.
+/// A copy of the item. It calls itself as deep as the item is: what is read is at most 64 deep.
 #[cycle(copy)]
 fn copy_item(item: &Item) -> Result<Item, Memory>
     ensures equal { IfOk result (λ made. made ≡ item.now) }

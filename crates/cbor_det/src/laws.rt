@@ -1,10 +1,15 @@
 //! Laws of spellings, faults and canonical spellings. The functions do nothing: their contracts are the laws.
 
-ghost use Rattle.cbor_det.specs.Laws.{OneItem, SpelledIsProper, SpelledIsWritten, ProperIsWritten, OneCanonical, WrittenIsRead, ItemIsOne, FaultIsOne, NotBoth, EachHasOutcome};
+ghost use Rattle.cbor_det.specs.Laws.{OneItem, OrderIsFree, SpelledIsProper, SpelledIsWritten, ProperIsWritten, OneCanonical, WrittenIsRead, ItemIsOne, FaultIsOne, NotBoth, EachHasOutcome};
 
 /// A spelling is of one item, and begins no other spelling.
 pub fn spelling_is_of_one_item()
     ensures one { OneItem }
+{}
+
+/// The order in which the members of a map come does not matter.
+pub fn members_come_in_any_order()
+    ensures order { OrderIsFree }
 {}
 
 /// What has a spelling is proper, and has its canonical spelling.

@@ -1,10 +1,15 @@
 //! Items of the Concise Binary Object Representation (CBOR, RFC 8949): a reader and a feed that take any spelling of an
 //! item within limits, and a writer of the one canonical spelling (core deterministic encoding, section 4.2.1).
 //!
-//! It stands on `wire_base`, and on `thiserror` for the texts of errors. The crates above rest on `found`, `refused`,
-//! `only` and `fault` of `read_item`, on `fed` of `CborFeed::feed`, on `canonical` of `write_item`, on `added` and `proper` of
-//! `Pairs::add`, on `equal` of the copies of items and pairs, and on `laws`. The words of these clauses are in `specs/`:
-//! `Term`, `Canonical`, `Spelling`, `Faults`, `Proper`, `Adding`, `View`. `Machine` and `Frames` are the private means of proof.
+//! It stands on `wire_base`, and on `thiserror` for the texts of errors. The crates above rest on `found` and `refused` of
+//! `read_item`, on `canonical` of `write_item`, on `empty`, `put`, `value`, `others`, `len` and `key` of the methods of `Pairs`, on
+//! `equal` of the copies of items and pairs, and on `laws`. `CborFeed` (`fed`, `stays`, `spent`), `is_canonical` and `Pairs::add`
+//! (`added`, `proper`) are there for other callers.
+//!
+//! The words of these clauses are in `specs/`: `Term` and `View` (items), `Canonical`, `Spelling` and `Proper`, `Faults`, `Answers`
+//! (of a reader), `Feeding` (of a feed), `Lookup` and `Adding` (of pairs), `Laws`. The others are the private means of proof: where
+//! a feed stands (`Pieces`) is told by the machine of `Machine` and `Frames`, which the laws in `proofs/` tie to `Spelling` and
+//! `Faults`.
 #![tactic(auto)]
 
 mod begin;

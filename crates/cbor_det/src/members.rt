@@ -1,6 +1,7 @@
 //! The pairs of a map that is still read.
 
-ghost use Rattle.std.specs.Prelude.{◌≡◌, true, false, IfOk, OnOk, None, map};
+ghost use Rattle.std.specs.Bool.{OnTrue, OnFalse};
+ghost use Rattle.std.specs.Prelude.{◌≡◌, true, IfOk, OnOk, None, map};
 ghost use Rattle.std.specs.Option.{option_map, is_none};
 ghost use Rattle.cbor_det.specs.Canonical.{canon};
 ghost use Rattle.cbor_det.specs.Machine.{insert};
@@ -11,7 +12,7 @@ ghost use Rattle.cbor_det.specs.View.{view, pairs_view, listed};
 
 use crate::give::is_full;
 use crate::item::{Item, Pair, Pairs};
-use crate::key_order::is_above;
+use crate::key_order::is_integer_above;
 use crate::write::spell;
 use std::alloc::Global;
 use std::collections::BTreeMap;
@@ -51,7 +52,8 @@ impl Key {
     }
 }
 
-/// Pairs whose keys came in rising order, and the key whose value is due.
+/// Pairs whose keys are integers that came in rising order, or one pair whose key is any item; and the key whose value is
+/// due. No key is spelled here.
 #[derive(Drop)]
 pub(crate) struct Rising {
     pairs: List<Pair>,
@@ -60,7 +62,7 @@ pub(crate) struct Rising {
 }
 
 /// Pairs whose keys came in any order, under their keys' canonical spellings, so that each key is found among n others in
-/// steps that grow with log n; and the key whose value is due.
+/// steps that grow with log n; and the key whose value is due. Each key was spelled once.
 #[derive(Drop)]
 pub(crate) struct Ordered {
     entries: BTreeMap<Vec<u8>, Pair>,
@@ -71,9 +73,9 @@ pub(crate) struct Ordered {
 /// The pairs of a map that is still read, in order of their keys' canonical spellings.
 #[derive(Drop)]
 pub(crate) enum Members {
-    /// As long as the keys rise, as they do in a canonical spelling.
+    /// As long as one key has come, or all are integers that rise, as they do in a canonical spelling.
     Rising(Rising),
-    /// From the first key on that does not.
+    /// From the first key on that is not so.
     Ordered(Ordered),
 }
 
@@ -89,17 +91,18 @@ impl Rising {
         }
     }
 
-    /// Whether the item is a value that is due, or a key above all that are held.
-    fn admits(&self, alloc: Global, item: &Item) -> Result<bool, Memory>
-        ensures admits { IfOk result (λ admits. admits ≡ true → MayCome (listed self.now.pairs) (option_map view self.now.key) (view item.now)) }
-        ensures key { IfOk result (λ admits. admits ≡ false → self.now.key ≡ None) }
+    /// Whether the item is a value that is due, the first key, or an integer above the last key, which is one too. Nothing is
+    /// spelled to tell.
+    fn admits(&self, item: &Item) -> bool
+        ensures admits { OnTrue result (MayCome (listed self.now.pairs) (option_map view self.now.key) (view item.now)) }
+        ensures key { OnFalse result (self.now.key ≡ None) }
     {
         if self.key.is_some() {
-            return Ok(true);
+            return true;
         }
         match self.pairs.as_slice().last() {
-            None => Ok(true),
-            Some(last) => is_above(alloc, item, &last.key),
+            None => true,
+            Some(last) => is_integer_above(item, &last.key),
         }
     }
 
@@ -198,17 +201,17 @@ impl Members {
         match self {
             Members::Ordered(ordered) => ordered.take(alloc, item),
             Members::Rising(rising) => {
-                if rising.admits(alloc, &item)? {
+                if rising.admits(&item) {
                     rising.take(item)?;
                     return Ok(true);
                 }
-                self.take_below(alloc, item)
+                self.take_spelled(alloc, item)
             }
         }
     }
 
-    /// Takes a key that is not above all that are held; false where it is held.
-    fn take_below(&mut self, alloc: Global, item: Item) -> Result<bool, Memory>
+    /// Takes a key, which is spelled, and so are those that came before it, if they were not; false where it is held.
+    fn take_spelled(&mut self, alloc: Global, item: Item) -> Result<bool, Memory>
         requires key { due_key self.old ≡ None }
         ensures taken { IfOk result
             (λ free. IsTaken (members_view self.old) (due_key self.old) (view item) free (members_view self.new) (due_key self.new)) }

@@ -1,6 +1,6 @@
 //! The pairs of a map, as a caller sees them.
 
-ghost use Rattle.std.specs.Prelude.{◌≡◌, ◌≤◌, IfOk, OnOk, length};
+ghost use Rattle.std.specs.Prelude.{◌≡◌, ◌≤◌, IfOk, OnErr, OnOk, length};
 ghost use Rattle.std.specs.Cmp.Lexicographic.{slice_cmp};
 ghost use Rattle.std.specs.Option.{option_map};
 ghost use Rattle.std.specs.Ordering.{nat_cmp};
@@ -112,8 +112,12 @@ impl Pairs {
 
     /// Puts a pair before the first whose key's canonical spelling is not below its own: among rising pairs that do not hold
     /// the key, at its place. It is looked for from the front. At `Memory` the pairs are as they were.
+    ///
+    /// It does not look whether the key is held: the caller sees to it that it is not. Where it is, the pairs hold it twice, and
+    /// are proper no more. `add` looks.
     pub fn put(&mut self, key: Item, value: Item) -> Result<(), Memory>
         ensures put { OnOk result (pairs_view self.new ≡ put (view key) (view value) (pairs_view self.old)) }
+        ensures kept { OnErr result (pairs_view self.new ≡ pairs_view self.old) }
     {
         let key = Key::new(self.pairs.allocator(), key)?;
         let place = front_length(self.pairs.allocator(), self.pairs.as_slice(), &key)?;

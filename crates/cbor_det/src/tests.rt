@@ -64,34 +64,51 @@ fn map_of(alloc: Global, head: &[u8], count: u32) -> Result<Vec<u8>, Fail> {
     Ok(octets)
 }
 
-/// How many octets the canonical spelling has, and whether it begins with these.
-fn written_front(alloc: Global, octets: &[u8], front: &[u8]) -> Result<(usize, bool), Fail> {
-    let (item, _) = read_item(alloc, octets, LARGEST)?;
+/// How many octets the canonical spelling of such a map has, and whether it begins with these.
+fn written_map(
+    alloc: Global,
+    head: &[u8],
+    count: u32,
+    front: &[u8],
+) -> Result<(usize, bool), Fail> {
+    let octets = map_of(alloc, head, count)?;
+    let (item, _) = read_item(alloc, octets.as_slice(), LARGEST)?;
     let written = write_item(alloc, &item)?;
     Ok((written.len(), written.as_slice().starts_with(front)))
 }
 
 #[test]
-fn reads_a_map_of_65535_pairs(rt: HostRuntime) -> Result<(), Fail> {
-    let octets = map_of(rt.alloc(), b"\xb9\xff\xff", 65_535)?;
+fn reads_maps_of_65535_pairs(rt: HostRuntime) -> Result<(), Fail> {
     let front = b"\xb9\xff\xff\x00\x00\x01\x00";
-    // The head of 3 octets, 24 keys of 1 octet, 232 of 2 and 65,279 of 3, and a value of 1 octet each.
-    assert_eq!(rt;
-        written_front(rt.alloc(), octets.as_slice(), front)?,
-        (261_863, true)
-    );
+    let heads: [&[u8]; 3] = [
+        b"\xb9\xff\xff",
+        b"\xba\x00\x00\xff\xff",
+        b"\xbb\x00\x00\x00\x00\x00\x00\xff\xff",
+    ];
+    for head in heads {
+        // The head of 3 octets, 24 keys of 1 octet, 232 of 2 and 65,279 of 3, and a value of 1 octet each.
+        assert_eq!(rt;
+            written_map(rt.alloc(), head, 65_535, front)?,
+            (261_863, true)
+        );
+    }
     Ok(())
 }
 
 #[test]
-fn reads_a_map_of_65536_pairs(rt: HostRuntime) -> Result<(), Fail> {
-    let octets = map_of(rt.alloc(), b"\xba\x00\x01\x00\x00", 65_536)?;
+fn reads_maps_of_65536_pairs(rt: HostRuntime) -> Result<(), Fail> {
     let front = b"\xba\x00\x01\x00\x00\x00\x00\x01\x00";
-    // The head of 5 octets, and one key of 3 octets more.
-    assert_eq!(rt;
-        written_front(rt.alloc(), octets.as_slice(), front)?,
-        (261_869, true)
-    );
+    let heads: [&[u8]; 2] = [
+        b"\xba\x00\x01\x00\x00",
+        b"\xbb\x00\x00\x00\x00\x00\x01\x00\x00",
+    ];
+    for head in heads {
+        // The head of 5 octets, and one key of 3 octets more.
+        assert_eq!(rt;
+            written_map(rt.alloc(), head, 65_536, front)?,
+            (261_869, true)
+        );
+    }
     Ok(())
 }
 
@@ -104,6 +121,7 @@ fn feeds_pieces(rt: HostRuntime) -> Result<(), Fail> {
     assert!(rt; matches!(feed.feed(b"\x82\x00"), CborFed::More));
     assert!(rt; is_float(&feed.feed(b"\xf9"), 2));
     assert!(rt; is_float(&feed.feed(b"\x00"), 2));
+    assert!(rt; is_float(&feed.feed(b"\xff\x00"), 2));
     Ok(())
 }
 

@@ -11,7 +11,8 @@ use std::alloc::Global;
 use wire_base::{List, Memory, Octets};
 
 /// The canonical spelling of the item: shortest arguments, definite lengths, and the pairs of maps in bytewise order of
-/// their keys' spellings, in which a proper item holds them. `Memory` where there is no room for it.
+/// their keys' spellings, in which a proper item holds them. The item is at most 64 deep, as what is read is. What is not proper is
+/// written in the order in which it holds its pairs. `Memory` where there is no room for the spelling.
 pub fn write_item(alloc: Global, item: &Item) -> Result<Octets, Memory>
     requires depth { depth (view item.now) ≤ 64 }
     ensures canonical { IfOk result (λ written. written ≡ canon (view item.now)) }
@@ -19,7 +20,7 @@ pub fn write_item(alloc: Global, item: &Item) -> Result<Octets, Memory>
     spell(alloc, item)
 }
 
-/// The canonical spelling of an item that is no deeper than a reader's limit.
+/// The canonical spelling of an item of any depth: it calls itself as deep as the item is.
 pub(crate) fn spell(alloc: Global, item: &Item) -> Result<Octets, Memory>
     ensures canonical { IfOk result (λ written. written ≡ canon (view item.now)) }
 {

@@ -10,4 +10,4 @@ returns-in-Some-clause-admits c =
     let last : Pair = c.in-Some.last.now in
     let P : List Pair → Type 0 = λ xs. (0 < length xs) × (last ≡ get_or xs (length xs - 1) last) in
     let there = subst P c.as_slice.ensures.items (c.in-Some.ensures.item.3.0, c.in-Some.ensures.item.1) in
-    admitted c.is_above.result c.args.self.now.pairs last c.args.self.now.key (view c.args.item.now) there.0 there.1 c.args.self.now.rises (sym c.is_some.ensures ∙ c.if-is_some.false) c.is_above.ensures.above
+    admitted c.is_integer_above.result c.args.self.now.pairs last c.args.self.now.key (view c.args.item.now) there.0 there.1 c.args.self.now.rises (sym c.is_some.ensures ∙ c.if-is_some.false) c.is_integer_above.ensures.above

@@ -1,7 +1,7 @@
 -- Integers of one sign.
 use Rattle.std.proofs.Common.{arith}
 use Rattle.cbor_det.proofs.Integers.{above_from_zero, above_below_zero}
-use Rattle.cbor_det.proofs.key_order.is_integer_above.Goals as goal
+use Rattle.cbor_det.proofs.key_order.is_number_above.Goals as goal
 
 pub returns-else-second-ge0 : goal.returns-else-second-ge0
 returns-else-second-ge0 c = record {
