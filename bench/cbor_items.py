@@ -7,15 +7,22 @@ One item of at most MIB times 1048576 octets, and the shapes are
 
     keys      a map from integers of 32 bits, in no order, to 0
     rising    the same, with the keys in order
+    texts     a map from texts of eight digits, in order, to 0
     fronts    a map from strings of 256 octets, of which all but the last four are the same in all keys, in no order, to 0
     maps      a map from maps of one pair, whose keys are 32 bits in no order, to 0
     array     an array of zeros
     chunks    a byte string of empty chunks
     deep      an array of arrays, maps, keys and tags in each other down to the depth of 64, in a mixture
-    keyed     an array of zeros as the key of a map that is the key of a map, and so on, down to the depth of 64
+    keyed     an array of zeros as a key of a map that is a key of a map, and so on, down to the depth of 64; in each map it stands
+              between the keys 0 and 1, so that all three are compared
 
 or, for the shapes `tags` and `links`, software identification tags (RFC 9393) one after another, each with 60 files or with 60
-links, of as many octets in all that no tag more finds room.
+links, of as many octets in all that no tag more finds room; or one tag of at most so many octets, and the shapes are
+
+    tag-extras       pairs under keys of its own of 32 bits, in no order
+    tag-files        a payload of files, each with its name, its size and its SHA-256
+    tag-directories  a payload of directories, each with 19 more in one another, and three files in the innermost
+    tag-deep         the mixture `deep` under a key of its own, down to the depth of 64 under the tag of tags
 """
 
 import random
@@ -23,6 +30,7 @@ import struct
 import sys
 
 DEEPEST = 64
+NESTED = 20  # directories in one another
 
 
 def head(major, argument):
@@ -48,13 +56,13 @@ def map_of(room, keys):
     return head(5, count) + b"".join(keys(index) + b"\0" for index in range(count))
 
 
-def deep(room):
-    """Items of the depth 63 in an array."""
+def deep(room, depth=DEEPEST):
+    """An array of this depth, of items that all go down to it."""
     chance = random.Random(1)
     parts, used = [], 2
     while True:
         front, back = b"", b""
-        for _ in range(DEEPEST - 2):
+        for _ in range(depth - 2):
             before, behind = chance.choice(
                 ((b"\x81", b""), (b"\x9f", b"\xff"), (b"\xc0", b""), (b"\xa1\0", b""), (b"\xa1", b"\0"), (b"\xbf\0", b"\xff"))
             )
@@ -67,14 +75,16 @@ def deep(room):
 
 
 def keyed(room):
+    front, back = b"\xa3\0\0", b"\0\1\0"
     levels = DEEPEST - 2
-    count = room - 2 * levels - 5
-    return b"\xa1" * levels + head(4, count) + bytes(count) + bytes(levels)
+    count = room - levels * len(front + back) - 5
+    return front * levels + head(4, count) + bytes(count) + back * levels
 
 
 SHAPES = {
     "keys": lambda room: map_of(room, lambda index: b"\x1a" + scattered(index)),
     "rising": lambda room: map_of(room, lambda index: b"\x1a" + struct.pack(">I", index + (1 << 20))),
+    "texts": lambda room: map_of(room, lambda index: b"\x68%08d" % index),
     "fronts": lambda room: map_of(room, lambda index: b"\x59\1\0" + bytes(252) + scattered(index)),
     "maps": lambda room: map_of(room, lambda index: b"\xa1\x44" + scattered(index) + b"\0"),
     "array": lambda room: head(4, room - 5) + bytes(room - 5),
@@ -122,6 +132,54 @@ def tag(chance, index, links, has_files):
         (13, text(f"{index % 7}.{index % 13}.{index % 101}")),
     ]
     return head(6, 1398229316) + head(5, len(fields)) + b"".join(head(0, key) + value for key, value in fields)
+
+
+def directory(chance, index):
+    """A directory in a directory and so on, and files in the innermost."""
+    held = head(5, 1) + head(0, 17) + head(4, 3) + b"".join(file_of(chance, 3 * index + place) for place in range(3))
+    for level in range(NESTED):
+        held = head(5, 2) + head(0, 24) + text(f"d{level}-{index:05d}") + head(0, 26) + held
+        if level + 1 < NESTED:
+            held = head(5, 1) + head(0, 16) + held
+    return held
+
+
+def filling(room, part):
+    """As many parts as find room, in an array of any number below 2 ** 32."""
+    parts, used = [], 5
+    while True:
+        made = part(len(parts))
+        if used + len(made) > room:
+            return b"\x9a" + struct.pack(">I", len(parts)) + b"".join(parts)
+        parts.append(made)
+        used += len(made)
+
+
+def payload_of(room, key, part):
+    """A payload with an array under one key, as a field of a tag."""
+    return b"\6" + head(5, 1) + head(0, key) + filling(room - 4, part)
+
+
+def extras(room):
+    """Pairs under keys of 32 bits. The lowest is above all that a tag lists."""
+    count = room // 6
+    return count, b"".join(b"\x1a" + struct.pack(">I", 1 << 31 | index * 2654435761 % (1 << 31)) + b"\0" for index in range(count))
+
+
+def one_tag(room, fields_of):
+    """A tag under the tag of tags, with what it must have and these fields, which are counted."""
+    before = b"\0\x61a\1\x61b\2" + head(5, 2) + head(0, 31) + b"\x61c" + head(0, 33) + b"\1" + b"\x0c\0"
+    count, fields = fields_of(room - len(before) - 10)
+    return head(6, 1398229316) + b"\xba" + struct.pack(">I", 4 + count) + before + fields
+
+
+ONE_TAG = {
+    "tag-extras": extras,
+    "tag-files": lambda room: (1, payload_of(room, 17, lambda index: file_of(random.Random(index), index))),
+    "tag-directories": lambda room: (1, payload_of(room, 16, lambda index: directory(random.Random(index), index))),
+    "tag-deep": lambda room: (1, head(0, 99) + deep(room - 2, DEEPEST - 2)),
+}
+TAGS |= {shape: lambda room, fields=fields: one_tag(room, fields) for shape, fields in ONE_TAG.items()}
 
 
 def tags(room, links, has_files):

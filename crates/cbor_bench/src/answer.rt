@@ -22,38 +22,42 @@ pub(crate) fn read_text(alloc: Global, limits: Limits, octets: &[u8]) -> Option<
     }
 }
 
-/// What a feed answers in pieces of the size, with `More` at the end of the octets as fault 1; `None` where memory is wanting.
-pub(crate) fn fed_text(alloc: Global, limits: Limits, octets: &[u8], size: usize) -> Option<String>
+/// What a feed answers to no octets and then to pieces of the size, with `More` at the end as fault 1, and how many octets
+/// it was fed until then; `None` where memory is wanting.
+pub(crate) fn fed_text(
+    alloc: Global,
+    limits: Limits,
+    octets: &[u8],
+    size: usize,
+) -> Option<(String, usize)>
     requires small { limits.octets ≤ 2 ^ 24 }
     requires shallow { limits.depth ≤ 64 }
     requires some { 0 < size }
 {
     let mut feed = CborFeed::new(alloc, limits);
+    match feed.feed(&[]) {
+        CborFed::More => {}
+        CborFed::Fault(fault) => return Some((fault_text(alloc, fault)?, 0)),
+        _ => return None,
+    }
     let mut taken: usize = 0;
     for piece in octets.chunks(size) {
+        let fed = taken.saturating_add(piece.len());
         match feed.feed(piece) {
-            CborFed::More => taken = taken.saturating_add(piece.len()),
-            CborFed::Done(item, used) => return item_text(alloc, &item, taken.saturating_add(used)),
-            CborFed::Fault(fault) => return fault_text(alloc, fault),
+            CborFed::More => taken = fed,
+            CborFed::Done(item, used) => {
+                let text = item_text(alloc, &item, taken.saturating_add(used))?;
+                return Some((text, fed));
+            }
+            CborFed::Fault(fault) => return Some((fault_text(alloc, fault)?, fed)),
             CborFed::Memory => return None,
         }
     }
-    end_text(alloc, &mut feed, octets.len())
-}
-
-/// What the feed answers to no more octets, behind `taken`.
-fn end_text(alloc: Global, feed: &mut CborFeed, taken: usize) -> Option<String> {
-    match feed.feed(&[]) {
-        CborFed::More => fault_text(
-            alloc,
-            CborFault {
-                kind: 1,
-                at: taken as u64,
-            },
-        ),
-        CborFed::Fault(fault) => fault_text(alloc, fault),
-        _ => None,
-    }
+    let cut = CborFault {
+        kind: 1,
+        at: octets.len() as u64,
+    };
+    Some((fault_text(alloc, cut)?, octets.len()))
 }
 
 /// The length of an item, and its canonical spelling: that of a copy.

@@ -1,4 +1,8 @@
 //! A table of worked rows: limits, octets, and the answer that is wanted.
+//!
+//! The answers were not made by this program. Two readers in another language, which have nothing of it, gave them and agreed:
+//! each was written from the table of faults in `docs/cbor.md` and takes one octet after another. How many octets show a fault
+//! was found by giving them the fronts of the row: it is the length of the shortest that is not cut short.
 
 ghost use Rattle.std.specs.Prelude.{◌≤◌, ◌^◌, IfSome};
 
@@ -14,6 +18,8 @@ struct Row<'a> {
     octets: Vec<u8>,
     /// `item LENGTH CANONICAL`, with the canonical spelling of the item in hexadecimal, or `fault KIND PLACE`.
     answer: &'a str,
+    /// The fewest octets that show a fault, in rows with one; of kind 1, which ends them, all.
+    after: Option<usize>,
     /// Whether the octets are a canonical spelling, in rows with the largest limits.
     canonical: bool,
     ghost small: { limits.octets ≤ 2 ^ 24 },
@@ -68,15 +74,25 @@ fn holds(alloc: Global, line: &str) -> Option<bool> {
         return Some(false);
     }
     for size in 1..4 {
-        if fed_text(alloc, row.limits, octets, size)?.as_str() != row.answer {
+        let (text, fed) = fed_text(alloc, row.limits, octets, size)?;
+        if text.as_str() != row.answer || !is_first(row.after, fed, size) {
             return Some(false);
         }
     }
     Some(row.limits != LARGEST || is_canonical(alloc, octets).ok()? == row.canonical)
 }
 
-/// The row of a line `OCTETS DEPTH HEX ANSWER`, with `-` for no octets, and ` canonical` behind the answer where the limits
-/// are the largest and the octets a canonical spelling; `None` where the line is none.
+/// Whether a feed that was fed so many octets in pieces of the size answers a fault with the piece in which it shows, and
+/// no sooner.
+fn is_first(after: Option<usize>, fed: usize, size: usize) -> bool {
+    match after {
+        None => true,
+        Some(after) => after <= fed && fed - after < size,
+    }
+}
+
+/// The row of a line `OCTETS DEPTH HEX ANSWER`, with `-` for no octets, ` after OCTETS` behind a fault, and ` canonical` behind
+/// an item where the limits are the largest and the octets a canonical spelling; `None` where the line is none.
 fn row_of<'a>(alloc: Global, line: &'a str) -> Option<Row<'a>> {
     let (most, rest) = line.split_once(' ')?;
     let (deep, rest) = rest.split_once(' ')?;
@@ -88,12 +104,23 @@ fn row_of<'a>(alloc: Global, line: &'a str) -> Option<Row<'a>> {
         hex::decode(alloc, hex).ok()?
     };
     let bare = answer.strip_suffix(" canonical");
+    let (answer, after) = parts(bare.unwrap_or(answer))?;
     Some(Row {
         limits,
         octets,
-        answer: bare.unwrap_or(answer),
+        answer,
+        after,
         canonical: bare.is_some(),
     })
+}
+
+/// The answer, and the octets that show it if it is a fault.
+fn parts<'a>(answer: &'a str) -> Option<(&'a str, Option<usize>)> {
+    if answer.starts_with("item ") {
+        return Some((answer, None));
+    }
+    let (fault, after) = answer.split_once(" after ")?;
+    Some((fault, Some(after.parse().ok()?)))
 }
 
 /// The limits; `None` where they are above the largest.
