@@ -8,12 +8,12 @@
 # Needs python3, awk and GNU time (/usr/bin/time).
 #
 # The table has 1,000, 3,000 and 10,000 tags of each shape; of `apart`, where each pair of tags is a finding, 1,000 and 3,000.
-# Columns: the shape; how many tags; how many findings; the wall time to read the tags, and to read and check them, the lowest
-# of all runs; the microseconds of checking for each tag, and the same over those of 1,000 tags, which grows as the logarithm
-# where the time grows as n log n; and the peak memory, the highest of all runs. Checking is what is left of the second time
-# without the first.
+# Columns: the shape; how many tags; how many findings; the time of the processor, user and system, to read the tags, and to read
+# and check them, the lowest of all runs; the microseconds of checking for each tag, and the same over those of 1,000 tags, which
+# grows as the logarithm where the time grows as n log n; and the peak memory, the highest of all runs. Checking is what is left of
+# the second time without the first; where that is nothing for 1,000 tags, `-` stands as growth.
 
-set -u
+set -u -o pipefail
 
 top=$(dirname -- "$(readlink -f -- "${BASH_SOURCE[0]}")")/..
 crate=$top/crates/links_bench
@@ -38,14 +38,24 @@ folder=$(mktemp -d) || exit 1
 trap 'rm -rf -- "$folder"' EXIT
 input=$folder/input
 
-# Runs a command on the input, and prints its lowest microseconds, its highest KiB, and the last line that it printed.
+# Runs a command on the input, and prints its microseconds of the processor and its KiB. Its output goes into a file.
+once() {
+    python3 - "$input" "$folder/output" /usr/bin/time -q -f %M -o "$folder/kib" "$@" <<'END'
+import os, subprocess, sys
+
+with open(sys.argv[1], "rb") as octets, open(sys.argv[2], "wb") as output:
+    process = subprocess.Popen(sys.argv[3:], stdin=octets, stdout=output)
+    _, process.returncode, usage = os.wait4(process.pid, 0)
+print(round((usage.ru_utime + usage.ru_stime) * 1_000_000), end=" ")
+END
+    cat -- "$folder/kib"
+}
+
+# Runs a command as often as is asked for, and prints its lowest microseconds, its highest KiB, and the last line that it printed.
 run() {
-    local best='' peak=0 start took used
-    for ((run = 0; run < runs; run++)); do
-        start=${EPOCHREALTIME/[.,]/}
-        /usr/bin/time -q -f %M -o "$folder/kib" "$@" <"$input" >"$folder/output"
-        took=$((${EPOCHREALTIME/[.,]/} - start))
-        used=$(<"$folder/kib")
+    local best='' peak=0 took used
+    for ((turn = 0; turn < runs; turn++)); do
+        read -r took used < <(once "$@")
         if [ -z "$best" ] || [ "$took" -lt "$best" ]; then best=$took; fi
         if [ "$used" -gt "$peak" ]; then peak=$used; fi
     done
@@ -66,6 +76,6 @@ done | awk -F '\t' -v runs="$runs" '
     {
         each = ($6 - $3) / $2
         if ($2 == 1000) base = each
-        printf "%-8s %6s %9s %9.1f %9.1f %9.2f %7.2f %9s%s\n", $1, $2, $8, $3 / 1000, $6 / 1000, each,
-            (base > 0 ? each / base : 0), $7, ($5 == $2 ? "" : "  not read: " $5)
+        printf "%-8s %6s %9s %9.1f %9.1f %9.2f %7s %9s%s\n", $1, $2, $8, $3 / 1000, $6 / 1000, each,
+            (base > 0 ? sprintf("%.2f", each / base) : "-"), $7, ($5 == $2 ? "" : "  not read: " $5)
     }'

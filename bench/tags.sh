@@ -5,9 +5,17 @@
 # usage: bench/tags.sh [RUNS]     each row is run RUNS times, 3 if not given
 #
 # The program crates/tag_bench is built first where that is needed, which proves it, and building is not measured.
-# `bench/cbor_items.py` writes 50 MB of tags into a temporary folder, which is removed at the end. They are read one after
-# another (`read`), and written again too (`write`), beside `sha256sum` of the same octets. Needs python3, awk, sha256sum
-# and GNU time (/usr/bin/time).
+# `bench/cbor_items.py` writes the inputs into a temporary folder, which is removed at the end; it says what the shapes are.
+# Needs python3, awk, sha256sum and GNU time (/usr/bin/time).
+#
+# The first table has one tag of 1, 4 and 8 MiB of each shape, 8 MiB being the most that is read of one, which is read
+# (`read`), and written again too (`write`). Columns: the shape; its MiB; what was done; the time of the processor, user and
+# system, the lowest of all runs; the time for each octet, and the same over that of 1 MiB, which grows as the logarithm where
+# the time grows as n log n; the peak memory, the highest of all runs; and the octets of it for each octet of input. The input
+# is held whole, and is in the figures.
+#
+# The second table has 50 MB of tags, which are read one after another (`read`), and written again too (`write`), beside
+# `sha256sum` of the same octets, in the same time. The three are run in turns.
 
 set -u
 
@@ -34,28 +42,56 @@ folder=$(mktemp -d) || exit 1
 trap 'rm -rf -- "$folder"' EXIT
 input=$folder/input
 
-# Runs a command on the input, and prints its lowest microseconds and its highest KiB.
-run() {
-    local best='' peak=0 start took used
-    for ((run = 0; run < runs; run++)); do
-        start=${EPOCHREALTIME/[.,]/}
-        /usr/bin/time -q -f %M -o "$folder/kib" "$@" <"$input" >"$folder/output"
-        took=$((${EPOCHREALTIME/[.,]/} - start))
-        used=$(<"$folder/kib")
-        if [ -z "$best" ] || [ "$took" -lt "$best" ]; then best=$took; fi
-        if [ "$used" -gt "$peak" ]; then peak=$used; fi
-    done
-    printf '%s\t%s\n' "$best" "$peak"
+# Runs a command on the input, and prints its microseconds, its KiB, and the last line that it printed.
+once() {
+    local TIMEFORMAT='%3U %3S' took user system
+    took=$({ time /usr/bin/time -q -f %M -o "$folder/kib" "$@" <"$input" >"$folder/output"; } 2>&1)
+    read -r user system <<<"${took//[.,]/}"
+    printf '%s\t%s\t%s\n' "$(((10#$user + 10#$system) * 1000))" "$(<"$folder/kib")" "$(tail -n 1 "$folder/output")"
 }
+
+# The lowest time and the highest memory of lines that `once` printed.
+summary() {
+    awk -F '\t' 'NR == 1 || $1 < best { best = $1 } $2 > peak { peak = $2 } END { printf "%d\t%d\t%s\n", best, peak, $3 }'
+}
+
+# Runs a command on the input as often as is asked for, and prints the summary.
+run() {
+    for ((turn = 0; turn < runs; turn++)); do once "$@"; done | summary
+}
+
+# Prints a line for each way to take one tag of a shape: shape, MiB, octets, way, microseconds, KiB, what it printed.
+one_tag() {
+    local shape=$1 size way
+    for size in 1 4 8; do
+        python3 "$top/bench/cbor_items.py" "tag-$shape" "$size" "$input" || exit 1
+        for way in read write; do
+            printf '%s\t%s\t%s\t%s\t%s\n' "$shape" "$size" "$(stat -c %s -- "$input")" "$way" "$(run "$program" "$way")"
+        done
+    done
+}
+
+for shape in extras files directories deep; do one_tag "$shape"; done | awk -F '\t' -v runs="$runs" '
+    BEGIN {
+        printf "one tag, lowest time and highest memory of %d runs\n\n", runs
+        printf "%-11s %4s %-6s %9s %9s %8s %9s %9s\n", "shape", "MiB", "way", "ms", "ns/octet", "growth", "KiB", "an octet"
+    }
+    $2 == 1 { base[$1, $4] = $5 / $3 }
+    {
+        printf "%-11s %4s %-6s %9.1f %9.1f %8.2f %9s %9.1f%s\n", $1, $2, $4, $5 / 1000, $5 * 1000 / $3,
+            $5 / $3 / base[$1, $4], $6, $6 * 1024 / $3, ($7 == "" ? "  nothing printed" : "")
+    }'
 
 python3 "$top/bench/cbor_items.py" links 48 "$input" || exit 1
 {
-    printf 'sha256sum\t%s\n' "$(run sha256sum)"
-    printf 'read\t%s\n' "$(run "$program" read)"
-    printf 'write\t%s\n' "$(run "$program" write)"
+    for ((turn = 0; turn < runs; turn++)); do
+        once sha256sum >>"$folder/sha256sum"
+        for way in read write; do once "$program" "$way" >>"$folder/$way"; done
+    done
+    for way in sha256sum read write; do printf '%s\t%s\n' "$way" "$(summary <"$folder/$way")"; done
 } | awk -F '\t' -v octets="$(stat -c %s -- "$input")" '
     BEGIN {
-        printf "%d octets of tags\n\n%-10s %9s %9s %6s %9s\n", octets, "", "ms", "ns/octet", "ratio", "KiB"
+        printf "\n%d octets of tags\n\n%-10s %9s %9s %6s %9s\n", octets, "", "ms", "ns/octet", "ratio", "KiB"
     }
     $1 == "sha256sum" { theirs = $2 }
     { printf "%-10s %9.1f %9.1f %6.2f %9s\n", $1, $2 / 1000, $2 * 1000 / octets, $2 / theirs, $3 }'

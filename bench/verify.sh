@@ -10,10 +10,10 @@
 # Needs python3, awk, sha256sum and GNU time (/usr/bin/time).
 #
 # Columns: how many files, of which size in octets; the processor time of `swid`, user and system, the lowest of all runs; that
-# of `sha256sum`; the one over the other; the same of the time by the clock; the peak memory of `swid`; its status; how many
-# files are the same, which is all of them.
+# of `sha256sum`; the one over the other; the same of the time by the clock; the peak memory of `swid`; its status, which is 0;
+# how many files are the same, which is all of them.
 
-set -u
+set -u -o pipefail
 
 top=$(dirname -- "$(readlink -f -- "${BASH_SOURCE[0]}")")/..
 program=$(readlink -f -- "$top")/crates/swid/out/swid

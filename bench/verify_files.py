@@ -48,11 +48,11 @@ def main():
         name, content = "file%05d" % index, octets_of(index, size)
         (folder / name).write_bytes(content)
         entries.append(file_entry(name, content))
-    # 0 tag-id, 1 software-name, 2 entity, 6 payload, 12 tag-version
+    # 0 tag-id, 1 software-name, 2 entity, 6 payload, 12 tag-version, 13 software-version
     entity = head(5, 2) + head(0, 31) + text("maker") + head(0, 33) + head(0, 1)
     payload = head(5, 1) + head(0, 17) + head(4, count) + b"".join(entries)
-    tag.write_bytes(head(5, 5) + head(0, 0) + text("files") + head(0, 1) + text("files") + head(0, 2) + entity
-                    + head(0, 6) + payload + head(0, 12) + head(0, 0))
+    tag.write_bytes(head(5, 6) + head(0, 0) + text("files") + head(0, 1) + text("files") + head(0, 2) + entity
+                    + head(0, 6) + payload + head(0, 12) + head(0, 0) + head(0, 13) + text("1"))
 
 
 main()
