@@ -11,11 +11,20 @@ OTHER_ALGORITHM = 2  # SHA-256 cut to 128 bits, which is registered and not look
 
 EDIT = b"#!/bin/sh\nexec ed \"$@\"\n"
 HELP = b"Write what you mean.\n"
-OLD_HELP = b"Mean what you write.\n"
+NEW_HELP = b"Mean what you write.\n"
 GREEK = b"alpha beta gamma\n"
 
-# What lies in the folder, by path.
-FILES = {"editor/edit": EDIT, "editor/share/help.txt": HELP, "editor/share/fonts/greek.txt": GREEK, "editor/notes": b""}
+# What lies in the folder, by path: the files of an editor, and the same again, where the help was changed since.
+FILES = {
+    "editor/edit": EDIT,
+    "editor/share/help.txt": HELP,
+    "editor/share/fonts/greek.txt": GREEK,
+    "editor/notes": b"",
+    "changed/edit": EDIT,
+    "changed/share/help.txt": NEW_HELP,
+    "changed/share/fonts/greek.txt": GREEK,
+    "changed/notes": b"",
+}
 
 
 def unhashed(name):
@@ -43,14 +52,15 @@ INSTALLED = {
     )
 }
 
-# The same files told by their locations: other help, a file that is not there, a wrong size, and a hash of another algorithm.
+# Those where the help was changed, by their locations and as they were; one is not there, of one the size is wrong, and one has a
+# hash of another algorithm.
 CHANGED = {
     FILE: [
-        {HASH: [SHA_256, hashlib.sha256(EDIT).digest()], LOCATION: "editor", FS_NAME: "edit"},
-        {HASH: [SHA_256, hashlib.sha256(OLD_HELP).digest()], LOCATION: "editor/share", FS_NAME: "help.txt"},
-        {HASH: [SHA_256, hashlib.sha256(b"").digest()], SIZE: 1, LOCATION: "editor", FS_NAME: "notes"},
-        {HASH: [SHA_256, hashlib.sha256(b"").digest()], LOCATION: "editor", FS_NAME: "read me"},
-        {HASH: [OTHER_ALGORITHM, hashlib.sha256(GREEK).digest()[:16]], LOCATION: "editor/share/fonts", FS_NAME: "greek.txt"},
+        {HASH: [SHA_256, hashlib.sha256(EDIT).digest()], LOCATION: "changed", FS_NAME: "edit"},
+        {HASH: [SHA_256, hashlib.sha256(HELP).digest()], LOCATION: "changed/share", FS_NAME: "help.txt"},
+        {HASH: [SHA_256, hashlib.sha256(b"").digest()], SIZE: 1, LOCATION: "changed", FS_NAME: "notes"},
+        {HASH: [SHA_256, hashlib.sha256(b"").digest()], LOCATION: "changed", FS_NAME: "read me"},
+        {HASH: [OTHER_ALGORITHM, hashlib.sha256(GREEK).digest()[:16]], LOCATION: "changed/share/fonts", FS_NAME: "greek.txt"},
     ]
 }
 
