@@ -1,5 +1,6 @@
 -- Files by their names, as an object that gives them tells of them.
-use Rattle.std.specs.Prelude.{◌≡◌, ◌<◌, ◌≤◌, ℕ, Bool, true, false, List, [], ◌∷◌, Option, Some, None, length, IfSome, if◌then◌else◌}
+use Rattle.std.specs.Prelude.{◌≡◌, ◌<◌, ◌≤◌, ◌++◌, ℕ, Bool, true, false, List, [], ◌∷◌, Option, Some, None, length, IfSome, if◌then◌else◌}
+use Rattle.std.specs.Option.{option_map}
 use Rattle.std.specs.Str.{bytes_eq}
 use Rattle.wire_base.specs.declared.files.FileAnswer.{FileAnswer}
 use Rattle.wire_base.specs.declared.files.FileAnswer.TheVariants as answer
@@ -26,3 +27,19 @@ has_failed (answer.Content octets) = false
 has_failed answer.Missing = false
 has_failed (answer.TooLong len) = false
 has_failed answer.Memory = false
+
+-- A read that was made: the name that it was given, and whether it failed.
+abbrev pub Read : Type 0
+Read = List ℕ × Bool
+
+-- What is told of a call for a name: that it was made, and whether it failed. One that ends for want of memory is not told.
+abbrev pub read_of : List ℕ → FileAnswer → List Read
+read_of name answer.Failed = (name, true) ∷ []
+read_of name (answer.Content octets) = (name, false) ∷ []
+read_of name answer.Missing = (name, false) ∷ []
+read_of name (answer.TooLong len) = (name, false) ∷ []
+read_of name answer.Memory = []
+
+-- Where reads are told, these behind the ones before.
+abbrev pub with_reads : List Read → Option (List Read) → Option (List Read)
+with_reads more before = option_map (λ reads. reads ++ more) before

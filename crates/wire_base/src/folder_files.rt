@@ -56,6 +56,8 @@ impl<R: fs::Files> Files for FolderFiles<R> {
 
     ghost faults = { λ files. files.faults };
 
+    ghost reads = { λ _. None };
+
     /// Reads the file, unless its length is above the limit. Of a file that grows meanwhile it reads one octet more than
     /// the limit at most, and tells as its length what it read.
     fn read(&mut self, name: &str, limit: usize) -> FileAnswer

@@ -1,7 +1,7 @@
 //! Files in memory, some of whose reads fail.
 
 ghost use Rattle.std.specs.Option.{option_copied};
-ghost use Rattle.std.specs.Prelude.{◌≡◌, ◌≤◌, if◌then◌else◌, List, ℕ, [], Some, IfOk, length};
+ghost use Rattle.std.specs.Prelude.{◌≡◌, ◌≤◌, if◌then◌else◌, List, ℕ, [], None, Some, IfOk, length};
 ghost use Rattle.wire_base.specs.Counter.{next};
 ghost use Rattle.wire_base.specs.InMemory.{FilesInMemory, next_fails};
 ghost use Rattle.wire_base.specs.NamedFile.{IsAnswer, content_of, has_failed};
@@ -58,6 +58,8 @@ impl Files for MemFiles {
     ghost contents = { λ held. Some held.files };
 
     ghost faults = { λ held. held.faults };
+
+    ghost reads = { λ _. None };
 
     /// A copy of the content, unless the call is one that fails. Memory is asked for that copy alone.
     fn read(&mut self, name: &str, limit: usize) -> FileAnswer
