@@ -72,7 +72,7 @@ hostile() {
     done
 }
 
-for shape in keys rising texts fronts maps array chunks deep keyed; do hostile "$shape"; done | awk -F '\t' -v runs="$runs" '
+for shape in keys rising texts fronts maps array chunks deep nested keyed; do hostile "$shape"; done | awk -F '\t' -v runs="$runs" '
     BEGIN {
         printf "one item, lowest time and highest memory of %d runs\n\n", runs
         printf "%-8s %4s %-8s %9s %9s %8s %9s %9s\n", "shape", "MiB", "way", "ms", "ns/octet", "growth", "KiB", "an octet"

@@ -13,6 +13,7 @@ One item of at most MIB times 1048576 octets, and the shapes are
     array     an array of zeros
     chunks    a byte string of empty chunks
     deep      an array of arrays, maps, keys and tags in each other down to the depth of 64, in a mixture
+    nested    an array of arrays of one, in each other down to the depth of 64
     keyed     an array of zeros as a key of a map that is a key of a map, and so on, down to the depth of 64; in each map it stands
               between the keys 0 and 1, so that all three are compared
 
@@ -74,6 +75,12 @@ def deep(room, depth=DEEPEST):
         used += len(part)
 
 
+def nested(room, depth=DEEPEST):
+    part = b"\x81" * (depth - 2) + b"\0"
+    count = (room - 5) // len(part)
+    return head(4, count) + part * count
+
+
 def keyed(room):
     front, back = b"\xa3\0\0", b"\0\1\0"
     levels = DEEPEST - 2
@@ -90,6 +97,7 @@ SHAPES = {
     "array": lambda room: head(4, room - 5) + bytes(room - 5),
     "chunks": lambda room: b"\x5f" + b"\x40" * (room - 2) + b"\xff",
     "deep": deep,
+    "nested": nested,
     "keyed": keyed,
 }
 

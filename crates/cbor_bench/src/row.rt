@@ -1,8 +1,8 @@
 //! A table of worked rows: limits, octets, and the answer that is wanted.
 //!
-//! The answers were not made by this program. Two readers in another language, which have nothing of it, gave them and agreed:
-//! each was written from the table of faults in `docs/cbor.md` and takes one octet after another. How many octets show a fault
-//! was found by giving them the fronts of the row: it is the length of the shortest that is not cut short.
+//! The answers were not made by this program. Two readers in Python, each written from the table of faults alone, as
+//! `docs/cbor.md` has it, gave them and agreed on every row. How many octets show a fault is the length of the shortest front of
+//! the row that these readers do not find cut short.
 
 ghost use Rattle.std.specs.Prelude.{◌≤◌, ◌^◌, IfSome};
 
@@ -18,7 +18,7 @@ struct Row<'a> {
     octets: Vec<u8>,
     /// `item LENGTH CANONICAL`, with the canonical spelling of the item in hexadecimal, or `fault KIND PLACE`.
     answer: &'a str,
-    /// The fewest octets that show a fault, in rows with one; of kind 1, which ends them, all.
+    /// Behind a fault, the fewest octets of the row that show it: all, where it is of kind 1, which only their end shows.
     after: Option<usize>,
     /// Whether the octets are a canonical spelling, in rows with the largest limits.
     canonical: bool,

@@ -3,7 +3,7 @@
 ghost use Rattle.std.specs.Prelude.{◌≡◌, ◌<◌, ℕ, IfOk};
 ghost use Rattle.cbor_det.specs.Faults.{Place};
 ghost use Rattle.cbor_det.specs.Frames.{inside, place, state_of, StepFits, chunk_kind, low_kind, end_state, BeginFits};
-ghost use Rattle.cbor_det.specs.Machine.{begun, due, opened, step, string_head, same_kind};
+ghost use Rattle.cbor_det.specs.Machine.{begun, due, opened, step, string_head};
 ghost use Rattle.cbor_det.specs.declared.initial.Initial.TheVariants as initial;
 ghost use Rattle.cbor_det.specs.declared.initial.Beginning.TheVariants as beginning;
 ghost use Rattle.cbor_det.specs.declared.initial.Major.TheVariants as major;
@@ -134,28 +134,12 @@ fn is_string(kind: Kind, major: Major) -> bool
     ensures argument { (left : ℕ) → result ≡ string_head kind (initial.Item (beginning.Argument major left)) }
 {
     match major {
-        Major::String(of) => is_same(kind, of),
+        Major::String(of) => kind == of,
         Major::Unsigned => false,
         Major::Negative => false,
         Major::Array => false,
         Major::Map => false,
         Major::Tag => false,
-    }
-}
-
-/// Whether the kinds are one.
-fn is_same(kind: Kind, of: Kind) -> bool
-    ensures same { result ≡ same_kind kind of }
-{
-    match kind {
-        Kind::ByteString => match of {
-            Kind::ByteString => true,
-            Kind::TextString => false,
-        },
-        Kind::TextString => match of {
-            Kind::ByteString => false,
-            Kind::TextString => true,
-        },
     }
 }
 

@@ -1,7 +1,7 @@
 //! The initial byte of an item (RFC 8949, section 3).
 
 ghost use Rattle.std.specs.Prelude.{◌≡◌, ◌<◌};
-ghost use Rattle.cbor_det.specs.Initial.{initial_of, simple_or_float, headed, headed_or};
+ghost use Rattle.cbor_det.specs.Initial.{initial_of, number_of_major, simple_or_float, headed, headed_or};
 
 use crate::kind::Kind;
 
@@ -20,6 +20,24 @@ pub(crate) enum Major {
     Map,
     /// Major type 6.
     Tag,
+}
+
+impl Major {
+    /// The number of the type.
+    pub(crate) fn number(self) -> u8
+        ensures number { result ≡ number_of_major self }
+        ensures below { result < 8 }
+    {
+        match self {
+            Major::Unsigned => 0,
+            Major::Negative => 1,
+            Major::String(Kind::ByteString) => 2,
+            Major::String(Kind::TextString) => 3,
+            Major::Array => 4,
+            Major::Map => 5,
+            Major::Tag => 6,
+        }
+    }
 }
 
 /// How an item begins.

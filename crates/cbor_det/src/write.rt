@@ -2,11 +2,15 @@
 
 ghost use Rattle.std.specs.Prelude.{◌≡◌, ◌∷◌, ◌++◌, ◌<◌, ◌≤◌, ◌^◌, IfOk, OnOk, length};
 ghost use Rattle.cbor_det.specs.Canonical.{canon, canon_terms, canon_pairs, short_head};
+ghost use Rattle.cbor_det.specs.Initial.{number_of_major};
+ghost use Rattle.cbor_det.specs.Spelling.{major_of};
 ghost use Rattle.cbor_det.specs.Term.{depth, integer};
 ghost use Rattle.cbor_det.specs.View.{view, terms_of, pairs_view};
 ghost use Rattle.std.specs.Prelude.{map};
 
+use crate::initial::Major;
 use crate::item::{Item, Pairs};
+use crate::kind::Kind;
 use std::alloc::Global;
 use wire_base::{List, Memory, Octets};
 
@@ -36,18 +40,18 @@ fn put_item(out: &mut Octets, item: &Item) -> Result<(), Memory>
 {
     match item {
         Item::Int(number) => put_integer(out, *number),
-        Item::Bytes(octets) => put_string(out, 2, octets.as_slice()),
-        Item::Text(text) => put_string(out, 3, text.as_str().as_bytes()),
+        Item::Bytes(octets) => put_string(out, Kind::ByteString, octets.as_slice()),
+        Item::Text(text) => put_string(out, Kind::TextString, text.as_str().as_bytes()),
         Item::Array(items) => {
-            put_head(out, 4, items.len() as u64)?;
+            put_head(out, Major::Array, items.len() as u64)?;
             Ok(put_items(out, items)?)
         }
         Item::Map(pairs) => {
-            put_head(out, 5, pairs.pairs.len() as u64)?;
+            put_head(out, Major::Map, pairs.pairs.len() as u64)?;
             Ok(put_pairs(out, pairs)?)
         }
         Item::Tag(number, content) => {
-            put_head(out, 6, *number)?;
+            put_head(out, Major::Tag, *number)?;
             Ok(put_item(out, content.get())?)
         }
         Item::Bool(value) => out.push(if *value { 0xf5 } else { 0xf4 }),
@@ -79,27 +83,25 @@ fn put_integer(out: &mut Octets, number: i64) -> Result<(), Memory>
     ensures puts { OnOk result (out.new ≡ out.old ++ canon (integer number)) }
 {
     if number >= 0 {
-        put_head(out, 0, number as u64)
+        put_head(out, Major::Unsigned, number as u64)
     } else {
-        put_head(out, 1, (-(number + 1)) as u64)
+        put_head(out, Major::Negative, (-(number + 1)) as u64)
     }
 }
 
-fn put_string(out: &mut Octets, major: u8, octets: &[u8]) -> Result<(), Memory>
-    requires { major < 8 }
-    ensures puts { OnOk result (out.new ≡ out.old ++ (short_head major (length octets.now) ++ octets.now)) }
+fn put_string(out: &mut Octets, kind: Kind, octets: &[u8]) -> Result<(), Memory>
+    ensures puts { OnOk result (out.new ≡ out.old ++ (short_head (major_of kind) (length octets.now) ++ octets.now)) }
 {
-    put_head(out, major, octets.len() as u64)?;
+    put_head(out, Major::String(kind), octets.len() as u64)?;
     out.extend(octets)
 }
 
 /// Puts a head with its argument in the shortest form.
 #[tactic(auto, using(crate::proofs::BigEndian::be_one, crate::proofs::BigEndian::be_two, crate::proofs::BigEndian::be_four, crate::proofs::BigEndian::be_eight))]
-fn put_head(out: &mut Octets, major: u8, argument: u64) -> Result<(), Memory>
-    requires { major < 8 }
-    ensures puts { OnOk result (out.new ≡ out.old ++ short_head major argument) }
+fn put_head(out: &mut Octets, major: Major, argument: u64) -> Result<(), Memory>
+    ensures puts { OnOk result (out.new ≡ out.old ++ short_head (number_of_major major) argument) }
 {
-    let high = 32 * major;
+    let high = 32 * major.number();
     if argument < 24 {
         return out.push(high + argument as u8);
     }
