@@ -1,14 +1,13 @@
 -- Verdicts on files: one that is not read, one that is too long, and those on several files.
-use Rattle.std.proofs.Common.{◌≡◌, ◌<◌, ◌||◌, ℕ, ℤ, Bool, true, false, IsTrue, List, [], ◌∷◌, ◌++◌, length, Option, Some, None, refl, sym, ap, subst, ◌∙◌, replicate, rules}
+use Rattle.std.proofs.Common.{◌≡◌, ◌<◌, ℕ, ℤ, List, [], ◌∷◌, ◌++◌, length, Option, Some, None, refl, sym, ap, subst, ◌∙◌, replicate, rules}
 use Rattle.std.proofs.lemmas.List.{append-nil, append_assoc, length-replicate}
-use Rattle.std.specs.List.{list_any}
 use Rattle.std.specs.Option.{IfSome}
 use Rattle.coswid_res.specs.declared.hash.HashEntry.{HashEntry}
 use Rattle.coswid_res.specs.declared.listing.ListedFile.{ListedFile}
 use Rattle.coswid_res.specs.declared.verdict.Algorithm.{Algorithm}
 use Rattle.coswid_res.specs.declared.verdict.Verdict.{Verdict}
 use Rattle.coswid_res.specs.declared.verdict.Verdict.TheVariants as verdict
-use Rattle.coswid_res.specs.Verify.{FILE_OCTETS, IsLine, IsVerdict, IsVerdicts, algorithm_of, hashed_verdict, names, read_verdict, verdict_on, verdicts_of}
+use Rattle.coswid_res.specs.Verify.{FILE_OCTETS, IsLine, IsVerdict, IsVerdicts, algorithm_of, hashed_verdict, read_verdict, verdict_on, verdicts_of}
 use Rattle.wire_base.specs.declared.files.NamedFile.{NamedFile}
 use Rattle.wire_base.specs.NamedFile.{content_of}
 
@@ -57,10 +56,6 @@ module _ (file : ListedFile) (h : HashEntry) (known : Algorithm) (number : ℤ) 
   on_long None tells = on_content None file h known number name some same is asked (verdict.LongFile len) (replicate len 0) (replicate len 0) refl (long known h.value file.size (replicate len 0) len more (length-replicate len 0)) (tt {0})
   on_long (Some all) tells = on_content (Some all) file h known number name some same is asked (verdict.LongFile len) tells.0 tells.0 refl (long known h.value file.size tells.0 len more tells.2) tells.1
 
-or_right : (a b : Bool) → IsTrue b → IsTrue (a || b)
-or_right true b is = refl
-or_right false b is = is
-
 -- A verdict more is put behind those that there are.
 pub line_pushed : (told : Option (List NamedFile)) (files left fewer : List ListedFile) (file : ListedFile) (lines : List Line) (line : Line) → left ≡ file ∷ fewer → IsLine told file line
     → ((rest : List Line) → IsVerdicts told left rest → IsVerdicts told files (lines ++ rest)) → (rest : List Line) → IsVerdicts told fewer rest → IsVerdicts told files ((lines ++ line ∷ []) ++ rest)
@@ -72,11 +67,6 @@ line_pushed told files left fewer file lines line is new all rest more =
 pub line_last : (told : Option (List NamedFile)) (files left : List ListedFile) (lines : List Line) → left ≡ [] → ((rest : List Line) → IsVerdicts told left rest → IsVerdicts told files (lines ++ rest)) → IsVerdicts told files lines
 line_last told files left lines is all =
     subst (λ (ls : List Line). IsVerdicts told files ls) (append-nil lines) (all [] (subst (λ (fs : List ListedFile). IsVerdicts told fs []) (sym is) (tt {0})))
-
--- A path that names one of fewer files names one of those that were left before.
-pub named_later : (files left fewer : List ListedFile) (file : ListedFile) → left ≡ file ∷ fewer → ((path : List ℕ) → IsTrue (list_any (names path) left) → IsTrue (list_any (names path) files))
-    → (path : List ℕ) → IsTrue (list_any (names path) fewer) → IsTrue (list_any (names path) files)
-named_later files left fewer file is all path some = all path (subst (λ (fs : List ListedFile). IsTrue (list_any (names path) fs)) (sym is) (or_right (names path file) (list_any (names path) fewer) some))
 
 -- Where all files are told, the verdicts are these.
 pub told_verdicts : (all : List NamedFile) (files : List ListedFile) (lines : List Line) → IsVerdicts (Some all) files lines → lines ≡ verdicts_of all files

@@ -9,3 +9,4 @@ pub mod DirectoryReads
 pub mod DirectoryWrites
 pub mod Listings
 pub mod FileVerdicts
+pub mod FileReads

@@ -1,6 +1,6 @@
 -- The verdicts on the files of a payload (RFC 9393, section 2.9.2).
-use Rattle.std.specs.Prelude.{◌≡◌, ◌==◌, ◌&&◌, ℕ, ℤ, pos, Bool, true, false, IsTrue, List, map as map_list, Option, Some, None, Result, Ok, Err, length, nat_lt, if◌then◌else◌, IfSome}
-use Rattle.std.specs.List.{AllZip, list_any}
+use Rattle.std.specs.Prelude.{◌≡◌, ◌==◌, ◌&&◌, ◌++◌, ℕ, ℤ, pos, Bool, true, false, List, [], ◌∷◌, map as map_list, Option, Some, None, Result, Ok, Err, length, nat_lt, if◌then◌else◌, IfSome}
+use Rattle.std.specs.List.{AllZip, filter}
 use Rattle.std.specs.Ordering.{int_eq}
 use Rattle.std.specs.Str.{bytes_eq}
 use Rattle.coswid_res.specs.declared.hash.HashEntry.{HashEntry}
@@ -14,7 +14,9 @@ use Rattle.coswid_res.specs.declared.file_check.VerifyRefused.TheVariants as ref
 use Rattle.sha2.specs.Sha256.{sha256}
 use Rattle.sha2.specs.Sha512.{sha384, sha512}
 use Rattle.wire_base.specs.declared.files.NamedFile.{NamedFile}
-use Rattle.wire_base.specs.NamedFile.{content_of}
+use Rattle.wire_base.specs.NamedFile.{Read, content_of, with_reads}
+use Rattle.wire_base.specs.declared.passing.Stopped.{Stopped}
+use Rattle.wire_base.specs.declared.passing.Stopped.TheVariants as stopped
 
 -- The algorithms that are known, by their numbers in the Named Information Hash Algorithm Registry (RFC 6920, section 9.4).
 abbrev pub algorithm_of : ℤ → Option Algorithm
@@ -94,11 +96,26 @@ is_fault (Ok value) = false
 is_fault (Err (refused.FileFault path)) = true
 is_fault (Err refused.Memory) = false
 
--- A file that was not read has this path, and is one of those whose verdict hangs on what they hold.
-abbrev pub names : List ℕ → ListedFile → Bool
-names path file = is_read file.hash && bytes_eq file.path path
+-- The paths of the files that are read, in order.
+abbrev pub paths_read : List ListedFile → List (List ℕ)
+paths_read files = map_list (λ file. file.path) (filter (λ file. is_read file.hash) files)
 
-abbrev pub NamesFile : {A : Type 0} → List ListedFile → Result A VerifyRefused → Type 0
-NamesFile files (Ok value) = Unit {0}
-NamesFile files (Err (refused.FileFault path)) = IsTrue (list_any (names path) files)
-NamesFile files (Err refused.Memory) = Unit {0}
+-- Reads of these paths, none of which failed.
+abbrev pub answered : List (List ℕ) → List Read
+answered = map_list (λ path. (path, false))
+
+-- The reads that were made of these paths: of each one, in order; up to the path of a fault, with it; up to some path where memory ran out.
+abbrev pub AreReads : {A : Type 0} → List (List ℕ) → Result A VerifyRefused → List Read → Type 0
+AreReads paths (Ok value) reads = reads ≡ answered paths
+AreReads paths (Err (refused.FileFault path)) reads = (front behind : List (List ℕ)) × (paths ≡ front ++ path ∷ behind) × (reads ≡ answered front ++ (path, true) ∷ [])
+AreReads paths (Err refused.Memory) reads = (front behind : List (List ℕ)) × (paths ≡ front ++ behind) × (reads ≡ answered front)
+
+-- Between these two moments the reads for the verdicts on these files were made, and no others.
+abbrev pub Reads : {A : Type 0} → List ListedFile → Result A VerifyRefused → Option (List Read) → Option (List Read) → Type 0
+Reads files result before after = (reads : List Read) × AreReads (paths_read files) result reads × (after ≡ with_reads reads before)
+
+-- The read for the verdict on one file: none where that does not hang on what it holds, and none is told where memory ran out.
+abbrev pub read_for : ListedFile → Result Verdict Stopped → List Read
+read_for file (Ok value) = if is_read file.hash then (file.path, false) ∷ [] else []
+read_for file (Err stopped.Fault) = (file.path, true) ∷ []
+read_for file (Err stopped.Memory) = []

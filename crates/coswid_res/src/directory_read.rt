@@ -1,4 +1,8 @@
 //! Reading directories. The functions call one another as deep as the item is.
+//!
+//! They do by hand what `Key` and `MapForm` do for all other maps: the method of a trait has no proof in a cycle of calls, so the
+//! cycle is one of plain functions, and `DirectoryTable` calls into it. A `Key` of a form in the cycle would be in it too, so the keys
+//! of directories and of what they hold are numbers here.
 
 ghost use Rattle.std.specs.Prelude.{◌<◌, ◌^◌, map};
 ghost use Rattle.cbor_det.specs.View.{view, terms_of, pairs_view};
@@ -28,7 +32,7 @@ pub(crate) fn read_directory(alloc: Global, pairs: &Pairs) -> Result<DirEntry, F
     let fs_name = table::FsName::required(alloc, pairs)?;
     let root = table::Root::optional(alloc, pairs)?;
     let path_elements = path_under(alloc, pairs)?;
-    let extras = pairs.other_than(&table::DIRECTORY_KEYS)?;
+    let extras = pairs.other_than(&table::directory_keys())?;
     Ok(DirEntry {
         key,
         location,
@@ -80,7 +84,7 @@ fn read_path(alloc: Global, pairs: &Pairs) -> Result<PathElements, FormRefused>
 {
     let directory = directories_under(alloc, pairs)?;
     let file = table::File::optional_row(alloc, pairs)?;
-    let extras = pairs.other_than(&table::PATH_ELEMENTS_KEYS)?;
+    let extras = pairs.other_than(&table::path_elements_keys())?;
     Ok(PathElements {
         directory,
         file,

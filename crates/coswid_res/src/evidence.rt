@@ -77,7 +77,7 @@ impl Mapped for EvidenceTable {
         let location = table::Location::optional(alloc, pairs)?;
         let date = table::Date::optional(alloc, pairs)?;
         let device_id = table::DeviceId::optional(alloc, pairs)?;
-        let extras = pairs.other_than(&table::EVIDENCE_KEYS)?;
+        let extras = pairs.other_than(&table::evidence_keys())?;
         Ok(Evidence {
             directory,
             file,
@@ -110,7 +110,9 @@ pub fn evidence_of(alloc: Global, item: &Item) -> Result<Evidence, FormRefused>
     MapForm::<EvidenceTable>::read(alloc, item)
 }
 
-/// The item that the evidence is written as; `Memory` where there is no room.
+/// The item that the evidence is written as; `Memory` where there is no room, and where the size of a file is above 2^63 - 1, since no
+/// item holds it. A value that was made by hand and is read from no item, as one with an empty list or with a listed key among its
+/// extras, is written all the same: no clause then says that the item is in its form.
 pub fn evidence_item(alloc: Global, evidence: &Evidence) -> Result<Item, Memory>
     ensures written { IfOk result (λ made. view made ≡ evidence_item evidence.now) }
 {

@@ -7,6 +7,7 @@ ghost use Rattle.coswid_res.specs.declared.fault.FormFault.{FormFault as FaultVa
 ghost use Rattle.coswid_res.specs.declared.fault.FormRefused.TheVariants as refused;
 
 use std::alloc::Global;
+use std::{error, fmt};
 use thiserror::Error;
 use wire_base::{List, Memory};
 
@@ -21,6 +22,31 @@ pub struct FormFault {
     /// Where it is: the path to the missing key, or to the value in a wrong form; empty for kinds 3 and 4.
     pub path: Path,
 }
+
+/// The kind, and the steps of the path with a stroke between them; a point where there are none.
+impl fmt::Display for FormFault {
+    fn fmt<W: fmt::Write>(&self, f: &mut fmt::Formatter<W>) -> fmt::Result {
+        let kind = self.kind;
+        write!(f, "a form fault of kind {kind} at ")?;
+        match self.path.as_slice().split_first() {
+            None => f.write_str("."),
+            Some((first, others)) => {
+                write!(f, "{first}")?;
+                write_others(others, f)
+            }
+        }
+    }
+}
+
+/// Writes the steps behind the first.
+fn write_others<W: fmt::Write>(steps: &[i64], f: &mut fmt::Formatter<W>) -> fmt::Result {
+    for step in steps {
+        write!(f, "/{step}")?;
+    }
+    Ok(())
+}
+
+impl error::Error for FormFault {}
 
 /// A required key is not there.
 pub const MISSING_KEY: u8 = 1;
@@ -38,7 +64,7 @@ pub const DEEP: u8 = 4;
 #[derive(Debug, Drop, Error)]
 pub enum FormRefused {
     /// The item is not in the form.
-    #[error("a form fault")]
+    #[error("{0}")]
     Form(FormFault),
     /// Want of memory.
     #[error("out of memory")]

@@ -72,7 +72,7 @@ impl Mapped for FileTable {
         let location = table::Location::optional(alloc, pairs)?;
         let fs_name = table::FsName::required(alloc, pairs)?;
         let root = table::Root::optional(alloc, pairs)?;
-        let extras = pairs.other_than(&table::FILE_KEYS)?;
+        let extras = pairs.other_than(&table::file_keys())?;
         Ok(FileEntry {
             hash,
             size,

@@ -2,7 +2,7 @@
 
 ghost use Rattle.std.specs.Prelude.{◌≡◌, ◌∷◌, [], IfOk};
 ghost use Rattle.coswid_res.specs.Listing.{listed};
-ghost use Rattle.coswid_res.specs.Verify.{IsLine, IsVerdicts, NamesFile, is_fault};
+ghost use Rattle.coswid_res.specs.Verify.{IsLine, IsVerdicts, Reads, is_fault};
 ghost use Rattle.coswid_res.specs.declared.file_check.VerifyRefused.TheVariants as refused;
 ghost use Rattle.wire_base.specs.Outside.{HasCause};
 
@@ -38,9 +38,9 @@ impl From<Memory> for VerifyRefused {
     }
 }
 
-/// The verdicts on all files of a payload, files before directories, depth first. A file is read once, and only where its
-/// hash is by a known algorithm. `FileFault` exactly where a read failed; `Memory` also where all paths together take
-/// more than 67108864 octets.
+/// The verdicts on all files of a payload, files before directories, depth first (RFC 9393, section 2.9). A file is read once for
+/// each entry that names it, and only where the hash there is by a known algorithm. `FileFault` exactly where a read failed,
+/// with its path; `Memory` also where the paths of all files and directories together take more than 67108864 octets.
 pub fn verify<F: Files>(
     alloc: Global,
     payload: &Payload,
@@ -49,7 +49,7 @@ pub fn verify<F: Files>(
     ensures verdicts { IfOk result (λ verdicts. IsVerdicts (F.contents files.old) (listed payload.now) verdicts) }
     ensures contents { F.contents files.new ≡ F.contents files.old }
     ensures cause { HasCause (F.faults files.old) (F.faults files.new) (is_fault result) }
-    ensures path { NamesFile (listed payload.now) result }
+    ensures reads { Reads (listed payload.now) result (F.reads files.old) (F.reads files.new) }
 {
     let listed = listed_files(alloc, payload)?;
     verdicts_on(files, listed)
@@ -59,7 +59,7 @@ fn verdicts_on<F: Files>(files: &mut F, listed: List<ListedFile>) -> Result<Verd
     ensures verdicts { IfOk result (λ verdicts. IsVerdicts (F.contents files.old) listed verdicts) }
     ensures contents { F.contents files.new ≡ F.contents files.old }
     ensures cause { HasCause (F.faults files.old) (F.faults files.new) (is_fault result) }
-    ensures path { NamesFile listed result }
+    ensures reads { Reads listed result (F.reads files.old) (F.reads files.new) }
 {
     let mut verdicts = List::with_capacity(listed.allocator(), listed.len())?;
     for file in listed.into_vec() {
@@ -73,7 +73,7 @@ fn with_verdict<F: Files>(files: &mut F, file: ListedFile) -> Result<(Text, Verd
     ensures verdict { IfOk result (IsLine (F.contents files.old) file) }
     ensures contents { F.contents files.new ≡ F.contents files.old }
     ensures cause { HasCause (F.faults files.old) (F.faults files.new) (is_fault result) }
-    ensures path { NamesFile (file ∷ []) result }
+    ensures reads { Reads (file ∷ []) result (F.reads files.old) (F.reads files.new) }
 {
     match verdict_on(files, &file) {
         Ok(verdict) => Ok((file.path, verdict)),

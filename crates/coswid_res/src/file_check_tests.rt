@@ -1,14 +1,17 @@
-//! Verdicts on files in memory. The digests of `abc` are those of the examples of FIPS 180-2.
+//! Verdicts on files in memory, and on files of a real system. The digests of `abc` are those of the examples of FIPS 180-2.
 
 ghost use Rattle.std.specs.Prelude.{None};
 
-use crate::{Payload, Verdict, Verdicts, VerifyRefused, payload_of, verify};
-use cbor_det::{LARGEST, read_item};
+use crate::{Payload, Verdict, Verdicts, VerifyRefused, payload_item, payload_of, verify};
+use cbor_det::{CborFault, CborRefused, LARGEST, read_item};
 use std::alloc::Global;
+use std::process::Abort;
 use std::test::Fail;
-use wire_base::{FileAnswer, Files, List, MemFiles, Memory, NamedFile, Text};
+use std::{fs, io};
+use wire_base::{FileAnswer, Files, FolderFiles, List, MemFiles, Memory, NamedFile, Text, TryCopy};
 
-const SHA_256: &[u8] =
+/// The SHA-256 digest of `abc`.
+pub const SHA_256: &[u8] =
     b"\xba\x78\x16\xbf\x8f\x01\xcf\xea\x41\x41\x40\xde\x5d\xae\x22\x23\xb0\x03\x61\xa3\x96\x17\x7a\x9c\xb4\x10\xff\x61\xf2\x00\x15\xad";
 
 const SHA_384: &[u8] =
@@ -18,7 +21,7 @@ const SHA_512: &[u8] =
     b"\xdd\xaf\x35\xa1\x93\x61\x7a\xba\xcc\x41\x73\x49\xae\x20\x41\x31\x12\xe6\xfa\x4e\x89\xa9\x7e\xa2\x0a\x9e\xee\xe6\x4b\x55\xd3\x9a\x21\x92\x99\x2a\x27\x4f\xc1\xa8\x36\xba\x3c\x23\xa3\xfe\xeb\xbd\x45\x4d\x44\x23\x64\x3c\xe8\x0e\x2a\x9a\xc9\x4f\xa5\x4c\xa4\x9f";
 
 /// The payload whose spelling has these parts.
-fn payload(alloc: Global, parts: &[&[u8]]) -> Result<Payload, Fail> {
+pub fn payload(alloc: Global, parts: &[&[u8]]) -> Result<Payload, Fail> {
     let mut octets = Vec::new(alloc);
     for part in parts {
         octets.extend_from_slice(part)?;
@@ -28,7 +31,7 @@ fn payload(alloc: Global, parts: &[&[u8]]) -> Result<Payload, Fail> {
 }
 
 /// Files of these names and contents; the calls of these numbers fail.
-fn files(alloc: Global, held: &[(&str, &[u8])], failing: &[u64]) -> Result<MemFiles, Memory> {
+pub fn files(alloc: Global, held: &[(&str, &[u8])], failing: &[u64]) -> Result<MemFiles, Memory> {
     let mut files = List::new(alloc);
     for (name, content) in held {
         let name = Text::new(alloc, name)?;
@@ -39,7 +42,7 @@ fn files(alloc: Global, held: &[(&str, &[u8])], failing: &[u64]) -> Result<MemFi
 }
 
 /// Whether these are the paths and verdicts, in order.
-fn are(verdicts: &Verdicts, wanted: &[(&str, Verdict)]) -> bool {
+pub fn are(verdicts: &Verdicts, wanted: &[(&str, Verdict)]) -> bool {
     let mut same = verdicts.len() == wanted.len();
     for ((path, verdict), (wanted_path, wanted_verdict)) in verdicts.as_slice().iter().zip(wanted) {
         same = same && path.as_str() == *wanted_path && *verdict == *wanted_verdict;
@@ -90,17 +93,34 @@ fn two_files(alloc: Global) -> Result<Payload, Fail> {
     payload(alloc, &[stated.as_slice()])
 }
 
-#[test]
-fn a_failed_read_is_told_by_its_path(rt: HostRuntime) -> Result<(), Fail> {
-    let payload = two_files(rt.alloc())?;
+/// Expects of the two files, of which these are there, that a failed read is told by the path of its file.
+fn expect_fault(rt: &impl Abort, alloc: Global, held: &[(&str, &[u8])]) -> Result<(), Fail> {
+    let payload = two_files(alloc)?;
     for (failing, wanted) in [(1, "a"), (2, "b")] {
-        let mut held = files(rt.alloc(), &[], &[failing])?;
-        match verify(rt.alloc(), &payload, &mut held) {
+        let mut held = files(alloc, held, &[failing])?;
+        match verify(alloc, &payload, &mut held) {
             Err(VerifyRefused::FileFault { path }) => assert_eq!(rt; path.as_str(), wanted),
             Err(VerifyRefused::Memory) => assert!(rt; false),
             Ok(_verdicts) => assert!(rt; false),
         }
     }
+    Ok(())
+}
+
+#[test]
+fn a_failed_read_is_told_by_its_path(rt: HostRuntime) -> Result<(), Fail> {
+    expect_fault(&rt, rt.alloc(), &[])?;
+    expect_fault(&rt, rt.alloc(), &[("a", b"abc"), ("b", b"abc")])
+}
+
+/// The third call would fail.
+#[test]
+fn each_file_is_read_once(rt: HostRuntime) -> Result<(), Fail> {
+    let payload = two_files(rt.alloc())?;
+    let mut held = files(rt.alloc(), &[("a", b"abc"), ("b", b"abc")], &[3])?;
+    let verdicts = verify(rt.alloc(), &payload, &mut held)?;
+    let wanted = [("a", Verdict::Differs), ("b", Verdict::Differs)];
+    assert!(rt; are(&verdicts, &wanted));
     Ok(())
 }
 
@@ -142,6 +162,150 @@ fn a_part_may_be_empty_or_absolute(rt: HostRuntime) -> Result<(), Fail> {
     Ok(())
 }
 
+/// The payload 17: {7: [1, SHA-256 of abc], 24: NAME}, the name with its initial octets.
+fn stated_of(alloc: Global, name: &[u8]) -> Result<Payload, Fail> {
+    let stated = [
+        b"\xa1\x11\xa2\x07\x82\x01\x58\x20".as_slice(),
+        SHA_256,
+        b"\x18\x18",
+        name,
+    ];
+    payload(alloc, &stated)
+}
+
+/// The verdict on the file of that name, where a file of the name `held` has the octets.
+fn verdict_on_name(alloc: Global, name: &[u8], held: &str) -> Result<Verdicts, Fail> {
+    let payload = stated_of(alloc, name)?;
+    Ok(verify(alloc, &payload, &mut files(alloc, &[(held, b"abc")], &[])?)?)
+}
+
+#[test]
+fn a_name_is_taken_as_it_stands(rt: HostRuntime) -> Result<(), Fail> {
+    for (name, path, held, verdict) in [
+        (b"\x62/f".as_slice(), "/f", "/f", Verdict::Same),
+        (b"\x62/f", "/f", "f", Verdict::Missing),
+        (b"\x60", "", "", Verdict::Same),
+        (b"\x60", "", "f", Verdict::Missing),
+        (b"\x62..", "..", "..", Verdict::Same),
+        (b"\x66d/../f", "d/../f", "d/../f", Verdict::Same),
+        (b"\x66d/../f", "d/../f", "f", Verdict::Missing),
+        (b"\x63./f", "./f", "f", Verdict::Missing),
+    ] {
+        let verdicts = verdict_on_name(rt.alloc(), name, held)?;
+        assert!(rt; are(&verdicts, &[(path, verdict)]), "{verdict:?}");
+    }
+    Ok(())
+}
+
+/// A folder with the file `f`, which holds `abc`.
+fn make_folder(rt: &HostRuntime) -> io::Result<()> {
+    let _ = fs::remove_dir_all(rt, "coswid_res_folder");
+    fs::create_dir(rt, "coswid_res_folder")?;
+    fs::write(rt, "coswid_res_folder/f", b"abc".as_slice())
+}
+
+/// The verdict on the file of that name in the system.
+fn verdict_in_system(rt: &HostRuntime, name: &[u8]) -> Result<Verdicts, Fail> {
+    let payload = stated_of(rt.alloc(), name)?;
+    let mut files = FolderFiles::new(rt.alloc(), rt);
+    Ok(verify(rt.alloc(), &payload, &mut files)?)
+}
+
+#[test]
+fn files_of_the_system_are_compared(rt: HostRuntime) -> Result<(), Fail> {
+    make_folder(&rt)?;
+    for (name, path, verdict) in [
+        (
+            b"\x73coswid_res_folder/f".as_slice(),
+            "coswid_res_folder/f",
+            Verdict::Same,
+        ),
+        (
+            b"\x73coswid_res_folder/g",
+            "coswid_res_folder/g",
+            Verdict::Missing,
+        ),
+        (
+            b"\x74/coswid_res_folder/f",
+            "/coswid_res_folder/f",
+            Verdict::Missing,
+        ),
+        (b"\x6d/proc/version", "/proc/version", Verdict::Differs),
+        (
+            b"\x78\x28coswid_res_folder/../coswid_res_folder/f",
+            "coswid_res_folder/../coswid_res_folder/f",
+            Verdict::Same,
+        ),
+        (b"\x60", "", Verdict::Missing),
+    ] {
+        let verdicts = verdict_in_system(&rt, name)?;
+        assert!(rt; are(&verdicts, &[(path, verdict)]), "{path}");
+    }
+    fs::remove_dir_all(&rt, "coswid_res_folder")?;
+    Ok(())
+}
+
+/// The working folder, `.`, is no file.
+#[test]
+fn a_folder_of_the_system_is_a_fault(rt: HostRuntime) -> Result<(), Fail> {
+    let payload = stated_of(rt.alloc(), b"\x61.")?;
+    let mut files = FolderFiles::new(rt.alloc(), &rt);
+    match verify(rt.alloc(), &payload, &mut files) {
+        Err(VerifyRefused::FileFault { path }) => assert_eq!(rt; path.as_str(), "."),
+        Err(VerifyRefused::Memory) => assert!(rt; false),
+        Ok(_verdicts) => assert!(rt; false),
+    }
+    Ok(())
+}
+
+/// The spelling of a payload with so many directories `d` in one another, and in the last of them the file `f`, with the
+/// SHA-256 digest of `abc`.
+fn deep(alloc: Global, count: u8) -> Result<Vec<u8>, Memory> {
+    let mut octets = Vec::new(alloc);
+    for _ in 0..count {
+        octets.extend_from_slice(b"\xa1\x10\xa2\x18\x18\x61d\x18\x1a")?;
+    }
+    octets.extend_from_slice(b"\xa1\x11\xa2\x07\x82\x01\x58\x20")?;
+    octets.extend_from_slice(SHA_256)?;
+    octets.extend_from_slice(b"\x18\x18\x61f")?;
+    Ok(octets)
+}
+
+/// The path of the file in so many directories.
+fn deep_path(alloc: Global, count: u8) -> Result<Text, Memory> {
+    let mut path = String::new(alloc);
+    for _ in 0..count {
+        path.push_str("d/")?;
+    }
+    path.push_str("f")?;
+    Ok(Text::from_string(path))
+}
+
+/// Each directory stands 2 levels below the one round it, and the digest 4 levels below the last directory: 64 levels deep
+/// with 30 directories.
+#[test]
+fn directories_stand_in_directories(rt: HostRuntime) -> Result<(), Fail> {
+    let alloc = rt.alloc();
+    let path = deep_path(alloc, 30)?;
+    let read = payload(alloc, &[deep(alloc, 30)?.as_slice()])?;
+    let written = payload_item(alloc, &read.copy()?)?;
+    let again = payload_of(alloc, &written)?;
+    let mut held = files(alloc, &[(path.as_str(), b"abc")], &[])?;
+    let verdicts = verify(alloc, &again, &mut held)?;
+    assert!(rt; are(&verdicts, &[(path.as_str(), Verdict::Same)]));
+    Ok(())
+}
+
+/// With one directory more, the first key of the file is 65 levels deep: behind 31 directories of 9 octets and 3 octets more.
+#[test]
+fn directories_stand_no_deeper(rt: HostRuntime) -> Result<(), Fail> {
+    let octets = deep(rt.alloc(), 31)?;
+    let refused = read_item(rt.alloc(), octets.as_slice(), LARGEST).err();
+    let fault = CborFault { kind: 6, at: 282 };
+    assert!(rt; refused == Some(CborRefused::Fault(fault)));
+    Ok(())
+}
+
 /// The verdict on `f`, which holds `abc`, by a hash of this algorithm and value, behind the initial octets that spell
 /// them, and by this size.
 fn verdict_by(alloc: Global, head: &[u8], value: &[u8], size: u8) -> Result<Verdicts, Fail> {
@@ -166,6 +330,7 @@ fn digest_and_size_are_both_looked_at(rt: HostRuntime) -> Result<(), Fail> {
         (b"\x08\x58\x40", SHA_512, 3, Verdict::Same),
         (b"\x01\x58\x20", SHA_256, 4, Verdict::Differs),
         (b"\x01\x58\x1f", &SHA_256[..31], 3, Verdict::Differs),
+        (b"\x01\x58\x30", SHA_384, 3, Verdict::Differs),
         (b"\x01\x40", b"", 3, Verdict::Differs),
         (b"\x07\x58\x20", SHA_256, 3, Verdict::Differs),
         (b"\x02\x58\x20", SHA_256, 3, Verdict::UnknownAlgorithm(2)),
@@ -202,6 +367,8 @@ impl Files for Long {
     ghost contents = { λ _. None };
 
     ghost faults = { λ _. 0 };
+
+    ghost reads = { λ _. None };
 
     fn read(&mut self, _name: &str, limit: usize) -> FileAnswer {
         if (limit as u64) < self.len {

@@ -1,6 +1,6 @@
 //! Keys of maps: a number with the form of what stands under it.
 
-ghost use Rattle.std.specs.Prelude.{◌≡◌, OnOk, map, pos};
+ghost use Rattle.std.specs.Prelude.{◌≡◌, OnOk, is_some, map, pos};
 ghost use Rattle.cbor_det.specs.Adding.{put};
 ghost use Rattle.cbor_det.specs.Lookup.{value_under};
 ghost use Rattle.cbor_det.specs.Term.{integer};
@@ -27,6 +27,20 @@ pub struct Key<const NUMBER: u32, F: Form> {
 }
 
 impl<const NUMBER: u32, F: Form> Key<NUMBER, F> {
+    /// The key's number.
+    pub fn number() -> u32
+        ensures number { result ≡ NUMBER }
+    {
+        NUMBER
+    }
+
+    /// Whether the key is there.
+    pub fn is_there(pairs: &Pairs) -> bool
+        ensures there { result ≡ is_some (value_under NUMBER (pairs_view pairs.now)) }
+    {
+        pairs.under(NUMBER as u64).is_some()
+    }
+
     /// Nothing where the key is there; else `Form` with the fault that it is missing; `Memory` where there is no room.
     pub fn expect(alloc: Global, pairs: &Pairs) -> Result<(), FormRefused>
         ensures told { Gives (λ done. Unit {0}) (absent NUMBER (value_under NUMBER (pairs_view pairs.now))) result }

@@ -65,7 +65,7 @@ impl Mapped for PayloadTable {
         let file = table::File::optional_row(alloc, pairs)?;
         let process = table::Process::optional_row(alloc, pairs)?;
         let resource = table::Resource::optional_row(alloc, pairs)?;
-        let extras = pairs.other_than(&table::PAYLOAD_KEYS)?;
+        let extras = pairs.other_than(&table::payload_keys())?;
         Ok(Payload {
             directory,
             file,
@@ -92,7 +92,9 @@ pub fn payload_of(alloc: Global, item: &Item) -> Result<Payload, FormRefused>
     MapForm::<PayloadTable>::read(alloc, item)
 }
 
-/// The item that the payload is written as; `Memory` where there is no room.
+/// The item that the payload is written as; `Memory` where there is no room, and where the size of a file is above 2^63 - 1, since no
+/// item holds it. A value that was made by hand and is read from no item, as one with an empty list or with a listed key among its
+/// extras, is written all the same: no clause then says that the item is in its form.
 pub fn payload_item(alloc: Global, payload: &Payload) -> Result<Item, Memory>
     ensures written { IfOk result (λ made. view made ≡ payload_item payload.now) }
 {

@@ -51,7 +51,7 @@ impl Mapped for ProcessTable {
         table::ProcessName::expect(alloc, pairs)?;
         let process_name = table::ProcessName::required(alloc, pairs)?;
         let pid = table::Pid::optional(alloc, pairs)?;
-        let extras = pairs.other_than(&table::PROCESS_KEYS)?;
+        let extras = pairs.other_than(&table::process_keys())?;
         Ok(ProcessEntry {
             process_name,
             pid,

@@ -1,6 +1,10 @@
 //! The keys of payload and evidence and of the maps in them, each with its number and the form of what stands under it
 //! (RFC 9393, sections 2.9.2 to 2.9.4). Behind them stand all keys that each table lists.
 
+ghost use Rattle.std.specs.Prelude.{◌≡◌};
+ghost use Rattle.coswid_res.specs.Schema as schema;
+ghost use Rattle.coswid_res.specs.Schema.{keys_of};
+
 use crate::directory::DirectoryTable;
 use crate::file::FileTable;
 use crate::key::Key;
@@ -10,63 +14,141 @@ use crate::process::ProcessTable;
 use crate::resource::ResourceTable;
 
 // Files and directories.
+
+/// `hash`.
 pub type Hash = Key<7, HashForm>;
 
+/// `size`.
 pub type Size = Key<20, UintForm>;
 
+/// `file-version`.
 pub type FileVersion = Key<21, TextForm>;
 
+/// `key`.
 pub type IsKey = Key<22, BoolForm>;
 
+/// `location`, also of evidence.
 pub type Location = Key<23, TextForm>;
 
+/// `fs-name`, required.
 pub type FsName = Key<24, TextForm>;
 
+/// `root`.
 pub type Root = Key<25, TextForm>;
 
+/// `path-elements`, by its number alone, as `directory_read` says.
 pub const PATH_ELEMENTS: u32 = 26;
 
 /// The keys that the table of files lists.
-pub const FILE_KEYS: [u32; 7] = [7, 20, 21, 22, 23, 24, 25];
+pub fn file_keys() -> [u32; 7]
+    ensures keys { result ≡ keys_of (schema.table schema.file) }
+{
+    [
+        Hash::number(),
+        Size::number(),
+        FileVersion::number(),
+        IsKey::number(),
+        Location::number(),
+        FsName::number(),
+        Root::number(),
+    ]
+}
 
 /// The keys that the table of directories lists.
-pub const DIRECTORY_KEYS: [u32; 5] = [22, 23, 24, 25, 26];
+pub fn directory_keys() -> [u32; 5]
+    ensures keys { result ≡ keys_of (schema.table schema.directory) }
+{
+    [
+        IsKey::number(),
+        Location::number(),
+        FsName::number(),
+        Root::number(),
+        PATH_ELEMENTS,
+    ]
+}
 
 // Processes.
+
+/// `process-name`, required.
 pub type ProcessName = Key<27, TextForm>;
 
+/// `pid`.
 pub type Pid = Key<28, IntForm>;
 
 /// The keys that the table of processes lists.
-pub const PROCESS_KEYS: [u32; 2] = [27, 28];
+pub fn process_keys() -> [u32; 2]
+    ensures keys { result ≡ keys_of (schema.table schema.process) }
+{
+    [ProcessName::number(), Pid::number()]
+}
 
 // Other resources.
+
+/// `type`, required.
 pub type ResourceType = Key<29, TextForm>;
 
 /// The keys that the table of resources lists.
-pub const RESOURCE_KEYS: [u32; 1] = [29];
+pub fn resource_keys() -> [u32; 1]
+    ensures keys { result ≡ keys_of (schema.table schema.resource) }
+{
+    [ResourceType::number()]
+}
 
 // Payload, evidence, and what a directory holds.
+
+/// `directory`, by its number alone: what reads and writes directories in directories has no `Key` of them.
 pub const DIRECTORY: u32 = 16;
 
-pub type Directory = Key<16, MapForm<DirectoryTable>>;
+/// `directory`, one or more.
+pub type Directory = Key<DIRECTORY, MapForm<DirectoryTable>>;
 
+/// `file`, one or more.
 pub type File = Key<17, MapForm<FileTable>>;
 
+/// `process`, one or more.
 pub type Process = Key<18, MapForm<ProcessTable>>;
 
+/// `resource`, one or more.
 pub type Resource = Key<19, MapForm<ResourceTable>>;
 
 /// The keys that the table of what a directory holds lists.
-pub const PATH_ELEMENTS_KEYS: [u32; 2] = [16, 17];
+pub fn path_elements_keys() -> [u32; 2]
+    ensures keys { result ≡ keys_of (schema.table schema.path_elements) }
+{
+    [DIRECTORY, File::number()]
+}
 
 /// The keys that the table of payloads lists.
-pub const PAYLOAD_KEYS: [u32; 4] = [16, 17, 18, 19];
+pub fn payload_keys() -> [u32; 4]
+    ensures keys { result ≡ keys_of (schema.table schema.payload) }
+{
+    [
+        DIRECTORY,
+        File::number(),
+        Process::number(),
+        Resource::number(),
+    ]
+}
 
 // Evidence alone, and `Location`.
+
+/// `date`.
 pub type Date = Key<35, TimeForm>;
 
+/// `device-id`.
 pub type DeviceId = Key<36, TextForm>;
 
 /// The keys that the table of evidence lists.
-pub const EVIDENCE_KEYS: [u32; 7] = [16, 17, 18, 19, 23, 35, 36];
+pub fn evidence_keys() -> [u32; 7]
+    ensures keys { result ≡ keys_of (schema.table schema.evidence) }
+{
+    [
+        DIRECTORY,
+        File::number(),
+        Process::number(),
+        Resource::number(),
+        Location::number(),
+        Date::number(),
+        DeviceId::number(),
+    ]
+}

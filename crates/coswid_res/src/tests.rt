@@ -1,8 +1,8 @@
 //! Each public call with ample memory. Whole tags are tried as tables in `coswid_codec`.
 
 use crate::{
-    BoolForm, FormFault, FormRefused, HashEntry, HashForm, IntForm, Key, MISSING_KEY, TextForm,
-    UriForm, WRONG_FORM,
+    BOTH, BoolForm, FormFault, FormRefused, HashEntry, HashForm, IntForm, Key, MISSING_KEY,
+    TextForm, UriForm, WRONG_FORM,
 };
 use cbor_det::{Item, LARGEST, Pairs, read_item};
 use std::alloc::Global;
@@ -108,5 +108,24 @@ fn tells_where_a_fault_is(rt: HostRuntime) -> Result<(), Fail> {
     assert!(rt; is_refused(name, MISSING_KEY, [31].as_slice()));
     let expected = Name::expect(alloc, &pairs);
     assert!(rt; is_refused(expected, MISSING_KEY, [31].as_slice()));
+    Ok(())
+}
+
+/// The file at the index 0 in a payload has no name.
+#[test]
+fn shows_a_fault_with_its_path(rt: HostRuntime) -> Result<(), Fail> {
+    let alloc = rt.alloc();
+    let file = FormRefused::at(alloc, MISSING_KEY, 24).under(0);
+    let refused = file.under(17).under(6);
+    let text = refused.to_string(alloc)?;
+    assert_eq!(rt; text.as_str(), "a form fault of kind 1 at 6/17/0/24");
+    Ok(())
+}
+
+#[test]
+fn shows_a_fault_of_the_item_itself(rt: HostRuntime) -> Result<(), Fail> {
+    let alloc = rt.alloc();
+    let text = FormRefused::here(alloc, BOTH).to_string(alloc)?;
+    assert_eq!(rt; text.as_str(), "a form fault of kind 3 at .");
     Ok(())
 }

@@ -1,9 +1,10 @@
 //! The verdict on one file of a payload.
 
 ghost use Rattle.std.specs.Prelude.{◌≡◌, ◌≤◌, IfOk, IsTrue, Some, length};
-ghost use Rattle.coswid_res.specs.Verify.{FILE_OCTETS, IsVerdict, algorithm_of, digest, is_read, read_verdict};
+ghost use Rattle.coswid_res.specs.Verify.{FILE_OCTETS, IsVerdict, algorithm_of, digest, is_read, read_for, read_verdict};
 ghost use Rattle.std.specs.Bool.{OnTrue};
 ghost use Rattle.std.specs.Str.{bytes_eq};
+ghost use Rattle.wire_base.specs.NamedFile.{with_reads};
 ghost use Rattle.wire_base.specs.Outside.{HasCause};
 ghost use Rattle.wire_base.specs.Passing.{is_fault};
 
@@ -74,6 +75,7 @@ pub fn verdict_on<F: Files>(files: &mut F, file: &ListedFile) -> Result<Verdict,
     ensures verdict { IfOk result (λ verdict. IsVerdict (F.contents files.old) file.now verdict) }
     ensures contents { F.contents files.new ≡ F.contents files.old }
     ensures cause { HasCause (F.faults files.old) (F.faults files.new) (is_fault result) }
+    ensures reads { F.reads files.new ≡ with_reads (read_for file.now result) (F.reads files.old) }
     ensures read { OnTrue (is_fault result) (IsTrue (is_read file.now.hash)) }
 {
     let Some(hash) = &file.hash else {

@@ -1,9 +1,9 @@
--- With verdicts on the files that are left there are verdicts on all; no read failed.
-use Rattle.std.proofs.Common.{◌≡◌, ◌++◌, ℕ, List, IsTrue, length}
-use Rattle.std.specs.List.{list_any}
+-- With verdicts on the files that are left there are verdicts on all; the others were read, and no read failed.
+use Rattle.std.proofs.Common.{◌≡◌, ◌++◌, ℕ, List, length}
 use Rattle.std.specs.Vec.Iter.{into_iter_items, into_iter_len}
-use Rattle.coswid_res.specs.Verify.{IsVerdicts, names}
+use Rattle.coswid_res.specs.Verify.{IsVerdicts}
 use Rattle.coswid_res.specs.declared.verdict.Verdict.{Verdict}
+use Rattle.coswid_res.proofs.FileReads.{Gone}
 use Rattle.coswid_res.proofs.file_check.verdicts_on.Given as goal
 
 abbrev pub invariant-loop-file : goal.invariant-loop-file
@@ -12,5 +12,5 @@ invariant-loop-file g l = record {
   len : into_iter_len l.file-iterator ≡ length (into_iter_items l.file-iterator);
   contents : g.F.Files.contents l.files ≡ g.F.Files.contents l.fn.files;
   faults : g.F.Files.faults l.files ≡ g.F.Files.faults l.fn.files;
-  left : (path : List ℕ) → IsTrue (list_any (names path) (into_iter_items l.file-iterator)) → IsTrue (list_any (names path) l.fn.listed);
+  reads : Gone l.fn.listed (into_iter_items l.file-iterator) (g.F.Files.reads l.fn.files) (g.F.Files.reads l.files);
 }
