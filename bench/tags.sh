@@ -45,7 +45,7 @@ input=$folder/input
 # Runs a command on the input, and prints its microseconds, its KiB, and the last line that it printed.
 once() {
     local TIMEFORMAT='%3U %3S' took user system
-    took=$({ time /usr/bin/time -q -f %M -o "$folder/kib" "$@" <"$input" >"$folder/output"; } 2>&1)
+    took=$({ time /usr/bin/time -q -f %M -o "$folder/kib" "$@" <"$input" >"$folder/output" 2>"$folder/errors"; } 2>&1)
     read -r user system <<<"${took//[.,]/}"
     printf '%s\t%s\t%s\n' "$(((10#$user + 10#$system) * 1000))" "$(<"$folder/kib")" "$(tail -n 1 "$folder/output")"
 }

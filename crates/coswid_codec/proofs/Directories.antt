@@ -1,5 +1,5 @@
 -- Directories and what they hold, in one another: RFC 9393, section 2.9.2.
-use Rattle.std.proofs.Common.{◌≡◌, ◌≤◌, ℕ, zero, suc, ◌+◌, List, [], ◌∷◌, map as map_list, Option, Some, None, refl, sym, ap, ◌∙◌, subst, arith}
+use Rattle.std.proofs.Common.{◌≡◌, ◌≤◌, ℕ, zero, suc, ◌+◌, List, [], ◌∷◌, Option, Some, None, refl, sym, ap, ◌∙◌, subst, arith}
 use Rattle.std.specs.Option.{option_map}
 use Rattle.cbor_det.specs.Lookup.{value_under, other_than}
 use Rattle.cbor_det.specs.Proper.{IsProperMap}
@@ -8,12 +8,13 @@ use Rattle.cbor_det.specs.View.{pairs_view}
 use Rattle.coswid_res.specs.declared.directory.DirEntry.{DirEntry, out-DirEntry}
 use Rattle.coswid_res.specs.declared.directory.PathElements.{PathElements, out-PathElements}
 use Rattle.coswid_res.specs.declared.directory.DirEntry.TheOpen.{DirEntry-F, PathElements-F}
+use Rattle.coswid_res.specs.declared.directory.DirEntry.TheViews as views
 use Rattle.coswid_res.specs.declared.directory.DirEntry.TheViews.{roll-DirEntry, roll-PathElements}
 use Rattle.coswid_res.specs.Directories.{DirectoryKeys, PathKeys, DirectoryPairs, directory, PathUnder, no_path, path, PathPairs, path_elements, DirectoriesUnder, no_directories, alone, several, EachDirectory, no_more, one_more, DirectoryMap, PathMap}
 use Rattle.coswid_res.specs.DirectoryItems.{directory_pairs, path_pairs, directory_item, path_item, directories_item}
 use Rattle.coswid_res.specs.Fault.{field_fault, elements_fault, under, wrong_form}
 use Rattle.coswid_res.specs.Files.{files_item}
-use Rattle.coswid_res.specs.Items.{row_item, put_all}
+use Rattle.coswid_res.specs.Items.{put_all}
 use Rattle.coswid_res.specs.Reading.{keys_fault, value_fault}
 use Rattle.coswid_res.specs.Schema as schema
 use Rattle.coswid_res.specs.Schema.{table, keys_of, one, one_or_more, a_map}
@@ -21,10 +22,10 @@ use Rattle.coswid_res.specs.Words.{Agree, Each, OneOrMore}
 use Rattle.coswid_res.proofs.DirectoryReads.{path_under, directories_under, directory_made, path_made, path_agrees, directories_agree}
 use Rattle.coswid_res.proofs.DirectoryWrites.{directory_written, path_written}
 use Rattle.coswid_res.proofs.Maps.{map_told, or_none}
-use Rattle.coswid_codec.proofs.Extras.{extras_some}
+use Rattle.coswid_codec.proofs.Extras.{extras_some, extras_same}
 use Rattle.coswid_codec.proofs.Files.{files_law}
 use Rattle.coswid_codec.proofs.Lawful.{Told, Lawful, MapTold, MapLawful, under_none, wrong}
-use Rattle.coswid_codec.proofs.Lines.{AllSame, put_same, lines_of, required_again, required_same, required_some, optional_again, optional_same, optional_some, again_by, put_alike, pairs_told, map_law}
+use Rattle.coswid_codec.proofs.Lines.{lines_of, required_again, required_same, required_some, optional_again, optional_same, optional_some, again_by, pairs_told, map_law}
 use Rattle.coswid_codec.proofs.Plain.{boolean_law, text_law}
 use Rattle.coswid_codec.proofs.Several.{array_told, one_told, filled, several_law}
 use Rattle.coswid_codec.proofs.Tables.{Entry, fills, Facts, made, required_entry, optional_entry, required_fact, optional_fact, told_fact, under_within}
@@ -159,42 +160,36 @@ mutual
   each_told ds ts no_more = tt
   each_told ds ts (one_more d es ps us is rest) = (pairs_told schema.directory DirectoryPairs directory_pairs 0 d ps (directory_told d ps is), each_told es us rest)
 
--- Two directories that are read from one map are written as one.
+-- From one map one directory is read.
 
-directory_same_by : (d e : DirEntry) (ps : Pairs) → DirectoryKeys (out-DirEntry d) ps → DirectoryKeys (out-DirEntry e) ps
-    → option_map path_item (out-DirEntry d).path_elements ≡ option_map path_item (out-DirEntry e).path_elements → directory_pairs d ≡ directory_pairs e
-directory_same_by d e ps first second held =
-    let a = out-DirEntry d in
-    let b = out-DirEntry e in
-    let fields : AllSame (fills (directory_entries d)) (fills (directory_entries e)) = (
-      optional_same 22 a.key b.key ps boolean_law first.key second.key,
-      (
-        optional_same 23 a.location b.location ps text_law first.location second.location,
-        (
-          required_same 24 a.fs_name b.fs_name ps text_law first.fs_name second.fs_name,
-          (
-            optional_same 25 a.root b.root ps text_law first.root second.root,
-            ((λ qs. put_alike 26 path_item a.path_elements b.path_elements qs held), tt),
-          ),
-        ),
-      ),
-    ) in
-    directory_written d
-    ∙ put_same (fills (directory_entries d)) (fills (directory_entries e)) (pairs_view a.extras) (pairs_view b.extras) fields (first.extras ∙ sym second.extras)
-    ∙ sym (directory_written e)
+directory_fields : (d e : DirEntry) → out-DirEntry d ≡ out-DirEntry e → d ≡ e
+directory_fields d e same = sym (views.roll-out-DirEntry d) ∙ ap (λ (l : DirEntry-F DirEntry PathElements). roll-DirEntry l) same ∙ views.roll-out-DirEntry e
 
-path_same_by : (p q : PathElements) (ps : Pairs) → PathKeys (out-PathElements p) ps → PathKeys (out-PathElements q) ps
-    → option_map directories_item (out-PathElements p).directory ≡ option_map directories_item (out-PathElements q).directory → path_pairs p ≡ path_pairs q
-path_same_by p q ps first second held =
-    let a = out-PathElements p in
-    let b = out-PathElements q in
-    let fields : AllSame (fills (path_entries p)) (fills (path_entries q)) = (
-      (λ qs. put_alike 16 directories_item a.directory b.directory qs held),
-      (optional_same 17 a.file b.file ps files_law first.file second.file, tt),
-    ) in
-    path_written p
-    ∙ put_same (fills (path_entries p)) (fills (path_entries q)) (pairs_view a.extras) (pairs_view b.extras) fields (first.extras ∙ sym second.extras)
-    ∙ sym (path_written q)
+path_fields : (p q : PathElements) → out-PathElements p ≡ out-PathElements q → p ≡ q
+path_fields p q same = sym (views.roll-out-PathElements p) ∙ ap (λ (l : PathElements-F DirEntry PathElements). roll-PathElements l) same ∙ views.roll-out-PathElements q
+
+abbrev of_directory : DirEntry-F DirEntry PathElements → DirEntry-F DirEntry PathElements
+of_directory d = record { key = d.key; location = d.location; fs_name = d.fs_name; root = d.root; path_elements = d.path_elements; extras = d.extras }
+
+directory_same_by : (a b : DirEntry-F DirEntry PathElements) (ps : Pairs) → DirectoryKeys a ps → DirectoryKeys b ps → a.path_elements ≡ b.path_elements → a ≡ b
+directory_same_by a b ps first second held =
+    let key : a.key ≡ b.key = optional_same 22 a.key b.key ps boolean_law first.key second.key in
+    let location : a.location ≡ b.location = optional_same 23 a.location b.location ps text_law first.location second.location in
+    let fs_name : a.fs_name ≡ b.fs_name = required_same 24 a.fs_name b.fs_name ps text_law first.fs_name second.fs_name in
+    let root : a.root ≡ b.root = optional_same 25 a.root b.root ps text_law first.root second.root in
+    let extras : a.extras ≡ b.extras = extras_same a.extras b.extras (first.extras ∙ sym second.extras) in
+    let alike : of_directory a ≡ of_directory b = cc in
+    alike
+
+abbrev of_path : PathElements-F DirEntry PathElements → PathElements-F DirEntry PathElements
+of_path p = record { directory = p.directory; file = p.file; extras = p.extras }
+
+path_same_by : (a b : PathElements-F DirEntry PathElements) (ps : Pairs) → PathKeys a ps → PathKeys b ps → a.directory ≡ b.directory → a ≡ b
+path_same_by a b ps first second held =
+    let file : a.file ≡ b.file = optional_same 17 a.file b.file ps files_law first.file second.file in
+    let extras : a.extras ≡ b.extras = extras_same a.extras b.extras (first.extras ∙ sym second.extras) in
+    let alike : of_path a ≡ of_path b = cc in
+    alike
 
 -- what is read of a map, as keys and what stands under the key of the part
 keys_of_directory : (d : DirEntry) (ps : Pairs) → DirectoryPairs d ps → DirectoryKeys (out-DirEntry d) ps × PathUnder (out-DirEntry d).path_elements (value_under 26 ps)
@@ -204,40 +199,40 @@ keys_of_path : (p : PathElements) (ps : Pairs) → PathPairs p ps → PathKeys (
 keys_of_path p ps (path_elements q qs keys inside) = (keys, inside)
 
 mutual
-  directory_same : (d e : DirEntry) (ps : Pairs) → DirectoryPairs d ps → DirectoryPairs e ps → directory_pairs d ≡ directory_pairs e
+  directory_same : (d e : DirEntry) (ps : Pairs) → DirectoryPairs d ps → DirectoryPairs e ps → d ≡ e
   directory_same d e ps (directory f qs keys inside) second =
       let other = keys_of_directory e qs second in
-      directory_same_by f e qs keys other.0 (path_under_same (out-DirEntry f).path_elements (out-DirEntry e).path_elements (value_under 26 qs) inside (path_agrees (out-DirEntry e).path_elements (value_under 26 qs) other.1))
+      let held = path_under_same (out-DirEntry f).path_elements (out-DirEntry e).path_elements (value_under 26 qs) inside (path_agrees (out-DirEntry e).path_elements (value_under 26 qs) other.1) in
+      directory_fields f e (directory_same_by (out-DirEntry f) (out-DirEntry e) qs keys other.0 held)
 
-  path_under_same : (x y : Option PathElements) (o : Option Term) → PathUnder x o → Agree PathMap y o → option_map path_item x ≡ option_map path_item y
+  path_under_same : (x y : Option PathElements) (o : Option Term) → PathUnder x o → Agree PathMap y o → x ≡ y
   path_under_same x None o no_path second = refl
   path_under_same x (Some q) o no_path second = absurd second
-  path_under_same x (Some q) o (path p ps is) second = ap (λ (rs : Pairs). Some (map rs)) (path_same p q ps is second)
+  path_under_same x (Some q) o (path p ps is) second = ap (λ (r : PathElements). Some r) (path_same p q ps is second)
   path_under_same x None o (path p ps is) second = absurd second
 
-  path_same : (p q : PathElements) (ps : Pairs) → PathPairs p ps → PathPairs q ps → path_pairs p ≡ path_pairs q
+  path_same : (p q : PathElements) (ps : Pairs) → PathPairs p ps → PathPairs q ps → p ≡ q
   path_same p q ps (path_elements r qs keys inside) second =
       let other = keys_of_path q qs second in
-      path_same_by r q qs keys other.0 (directories_under_same (out-PathElements r).directory (out-PathElements q).directory (value_under 16 qs) inside (directories_agree (out-PathElements q).directory (value_under 16 qs) other.1))
+      let held = directories_under_same (out-PathElements r).directory (out-PathElements q).directory (value_under 16 qs) inside (directories_agree (out-PathElements q).directory (value_under 16 qs) other.1) in
+      path_fields r q (path_same_by (out-PathElements r) (out-PathElements q) qs keys other.0 held)
 
-  directories_under_same : (x y : Option (List DirEntry)) (o : Option Term) → DirectoriesUnder x o → Agree (OneOrMore DirectoryMap) y o
-      → option_map directories_item x ≡ option_map directories_item y
+  directories_under_same : (x y : Option (List DirEntry)) (o : Option Term) → DirectoriesUnder x o → Agree (OneOrMore DirectoryMap) y o → x ≡ y
   directories_under_same x None o no_directories second = refl
   directories_under_same x (Some es) o no_directories second = absurd second
   directories_under_same x None o (alone d ps is) second = absurd second
   directories_under_same x (Some []) o (alone d ps is) second = absurd second
-  directories_under_same x (Some (e ∷ [])) o (alone d ps is) second = ap (λ (rs : Pairs). Some (map rs)) (directory_same d e ps is second)
+  directories_under_same x (Some (e ∷ [])) o (alone d ps is) second = ap (λ (f : DirEntry). Some (f ∷ [])) (directory_same d e ps is second)
   directories_under_same x (Some (e ∷ f ∷ es)) o (alone d ps is) second = absurd second
   directories_under_same x None o (several ds ts some each) second = absurd second
-  directories_under_same x (Some es) o (several ds ts some each) second = ap (λ (us : List Term). Some (row_item us)) (each_same ds es ts each second.1)
+  directories_under_same x (Some es) o (several ds ts some each) second = ap (λ (fs : List DirEntry). Some fs) (each_same ds es ts each second.1)
 
-  each_same : (ds es : List DirEntry) (ts : Terms) → EachDirectory ds ts → Each DirectoryMap es ts → map_list directory_item ds ≡ map_list directory_item es
+  each_same : (ds es : List DirEntry) (ts : Terms) → EachDirectory ds ts → Each DirectoryMap es ts → ds ≡ es
   each_same ds [] ts no_more second = refl
   each_same ds (e ∷ es) ts no_more second = absurd second
   each_same ds [] ts (one_more d rs ps us is rest) second = absurd second
   each_same ds (e ∷ es) ts (one_more d rs ps us is rest) second =
-      ap (λ (qs : Pairs). map qs ∷ map_list directory_item rs) (directory_same d e ps is second.0)
-      ∙ ap (λ (vs : List Term). directory_item e ∷ vs) (each_same rs es us rest second.1)
+      ap (λ (f : DirEntry). f ∷ rs) (directory_same d e ps is second.0) ∙ ap (λ (fs : List DirEntry). e ∷ fs) (each_same rs es us rest second.1)
 
 -- A map without a fault is read as a directory: by how deep it is.
 

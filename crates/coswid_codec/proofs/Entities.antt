@@ -11,12 +11,12 @@ use Rattle.coswid_res.specs.Words.{OneOrMore}
 use Rattle.coswid_tag.specs.declared.entity.Entity.{Entity}
 use Rattle.coswid_codec.specs.Forms.{EntityKeys, EntityMap}
 use Rattle.coswid_codec.specs.Items.{entity_pairs, codes_item, entities_item}
-use Rattle.coswid_codec.proofs.Extras.{extras_some}
+use Rattle.coswid_codec.proofs.Extras.{extras_some, extras_same}
 use Rattle.coswid_codec.proofs.Lawful.{Lawful, MapTold, MapLawful}
-use Rattle.coswid_codec.proofs.Lines.{AllSame, put_same, lines_of, required_again, required_same, required_some, optional_again, optional_same, optional_some, map_law}
+use Rattle.coswid_codec.proofs.Lines.{lines_of, required_again, required_same, required_some, optional_again, optional_same, optional_some, map_law}
 use Rattle.coswid_codec.proofs.Plain.{hash_law, text_law, uri_law}
 use Rattle.coswid_codec.proofs.Codes.{codes_law}
-use Rattle.coswid_codec.proofs.Tables.{Entry, fills, Facts, made, required_entry, optional_entry, required_fact, optional_fact}
+use Rattle.coswid_codec.proofs.Tables.{Entry, Facts, made, required_entry, optional_entry, required_fact, optional_fact}
 use Rattle.coswid_codec.proofs.Several.{several_law}
 
 abbrev entries : Entity → List Entry
@@ -58,22 +58,18 @@ told e ps is =
       within = λ n le deep. all.within n le deep;
     }
 
-same : (a b : Entity) (ps : Pairs) → EntityKeys a ps → EntityKeys b ps → entity_pairs a ≡ entity_pairs b
+abbrev fields : Entity → Entity
+fields e = record { entity_name = e.entity_name; reg_id = e.reg_id; role = e.role; thumbprint = e.thumbprint; extras = e.extras }
+
+same : (a b : Entity) (ps : Pairs) → EntityKeys a ps → EntityKeys b ps → a ≡ b
 same a b ps first second =
-    let fields : AllSame (fills (entries a)) (fills (entries b)) = (
-      required_same 31 a.entity_name b.entity_name ps text_law first.entity_name second.entity_name,
-      (
-        optional_same 32 a.reg_id b.reg_id ps uri_law first.reg_id second.reg_id,
-        (
-          required_same 33 a.role b.role ps codes_law first.role second.role,
-          (
-            optional_same 34 a.thumbprint b.thumbprint ps hash_law first.thumbprint second.thumbprint,
-            tt,
-          ),
-        ),
-      ),
-    ) in
-    put_same (fills (entries a)) (fills (entries b)) (pairs_view a.extras) (pairs_view b.extras) fields (first.extras ∙ sym second.extras)
+    let entity_name : a.entity_name ≡ b.entity_name = required_same 31 a.entity_name b.entity_name ps text_law first.entity_name second.entity_name in
+    let reg_id : a.reg_id ≡ b.reg_id = optional_same 32 a.reg_id b.reg_id ps uri_law first.reg_id second.reg_id in
+    let role : a.role ≡ b.role = required_same 33 a.role b.role ps codes_law first.role second.role in
+    let thumbprint : a.thumbprint ≡ b.thumbprint = optional_same 34 a.thumbprint b.thumbprint ps hash_law first.thumbprint second.thumbprint in
+    let extras : a.extras ≡ b.extras = extras_same a.extras b.extras (first.extras ∙ sym second.extras) in
+    let alike : fields a ≡ fields b = cc in
+    alike
 
 some : (ps : Pairs) → keys_fault schema.entity ps ≡ None → (e : Entity) × EntityKeys e ps
 some ps none =

@@ -17,10 +17,10 @@ use Rattle.coswid_codec.proofs.Files.{files_law}
 use Rattle.coswid_codec.proofs.Plain.{text_law, time_law}
 use Rattle.coswid_codec.proofs.Processes.{processes_law}
 use Rattle.coswid_codec.proofs.Resources.{resources_law}
-use Rattle.coswid_codec.proofs.Extras.{extras_some}
+use Rattle.coswid_codec.proofs.Extras.{extras_some, extras_same}
 use Rattle.coswid_codec.proofs.Lawful.{Lawful, MapTold, MapLawful}
-use Rattle.coswid_codec.proofs.Lines.{AllSame, put_same, lines_of, optional_again, optional_same, optional_some, map_law}
-use Rattle.coswid_codec.proofs.Tables.{Entry, fills, Facts, made, optional_entry, optional_fact}
+use Rattle.coswid_codec.proofs.Lines.{lines_of, optional_again, optional_same, optional_some, map_law}
+use Rattle.coswid_codec.proofs.Tables.{Entry, Facts, made, optional_entry, optional_fact}
 
 abbrev entries : Evidence → List Entry
 entries e =
@@ -76,31 +76,21 @@ told e ps is =
       within = λ n le deep. all.within n le deep;
     }
 
-same : (a b : Evidence) (ps : Pairs) → EvidenceKeys a ps → EvidenceKeys b ps → evidence_pairs a ≡ evidence_pairs b
+abbrev fields : Evidence → Evidence
+fields e = record { directory = e.directory; file = e.file; process = e.process; resource = e.resource; location = e.location; date = e.date; device_id = e.device_id; extras = e.extras }
+
+same : (a b : Evidence) (ps : Pairs) → EvidenceKeys a ps → EvidenceKeys b ps → a ≡ b
 same a b ps first second =
-    let fields : AllSame (fills (entries a)) (fills (entries b)) = (
-      optional_same 16 a.directory b.directory ps directories_law first.directory second.directory,
-      (
-        optional_same 17 a.file b.file ps files_law first.file second.file,
-        (
-          optional_same 18 a.process b.process ps processes_law first.process second.process,
-          (
-            optional_same 19 a.resource b.resource ps resources_law first.resource second.resource,
-            (
-              optional_same 23 a.location b.location ps text_law first.location second.location,
-              (
-                optional_same 35 a.date b.date ps time_law first.date second.date,
-                (
-                  optional_same 36 a.device_id b.device_id ps text_law first.device_id second.device_id,
-                  tt,
-                ),
-              ),
-            ),
-          ),
-        ),
-      ),
-    ) in
-    put_same (fills (entries a)) (fills (entries b)) (pairs_view a.extras) (pairs_view b.extras) fields (first.extras ∙ sym second.extras)
+    let directory : a.directory ≡ b.directory = optional_same 16 a.directory b.directory ps directories_law first.directory second.directory in
+    let file : a.file ≡ b.file = optional_same 17 a.file b.file ps files_law first.file second.file in
+    let process : a.process ≡ b.process = optional_same 18 a.process b.process ps processes_law first.process second.process in
+    let resource : a.resource ≡ b.resource = optional_same 19 a.resource b.resource ps resources_law first.resource second.resource in
+    let location : a.location ≡ b.location = optional_same 23 a.location b.location ps text_law first.location second.location in
+    let date : a.date ≡ b.date = optional_same 35 a.date b.date ps time_law first.date second.date in
+    let device_id : a.device_id ≡ b.device_id = optional_same 36 a.device_id b.device_id ps text_law first.device_id second.device_id in
+    let extras : a.extras ≡ b.extras = extras_same a.extras b.extras (first.extras ∙ sym second.extras) in
+    let alike : fields a ≡ fields b = cc in
+    alike
 
 some : (ps : Pairs) → keys_fault schema.evidence ps ≡ None → (e : Evidence) × EvidenceKeys e ps
 some ps none =

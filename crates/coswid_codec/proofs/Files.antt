@@ -12,10 +12,10 @@ use Rattle.coswid_res.specs.Words.{OneOrMore}
 use Rattle.coswid_res.specs.declared.file.FileEntry.{FileEntry}
 use Rattle.coswid_codec.proofs.Plain.{boolean_law, hash_law, text_law, unsigned_law}
 use Rattle.coswid_codec.proofs.Several.{several_law}
-use Rattle.coswid_codec.proofs.Extras.{extras_some}
+use Rattle.coswid_codec.proofs.Extras.{extras_some, extras_same}
 use Rattle.coswid_codec.proofs.Lawful.{Lawful, MapTold, MapLawful}
-use Rattle.coswid_codec.proofs.Lines.{AllSame, put_same, lines_of, required_again, required_same, required_some, optional_again, optional_same, optional_some, map_law}
-use Rattle.coswid_codec.proofs.Tables.{Entry, fills, Facts, made, required_entry, required_fact, optional_entry, optional_fact}
+use Rattle.coswid_codec.proofs.Lines.{lines_of, required_again, required_same, required_some, optional_again, optional_same, optional_some, map_law}
+use Rattle.coswid_codec.proofs.Tables.{Entry, Facts, made, required_entry, required_fact, optional_entry, optional_fact}
 
 abbrev entries : FileEntry → List Entry
 entries f =
@@ -71,31 +71,21 @@ told f ps is =
       within = λ n le deep. all.within n le deep;
     }
 
-same : (a b : FileEntry) (ps : Pairs) → FileKeys a ps → FileKeys b ps → file_pairs a ≡ file_pairs b
+abbrev fields : FileEntry → FileEntry
+fields f = record { hash = f.hash; size = f.size; file_version = f.file_version; key = f.key; location = f.location; fs_name = f.fs_name; root = f.root; extras = f.extras }
+
+same : (a b : FileEntry) (ps : Pairs) → FileKeys a ps → FileKeys b ps → a ≡ b
 same a b ps first second =
-    let fields : AllSame (fills (entries a)) (fills (entries b)) = (
-      optional_same 7 a.hash b.hash ps hash_law first.hash second.hash,
-      (
-        optional_same 20 a.size b.size ps unsigned_law first.size second.size,
-        (
-          optional_same 21 a.file_version b.file_version ps text_law first.file_version second.file_version,
-          (
-            optional_same 22 a.key b.key ps boolean_law first.key second.key,
-            (
-              optional_same 23 a.location b.location ps text_law first.location second.location,
-              (
-                required_same 24 a.fs_name b.fs_name ps text_law first.fs_name second.fs_name,
-                (
-                  optional_same 25 a.root b.root ps text_law first.root second.root,
-                  tt,
-                ),
-              ),
-            ),
-          ),
-        ),
-      ),
-    ) in
-    put_same (fills (entries a)) (fills (entries b)) (pairs_view a.extras) (pairs_view b.extras) fields (first.extras ∙ sym second.extras)
+    let hash : a.hash ≡ b.hash = optional_same 7 a.hash b.hash ps hash_law first.hash second.hash in
+    let size : a.size ≡ b.size = optional_same 20 a.size b.size ps unsigned_law first.size second.size in
+    let file_version : a.file_version ≡ b.file_version = optional_same 21 a.file_version b.file_version ps text_law first.file_version second.file_version in
+    let key : a.key ≡ b.key = optional_same 22 a.key b.key ps boolean_law first.key second.key in
+    let location : a.location ≡ b.location = optional_same 23 a.location b.location ps text_law first.location second.location in
+    let fs_name : a.fs_name ≡ b.fs_name = required_same 24 a.fs_name b.fs_name ps text_law first.fs_name second.fs_name in
+    let root : a.root ≡ b.root = optional_same 25 a.root b.root ps text_law first.root second.root in
+    let extras : a.extras ≡ b.extras = extras_same a.extras b.extras (first.extras ∙ sym second.extras) in
+    let alike : fields a ≡ fields b = cc in
+    alike
 
 some : (ps : Pairs) → keys_fault schema.file ps ≡ None → (f : FileEntry) × FileKeys f ps
 some ps none =

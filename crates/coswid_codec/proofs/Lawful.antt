@@ -18,7 +18,7 @@ pub record Told {A : Type 0} (field : Field) (Is : A → Term → Type 0) (item 
 
 pub record Lawful {A : Type 0} (field : Field) (Is : A → Term → Type 0) (item : A → Term) (least : ℕ) : Type 0 where
   pub told : (v : A) (t : Term) → Is v t → Told field Is item least v t
-  pub same : (v w : A) (t : Term) → Is v t → Is w t → item v ≡ item w
+  pub same : (v w : A) (t : Term) → Is v t → Is w t → v ≡ w
   pub some : (t : Term) → field_fault field t ≡ None → (v : A) × Is v t
 
 -- the same of a map
@@ -30,7 +30,7 @@ pub record MapTold {A : Type 0} (name : Name) (Keys : A → Pairs → Type 0) (p
 
 pub record MapLawful {A : Type 0} (name : Name) (Keys : A → Pairs → Type 0) (pairs : A → Pairs) (least : ℕ) : Type 0 where
   pub told : (v : A) (ps : Pairs) → Keys v ps → MapTold name Keys pairs least v ps
-  pub same : (v w : A) (ps : Pairs) → Keys v ps → Keys w ps → pairs v ≡ pairs w
+  pub same : (v w : A) (ps : Pairs) → Keys v ps → Keys w ps → v ≡ w
   pub some : (ps : Pairs) → keys_fault name ps ≡ None → (v : A) × Keys v ps
 
 -- The bound of what holds such values: one level more, but where there is no bound there is none.

@@ -14,7 +14,6 @@ pub mod Links
 pub mod Metas
 pub mod Payloads
 pub mod Plain
-pub mod SameText
 pub mod Processes
 pub mod Resources
 pub mod Several

@@ -4,7 +4,6 @@ use Rattle.std.specs.Option.{option_map}
 use Rattle.cbor_det.specs.Lookup.{value_under}
 use Rattle.cbor_det.specs.Term.{Term, Pairs, integer, octets, text, array, map, tagged, boolean, pairs_depth}
 use Rattle.coswid_res.specs.Fault.{or_else, absent, missing, field_fault}
-use Rattle.coswid_res.specs.Items.{required_pair, optional_pair, put_all}
 use Rattle.coswid_res.specs.Reading.{value_fault, line_fault, lines_fault, keys_fault}
 use Rattle.coswid_res.specs.Schema.{Name, table, Line, Field, one, a_map, required, optional, required_keys}
 use Rattle.coswid_res.specs.Words.{Agree, Required, Optional, IsMap}
@@ -37,44 +36,21 @@ optional_again {field} {Is} {item} {most} k x ps qs law is e =
 
 -- of two values read from one map
 
+agree_same : {A : Type 0} {field : Field} {Is : A → Term → Type 0} {item : A → Term} {most : ℕ} (x y : Option A) (o : Option Term) → Lawful field Is item most → Agree Is x o → Agree Is y o → x ≡ y
+agree_same None None None law first second = refl
+agree_same {A} (Some v) (Some w) (Some t) law first second = ap (λ (u : A). Some u) (law.same v w t first second)
+agree_same None y (Some t) law first second = absurd first
+agree_same (Some v) y None law first second = absurd first
+agree_same None (Some w) None law first second = absurd second
+agree_same (Some v) None (Some t) law first second = absurd second
+
 pub required_same : {A : Type 0} {field : Field} {Is : A → Term → Type 0} {item : A → Term} {most : ℕ} (k : ℕ) (v w : A) (ps : Pairs) → Lawful field Is item most → Required k Is v ps → Required k Is w ps
-    → (qs : Pairs) → required_pair k item v qs ≡ required_pair k item w qs
-required_same {field} {Is} {item} {most} k v w ps law first second qs =
-    let at = there Is v (value_under k ps) first in
-    let P : Option Term → Type 0 = λ o. Agree Is (Some w) o in
-    let e : item v ≡ item w = law.same v w at.0 at.2 (subst P at.1 second) in
-    ap (λ (t : Term). required_pair k (λ (u : Term). u) t qs) e
-
--- fields of which only the items are known
-pub put_alike : {A : Type 0} (k : ℕ) (item : A → Term) (x y : Option A) (qs : Pairs) → option_map item x ≡ option_map item y → optional_pair k item x qs ≡ optional_pair k item y qs
-put_alike k item None None qs e = refl
-put_alike k item (Some v) (Some w) qs e = let f : item v ≡ item w = cc in ap (λ (t : Term). required_pair k (λ (u : Term). u) t qs) f
-put_alike k item None (Some w) qs e = absurd cc
-put_alike k item (Some v) None qs e = absurd cc
-
-items_alike : {A : Type 0} (field : Field) (Is : A → Term → Type 0) (item : A → Term) (most : ℕ) (x y : Option A) (o : Option Term) → Lawful field Is item most → Agree Is x o → Agree Is y o
-    → option_map item x ≡ option_map item y
-items_alike field Is item most None None None law first second = refl
-items_alike field Is item most (Some v) (Some w) (Some t) law first second = ap (λ (u : Term). Some u) (law.same v w t first second)
-items_alike field Is item most None y (Some t) law first second = absurd first
-items_alike field Is item most (Some v) y None law first second = absurd first
-items_alike field Is item most None (Some w) None law first second = absurd second
-items_alike field Is item most (Some v) None (Some t) law first second = absurd second
+    → v ≡ w
+required_same k v w ps law first second = let e : Some v ≡ Some w = agree_same (Some v) (Some w) (value_under k ps) law first second in cc
 
 pub optional_same : {A : Type 0} {field : Field} {Is : A → Term → Type 0} {item : A → Term} {most : ℕ} (k : ℕ) (x y : Option A) (ps : Pairs) → Lawful field Is item most → Optional k Is x ps → Optional k Is y ps
-    → (qs : Pairs) → optional_pair k item x qs ≡ optional_pair k item y qs
-optional_same {field} {Is} {item} {most} k x y ps law first second qs = put_alike k item x y qs (items_alike field Is item most x y (value_under k ps) law first second)
-
-abbrev pub AllSame : List (Pairs → Pairs) → List (Pairs → Pairs) → Type 0
-AllSame [] [] = Unit {0}
-AllSame (f ∷ fs) (g ∷ gs) = ((qs : Pairs) → f qs ≡ g qs) × AllSame fs gs
-AllSame fs gs = ⊥
-
-pub put_same : (fs gs : List (Pairs → Pairs)) (ps qs : Pairs) → AllSame fs gs → ps ≡ qs → put_all fs ps ≡ put_all gs qs
-put_same [] [] ps qs same e = e
-put_same (f ∷ fs) (g ∷ gs) ps qs same e = put_same fs gs (f ps) (g qs) same.1 (ap (λ (rs : Pairs). f rs) e ∙ same.0 qs)
-put_same [] (g ∷ gs) ps qs same e = absurd same
-put_same (f ∷ fs) [] ps qs same e = absurd same
+    → x ≡ y
+optional_same k x y ps law first second = agree_same x y (value_under k ps) law first second
 
 -- of a map without a fault
 
@@ -130,8 +106,8 @@ module _ {A : Type 0} (name : Name) (Keys : A → Pairs → Type 0) (pairs : A �
   told v (tagged n t) is = absurd is
   told v (boolean b) is = absurd is
 
-  same : (v w : A) (t : Term) → IsMap (Keys v) t → IsMap (Keys w) t → map (pairs v) ≡ map (pairs w)
-  same v w (map ps) first second = ap (λ (qs : Pairs). map qs) (law.same v w ps first second)
+  same : (v w : A) (t : Term) → IsMap (Keys v) t → IsMap (Keys w) t → v ≡ w
+  same v w (map ps) first second = law.same v w ps first second
   same v w (integer z) first second = absurd first
   same v w (octets s) first second = absurd first
   same v w (text s) first second = absurd first

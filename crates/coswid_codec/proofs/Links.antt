@@ -11,11 +11,11 @@ use Rattle.coswid_res.specs.Words.{OneOrMore}
 use Rattle.coswid_tag.specs.declared.link.LinkEntry.{LinkEntry}
 use Rattle.coswid_codec.specs.Forms.{LinkKeys, LinkMap}
 use Rattle.coswid_codec.specs.Items.{link_pairs, code_item, links_item}
-use Rattle.coswid_codec.proofs.Extras.{extras_some}
+use Rattle.coswid_codec.proofs.Extras.{extras_some, extras_same}
 use Rattle.coswid_codec.proofs.Lawful.{Lawful, MapTold, MapLawful}
-use Rattle.coswid_codec.proofs.Lines.{AllSame, put_same, lines_of, required_again, required_same, required_some, optional_again, optional_same, optional_some, map_law}
+use Rattle.coswid_codec.proofs.Lines.{lines_of, required_again, required_same, required_some, optional_again, optional_same, optional_some, map_law}
 use Rattle.coswid_codec.proofs.Plain.{code_law, text_law, uri_law}
-use Rattle.coswid_codec.proofs.Tables.{Entry, fills, Facts, made, required_entry, optional_entry, required_fact, optional_fact}
+use Rattle.coswid_codec.proofs.Tables.{Entry, Facts, made, required_entry, optional_entry, required_fact, optional_fact}
 use Rattle.coswid_codec.proofs.Several.{several_law}
 
 abbrev entries : LinkEntry → List Entry
@@ -72,31 +72,21 @@ told l ps is =
       within = λ n le deep. all.within n le deep;
     }
 
-same : (a b : LinkEntry) (ps : Pairs) → LinkKeys a ps → LinkKeys b ps → link_pairs a ≡ link_pairs b
+abbrev fields : LinkEntry → LinkEntry
+fields l = record { media = l.media; artifact = l.artifact; href = l.href; ownership = l.ownership; rel = l.rel; media_type = l.media_type; link_use = l.link_use; extras = l.extras }
+
+same : (a b : LinkEntry) (ps : Pairs) → LinkKeys a ps → LinkKeys b ps → a ≡ b
 same a b ps first second =
-    let fields : AllSame (fills (entries a)) (fills (entries b)) = (
-      optional_same 10 a.media b.media ps text_law first.media second.media,
-      (
-        optional_same 37 a.artifact b.artifact ps text_law first.artifact second.artifact,
-        (
-          required_same 38 a.href b.href ps uri_law first.href second.href,
-          (
-            optional_same 39 a.ownership b.ownership ps code_law first.ownership second.ownership,
-            (
-              required_same 40 a.rel b.rel ps code_law first.rel second.rel,
-              (
-                optional_same 41 a.media_type b.media_type ps text_law first.media_type second.media_type,
-                (
-                  optional_same 42 a.link_use b.link_use ps code_law first.link_use second.link_use,
-                  tt,
-                ),
-              ),
-            ),
-          ),
-        ),
-      ),
-    ) in
-    put_same (fills (entries a)) (fills (entries b)) (pairs_view a.extras) (pairs_view b.extras) fields (first.extras ∙ sym second.extras)
+    let media : a.media ≡ b.media = optional_same 10 a.media b.media ps text_law first.media second.media in
+    let artifact : a.artifact ≡ b.artifact = optional_same 37 a.artifact b.artifact ps text_law first.artifact second.artifact in
+    let href : a.href ≡ b.href = required_same 38 a.href b.href ps uri_law first.href second.href in
+    let ownership : a.ownership ≡ b.ownership = optional_same 39 a.ownership b.ownership ps code_law first.ownership second.ownership in
+    let rel : a.rel ≡ b.rel = required_same 40 a.rel b.rel ps code_law first.rel second.rel in
+    let media_type : a.media_type ≡ b.media_type = optional_same 41 a.media_type b.media_type ps text_law first.media_type second.media_type in
+    let link_use : a.link_use ≡ b.link_use = optional_same 42 a.link_use b.link_use ps code_law first.link_use second.link_use in
+    let extras : a.extras ≡ b.extras = extras_same a.extras b.extras (first.extras ∙ sym second.extras) in
+    let alike : fields a ≡ fields b = cc in
+    alike
 
 some : (ps : Pairs) → keys_fault schema.link ps ≡ None → (l : LinkEntry) × LinkKeys l ps
 some ps none =

@@ -10,11 +10,11 @@ use Rattle.coswid_res.specs.Words.{OneOrMore}
 use Rattle.coswid_tag.specs.declared.meta.SoftwareMeta.{SoftwareMeta}
 use Rattle.coswid_codec.specs.Forms.{MetaKeys, MetaMap}
 use Rattle.coswid_codec.specs.Items.{meta_pairs, identifier_item, metas_item}
-use Rattle.coswid_codec.proofs.Extras.{extras_some}
+use Rattle.coswid_codec.proofs.Extras.{extras_some, extras_same}
 use Rattle.coswid_codec.proofs.Lawful.{Lawful, MapTold, MapLawful}
-use Rattle.coswid_codec.proofs.Lines.{AllSame, put_same, lines_of, optional_again, optional_same, optional_some, map_law}
+use Rattle.coswid_codec.proofs.Lines.{lines_of, optional_again, optional_same, optional_some, map_law}
 use Rattle.coswid_codec.proofs.Plain.{boolean_law, identifier_law, text_law}
-use Rattle.coswid_codec.proofs.Tables.{Entry, fills, Facts, made, optional_entry, optional_fact}
+use Rattle.coswid_codec.proofs.Tables.{Entry, Facts, made, optional_entry, optional_fact}
 use Rattle.coswid_codec.proofs.Several.{several_law}
 
 abbrev entries : SoftwareMeta → List Entry
@@ -111,55 +111,29 @@ told m ps is =
       within = λ n le deep. all.within n le deep;
     }
 
-same : (a b : SoftwareMeta) (ps : Pairs) → MetaKeys a ps → MetaKeys b ps → meta_pairs a ≡ meta_pairs b
+abbrev fields : SoftwareMeta → SoftwareMeta
+fields m = record { activation_status = m.activation_status; channel_type = m.channel_type; colloquial_version = m.colloquial_version; description = m.description; edition = m.edition; entitlement_data_required = m.entitlement_data_required; entitlement_key = m.entitlement_key; generator = m.generator; persistent_id = m.persistent_id; product = m.product; product_family = m.product_family; revision = m.revision; summary = m.summary; unspsc_code = m.unspsc_code; unspsc_version = m.unspsc_version; extras = m.extras }
+
+same : (a b : SoftwareMeta) (ps : Pairs) → MetaKeys a ps → MetaKeys b ps → a ≡ b
 same a b ps first second =
-    let fields : AllSame (fills (entries a)) (fills (entries b)) = (
-      optional_same 43 a.activation_status b.activation_status ps text_law first.activation_status second.activation_status,
-      (
-        optional_same 44 a.channel_type b.channel_type ps text_law first.channel_type second.channel_type,
-        (
-          optional_same 45 a.colloquial_version b.colloquial_version ps text_law first.colloquial_version second.colloquial_version,
-          (
-            optional_same 46 a.description b.description ps text_law first.description second.description,
-            (
-              optional_same 47 a.edition b.edition ps text_law first.edition second.edition,
-              (
-                optional_same 48 a.entitlement_data_required b.entitlement_data_required ps boolean_law first.entitlement_data_required second.entitlement_data_required,
-                (
-                  optional_same 49 a.entitlement_key b.entitlement_key ps text_law first.entitlement_key second.entitlement_key,
-                  (
-                    optional_same 50 a.generator b.generator ps identifier_law first.generator second.generator,
-                    (
-                      optional_same 51 a.persistent_id b.persistent_id ps text_law first.persistent_id second.persistent_id,
-                      (
-                        optional_same 52 a.product b.product ps text_law first.product second.product,
-                        (
-                          optional_same 53 a.product_family b.product_family ps text_law first.product_family second.product_family,
-                          (
-                            optional_same 54 a.revision b.revision ps text_law first.revision second.revision,
-                            (
-                              optional_same 55 a.summary b.summary ps text_law first.summary second.summary,
-                              (
-                                optional_same 56 a.unspsc_code b.unspsc_code ps text_law first.unspsc_code second.unspsc_code,
-                                (
-                                  optional_same 57 a.unspsc_version b.unspsc_version ps text_law first.unspsc_version second.unspsc_version,
-                                  tt,
-                                ),
-                              ),
-                            ),
-                          ),
-                        ),
-                      ),
-                    ),
-                  ),
-                ),
-              ),
-            ),
-          ),
-        ),
-      ),
-    ) in
-    put_same (fills (entries a)) (fills (entries b)) (pairs_view a.extras) (pairs_view b.extras) fields (first.extras ∙ sym second.extras)
+    let activation_status : a.activation_status ≡ b.activation_status = optional_same 43 a.activation_status b.activation_status ps text_law first.activation_status second.activation_status in
+    let channel_type : a.channel_type ≡ b.channel_type = optional_same 44 a.channel_type b.channel_type ps text_law first.channel_type second.channel_type in
+    let colloquial_version : a.colloquial_version ≡ b.colloquial_version = optional_same 45 a.colloquial_version b.colloquial_version ps text_law first.colloquial_version second.colloquial_version in
+    let description : a.description ≡ b.description = optional_same 46 a.description b.description ps text_law first.description second.description in
+    let edition : a.edition ≡ b.edition = optional_same 47 a.edition b.edition ps text_law first.edition second.edition in
+    let entitlement_data_required : a.entitlement_data_required ≡ b.entitlement_data_required = optional_same 48 a.entitlement_data_required b.entitlement_data_required ps boolean_law first.entitlement_data_required second.entitlement_data_required in
+    let entitlement_key : a.entitlement_key ≡ b.entitlement_key = optional_same 49 a.entitlement_key b.entitlement_key ps text_law first.entitlement_key second.entitlement_key in
+    let generator : a.generator ≡ b.generator = optional_same 50 a.generator b.generator ps identifier_law first.generator second.generator in
+    let persistent_id : a.persistent_id ≡ b.persistent_id = optional_same 51 a.persistent_id b.persistent_id ps text_law first.persistent_id second.persistent_id in
+    let product : a.product ≡ b.product = optional_same 52 a.product b.product ps text_law first.product second.product in
+    let product_family : a.product_family ≡ b.product_family = optional_same 53 a.product_family b.product_family ps text_law first.product_family second.product_family in
+    let revision : a.revision ≡ b.revision = optional_same 54 a.revision b.revision ps text_law first.revision second.revision in
+    let summary : a.summary ≡ b.summary = optional_same 55 a.summary b.summary ps text_law first.summary second.summary in
+    let unspsc_code : a.unspsc_code ≡ b.unspsc_code = optional_same 56 a.unspsc_code b.unspsc_code ps text_law first.unspsc_code second.unspsc_code in
+    let unspsc_version : a.unspsc_version ≡ b.unspsc_version = optional_same 57 a.unspsc_version b.unspsc_version ps text_law first.unspsc_version second.unspsc_version in
+    let extras : a.extras ≡ b.extras = extras_same a.extras b.extras (first.extras ∙ sym second.extras) in
+    let alike : fields a ≡ fields b = cc in
+    alike
 
 some : (ps : Pairs) → keys_fault schema.software_meta ps ≡ None → (m : SoftwareMeta) × MetaKeys m ps
 some ps none =

@@ -15,10 +15,10 @@ use Rattle.coswid_codec.proofs.Directories.{directories_law}
 use Rattle.coswid_codec.proofs.Files.{files_law}
 use Rattle.coswid_codec.proofs.Processes.{processes_law}
 use Rattle.coswid_codec.proofs.Resources.{resources_law}
-use Rattle.coswid_codec.proofs.Extras.{extras_some}
+use Rattle.coswid_codec.proofs.Extras.{extras_some, extras_same}
 use Rattle.coswid_codec.proofs.Lawful.{Lawful, MapTold, MapLawful}
-use Rattle.coswid_codec.proofs.Lines.{AllSame, put_same, lines_of, optional_again, optional_same, optional_some, map_law}
-use Rattle.coswid_codec.proofs.Tables.{Entry, fills, Facts, made, optional_entry, optional_fact}
+use Rattle.coswid_codec.proofs.Lines.{lines_of, optional_again, optional_same, optional_some, map_law}
+use Rattle.coswid_codec.proofs.Tables.{Entry, Facts, made, optional_entry, optional_fact}
 
 abbrev entries : Payload → List Entry
 entries p =
@@ -59,22 +59,18 @@ told p ps is =
       within = λ n le deep. all.within n le deep;
     }
 
-same : (a b : Payload) (ps : Pairs) → PayloadKeys a ps → PayloadKeys b ps → payload_pairs a ≡ payload_pairs b
+abbrev fields : Payload → Payload
+fields p = record { directory = p.directory; file = p.file; process = p.process; resource = p.resource; extras = p.extras }
+
+same : (a b : Payload) (ps : Pairs) → PayloadKeys a ps → PayloadKeys b ps → a ≡ b
 same a b ps first second =
-    let fields : AllSame (fills (entries a)) (fills (entries b)) = (
-      optional_same 16 a.directory b.directory ps directories_law first.directory second.directory,
-      (
-        optional_same 17 a.file b.file ps files_law first.file second.file,
-        (
-          optional_same 18 a.process b.process ps processes_law first.process second.process,
-          (
-            optional_same 19 a.resource b.resource ps resources_law first.resource second.resource,
-            tt,
-          ),
-        ),
-      ),
-    ) in
-    put_same (fills (entries a)) (fills (entries b)) (pairs_view a.extras) (pairs_view b.extras) fields (first.extras ∙ sym second.extras)
+    let directory : a.directory ≡ b.directory = optional_same 16 a.directory b.directory ps directories_law first.directory second.directory in
+    let file : a.file ≡ b.file = optional_same 17 a.file b.file ps files_law first.file second.file in
+    let process : a.process ≡ b.process = optional_same 18 a.process b.process ps processes_law first.process second.process in
+    let resource : a.resource ≡ b.resource = optional_same 19 a.resource b.resource ps resources_law first.resource second.resource in
+    let extras : a.extras ≡ b.extras = extras_same a.extras b.extras (first.extras ∙ sym second.extras) in
+    let alike : fields a ≡ fields b = cc in
+    alike
 
 some : (ps : Pairs) → keys_fault schema.payload ps ≡ None → (p : Payload) × PayloadKeys p ps
 some ps none =

@@ -34,10 +34,13 @@ text_some (map ps) none = wrong none
 text_some (tagged n t) none = wrong none
 text_some (boolean b) none = wrong none
 
+pub text_same : (s r : List ℕ) (t : Term) → Text s t → Text r t → s ≡ r
+text_same s r t first second = let e : text s ≡ text r = sym first ∙ second in cc
+
 pub text_law : Lawful (one a_text) Text text 0
 text_law = record {
   told = λ s t is. as_read (one a_text) Text text s t refl refl is;
-  same = λ s r t first second. sym first ∙ second;
+  same = text_same;
   some = text_some;
 }
 
@@ -52,10 +55,13 @@ boolean_some (array ts) none = wrong none
 boolean_some (map ps) none = wrong none
 boolean_some (tagged n t) none = wrong none
 
+boolean_same : (b c : Bool) (t : Term) → Boolean b t → Boolean c t → b ≡ c
+boolean_same b c t first second = let e : boolean b ≡ boolean c = sym first ∙ second in cc
+
 pub boolean_law : Lawful (one a_boolean) Boolean boolean 0
 boolean_law = record {
   told = λ b t is. as_read (one a_boolean) Boolean boolean b t refl refl is;
-  same = λ b c t first second. sym first ∙ second;
+  same = boolean_same;
   some = boolean_some;
 }
 
@@ -70,10 +76,13 @@ integer_some (array ts) none = wrong none
 integer_some (map ps) none = wrong none
 integer_some (tagged n t) none = wrong none
 
+integer_same : (z y : ℤ) (t : Term) → Integer z t → Integer y t → z ≡ y
+integer_same z y t first second = let e : integer z ≡ integer y = sym first ∙ second in cc
+
 pub integer_law : Lawful (one an_integer) Integer integer 0
 integer_law = record {
   told = λ z t is. as_read (one an_integer) Integer integer z t refl refl is;
-  same = λ z y t first second. sym first ∙ second;
+  same = integer_same;
   some = integer_some;
 }
 
@@ -89,8 +98,8 @@ unsigned_some (array ts) none = wrong none
 unsigned_some (map ps) none = wrong none
 unsigned_some (tagged n t) none = wrong none
 
-unsigned_same : (n m : ℕ) (t : Term) → Unsigned n t → Unsigned m t → unsigned_item n ≡ unsigned_item m
-unsigned_same n m t first second = sym first ∙ second
+unsigned_same : (n m : ℕ) (t : Term) → Unsigned n t → Unsigned m t → n ≡ m
+unsigned_same n m t first second = let e : integer (pos n) ≡ integer (pos m) = sym first ∙ second in cc
 
 pub unsigned_law : Lawful (one an_unsigned) Unsigned unsigned_item 0
 unsigned_law = record {
@@ -107,9 +116,17 @@ identifier_told (identifier.Uuid s) t is =
     let none : field_fault (one an_identifier) (octets s) ≡ None = ap (λ (b : Bool). unless_wrong b) (eq-eqb (length s) 16 is.0) in
     as_read (one an_identifier) Identifier identifier_item (identifier.Uuid s) t (is.0, refl) none is.1
 
-identifier_is : (i : TagId) (t : Term) → Identifier i t → t ≡ identifier_item i
-identifier_is (identifier.Text s) t is = is
-identifier_is (identifier.Uuid s) t is = is.1
+octets_same : (s r : List ℕ) (t : Term) → t ≡ octets s → t ≡ octets r → s ≡ r
+octets_same s r t first second = let e : octets s ≡ octets r = sym first ∙ second in cc
+
+text_no_octets : {A : Type 0} (s r : List ℕ) (t : Term) → t ≡ text s → t ≡ octets r → A
+text_no_octets s r t first second = let e : text s ≡ octets r = sym first ∙ second in absurd cc
+
+identifier_same : (i j : TagId) (t : Term) → Identifier i t → Identifier j t → i ≡ j
+identifier_same (identifier.Text s) (identifier.Text r) t first second = ap identifier.Text (text_same s r t first second)
+identifier_same (identifier.Uuid s) (identifier.Uuid r) t first second = ap identifier.Uuid (octets_same s r t first.1 second.1)
+identifier_same (identifier.Text s) (identifier.Uuid r) t first second = text_no_octets s r t first second.1
+identifier_same (identifier.Uuid s) (identifier.Text r) t first second = text_no_octets r s t second first.1
 
 identifier_some : (t : Term) → field_fault (one an_identifier) t ≡ None → (i : TagId) × Identifier i t
 identifier_some (text s) none = (identifier.Text s, refl)
@@ -123,7 +140,7 @@ identifier_some (tagged n t) none = wrong none
 pub identifier_law : Lawful (one an_identifier) Identifier identifier_item 0
 identifier_law = record {
   told = identifier_told;
-  same = λ i j t first second. sym (identifier_is i t first) ∙ identifier_is j t second;
+  same = identifier_same;
   some = identifier_some;
 }
 
@@ -133,9 +150,14 @@ code_told : (c : CodeValue) (t : Term) → Code c t → Told (one a_code) Code c
 code_told (code.Int z) t is = as_read (one a_code) Code code_item (code.Int z) t refl refl is
 code_told (code.Text s) t is = as_read (one a_code) Code code_item (code.Text s) t refl refl is
 
-code_is : (c : CodeValue) (t : Term) → Code c t → t ≡ code_item c
-code_is (code.Int z) t is = is
-code_is (code.Text s) t is = is
+integer_no_text : {A : Type 0} (z : ℤ) (s : List ℕ) (t : Term) → t ≡ integer z → t ≡ text s → A
+integer_no_text z s t first second = let e : integer z ≡ text s = sym first ∙ second in absurd cc
+
+code_same : (c d : CodeValue) (t : Term) → Code c t → Code d t → c ≡ d
+code_same (code.Int z) (code.Int y) t first second = ap code.Int (integer_same z y t first second)
+code_same (code.Text s) (code.Text r) t first second = ap code.Text (text_same s r t first second)
+code_same (code.Int z) (code.Text s) t first second = integer_no_text z s t first second
+code_same (code.Text s) (code.Int z) t first second = integer_no_text z s t second first
 
 code_some : (t : Term) → field_fault (one a_code) t ≡ None → (c : CodeValue) × Code c t
 code_some (text s) none = (code.Text s, refl)
@@ -149,7 +171,7 @@ code_some (tagged n t) none = wrong none
 pub code_law : Lawful (one a_code) Code code_item 0
 code_law = record {
   told = code_told;
-  same = λ c d t first second. sym (code_is c t first) ∙ code_is d t second;
+  same = code_same;
   some = code_some;
 }
 
@@ -165,11 +187,11 @@ uri_told : (s : List ℕ) (t : Term) → Uri s t → Told (one a_uri) Uri uri_it
 uri_told s t (inl is) = let P : Term → Type 0 = λ u. Told (one a_uri) Uri uri_item 2 s u in subst P (sym is) (tagged_uri s)
 uri_told s t (inr is) = let P : Term → Type 0 = λ u. Told (one a_uri) Uri uri_item 2 s u in subst P (sym is) (bare s)
 
-uri_same : (s r : List ℕ) (t : Term) → Uri s t → Uri r t → uri_item s ≡ uri_item r
-uri_same s r t (inl first) (inl second) = sym first ∙ second
-uri_same s r t (inr first) (inr second) = ap (λ (u : Term). tagged 32 u) (sym first ∙ second)
-uri_same s r t (inl first) (inr second) = cc
-uri_same s r t (inr first) (inl second) = cc
+uri_same : (s r : List ℕ) (t : Term) → Uri s t → Uri r t → s ≡ r
+uri_same s r t (inl first) (inl second) = let e : tagged 32 (text s) ≡ tagged 32 (text r) = sym first ∙ second in cc
+uri_same s r t (inr first) (inr second) = text_same s r t first second
+uri_same s r t (inl first) (inr second) = let e : tagged 32 (text s) ≡ text r = sym first ∙ second in absurd cc
+uri_same s r t (inr first) (inl second) = let e : text s ≡ tagged 32 (text r) = sym first ∙ second in absurd cc
 
 under_32 : (n : ℕ) (s : List ℕ) → unless_wrong (n == 32) ≡ None → Uri s (tagged n (text s))
 under_32 n s none = inl (ap (λ (m : ℕ). tagged m (text s)) (eqb-true n 32 (right (n == 32) none)))
@@ -204,11 +226,11 @@ time_told : (z : ℤ) (t : Term) → Time z t → Told (one a_time) Time time_it
 time_told z t (inl is) = let P : Term → Type 0 = λ u. Told (one a_time) Time time_item 2 z u in subst P (sym is) (tagged_time z)
 time_told z t (inr is) = let P : Term → Type 0 = λ u. Told (one a_time) Time time_item 2 z u in subst P (sym is) (bare_time z)
 
-time_same : (z y : ℤ) (t : Term) → Time z t → Time y t → time_item z ≡ time_item y
-time_same z y t (inl first) (inl second) = sym first ∙ second
-time_same z y t (inr first) (inr second) = ap (λ (u : Term). tagged 1 u) (sym first ∙ second)
-time_same z y t (inl first) (inr second) = cc
-time_same z y t (inr first) (inl second) = cc
+time_same : (z y : ℤ) (t : Term) → Time z t → Time y t → z ≡ y
+time_same z y t (inl first) (inl second) = let e : tagged 1 (integer z) ≡ tagged 1 (integer y) = sym first ∙ second in cc
+time_same z y t (inr first) (inr second) = integer_same z y t first second
+time_same z y t (inl first) (inr second) = let e : tagged 1 (integer z) ≡ integer y = sym first ∙ second in absurd cc
+time_same z y t (inr first) (inl second) = let e : integer z ≡ tagged 1 (integer y) = sym first ∙ second in absurd cc
 
 under_1 : (n : ℕ) (z : ℤ) → unless_wrong (n == 1) ≡ None → Time z (tagged n (integer z))
 under_1 n z none = inl (ap (λ (m : ℕ). tagged m (integer z)) (eqb-true n 1 (right (n == 1) none)))
@@ -272,9 +294,20 @@ hash_some (boolean b) none = wrong none
 hash_some (map ps) none = wrong none
 hash_some (tagged n t) none = wrong none
 
+abbrev fields : HashEntry → HashEntry
+fields h = record { algorithm = h.algorithm; value = h.value }
+
+hash_same : (h i : HashEntry) (t : Term) → Hash h t → Hash i t → h ≡ i
+hash_same h i t first second =
+    let e : hash_item h ≡ hash_item i = sym first ∙ second in
+    let algorithm : h.algorithm ≡ i.algorithm = cc in
+    let value : h.value ≡ i.value = cc in
+    let alike : fields h ≡ fields i = cc in
+    alike
+
 pub hash_law : Lawful (one a_hash) Hash hash_item 0
 hash_law = record {
   told = λ h t is. as_read (one a_hash) Hash hash_item h t refl refl is;
-  same = λ h i t first second. sym first ∙ second;
+  same = hash_same;
   some = hash_some;
 }

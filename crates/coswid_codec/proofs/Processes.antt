@@ -12,10 +12,10 @@ use Rattle.coswid_res.specs.Words.{OneOrMore}
 use Rattle.coswid_res.specs.declared.process.ProcessEntry.{ProcessEntry}
 use Rattle.coswid_codec.proofs.Plain.{integer_law, text_law}
 use Rattle.coswid_codec.proofs.Several.{several_law}
-use Rattle.coswid_codec.proofs.Extras.{extras_some}
+use Rattle.coswid_codec.proofs.Extras.{extras_some, extras_same}
 use Rattle.coswid_codec.proofs.Lawful.{Lawful, MapTold, MapLawful}
-use Rattle.coswid_codec.proofs.Lines.{AllSame, put_same, lines_of, required_again, required_same, required_some, optional_again, optional_same, optional_some, map_law}
-use Rattle.coswid_codec.proofs.Tables.{Entry, fills, Facts, made, required_entry, required_fact, optional_entry, optional_fact}
+use Rattle.coswid_codec.proofs.Lines.{lines_of, required_again, required_same, required_some, optional_again, optional_same, optional_some, map_law}
+use Rattle.coswid_codec.proofs.Tables.{Entry, Facts, made, required_entry, required_fact, optional_entry, optional_fact}
 
 abbrev entries : ProcessEntry → List Entry
 entries p =
@@ -46,16 +46,16 @@ told p ps is =
       within = λ n le deep. all.within n le deep;
     }
 
-same : (a b : ProcessEntry) (ps : Pairs) → ProcessKeys a ps → ProcessKeys b ps → process_pairs a ≡ process_pairs b
+abbrev fields : ProcessEntry → ProcessEntry
+fields p = record { process_name = p.process_name; pid = p.pid; extras = p.extras }
+
+same : (a b : ProcessEntry) (ps : Pairs) → ProcessKeys a ps → ProcessKeys b ps → a ≡ b
 same a b ps first second =
-    let fields : AllSame (fills (entries a)) (fills (entries b)) = (
-      required_same 27 a.process_name b.process_name ps text_law first.process_name second.process_name,
-      (
-        optional_same 28 a.pid b.pid ps integer_law first.pid second.pid,
-        tt,
-      ),
-    ) in
-    put_same (fills (entries a)) (fills (entries b)) (pairs_view a.extras) (pairs_view b.extras) fields (first.extras ∙ sym second.extras)
+    let process_name : a.process_name ≡ b.process_name = required_same 27 a.process_name b.process_name ps text_law first.process_name second.process_name in
+    let pid : a.pid ≡ b.pid = optional_same 28 a.pid b.pid ps integer_law first.pid second.pid in
+    let extras : a.extras ≡ b.extras = extras_same a.extras b.extras (first.extras ∙ sym second.extras) in
+    let alike : fields a ≡ fields b = cc in
+    alike
 
 some : (ps : Pairs) → keys_fault schema.process ps ≡ None → (p : ProcessEntry) × ProcessKeys p ps
 some ps none =

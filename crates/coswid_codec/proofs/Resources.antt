@@ -12,10 +12,10 @@ use Rattle.coswid_res.specs.Words.{OneOrMore}
 use Rattle.coswid_res.specs.declared.resource.ResourceEntry.{ResourceEntry}
 use Rattle.coswid_codec.proofs.Plain.{text_law}
 use Rattle.coswid_codec.proofs.Several.{several_law}
-use Rattle.coswid_codec.proofs.Extras.{extras_some}
+use Rattle.coswid_codec.proofs.Extras.{extras_some, extras_same}
 use Rattle.coswid_codec.proofs.Lawful.{Lawful, MapTold, MapLawful}
-use Rattle.coswid_codec.proofs.Lines.{AllSame, put_same, lines_of, required_again, required_same, required_some, map_law}
-use Rattle.coswid_codec.proofs.Tables.{Entry, fills, Facts, made, required_entry, required_fact}
+use Rattle.coswid_codec.proofs.Lines.{lines_of, required_again, required_same, required_some, map_law}
+use Rattle.coswid_codec.proofs.Tables.{Entry, Facts, made, required_entry, required_fact}
 
 abbrev entries : ResourceEntry → List Entry
 entries r =
@@ -41,13 +41,15 @@ told r ps is =
       within = λ n le deep. all.within n le deep;
     }
 
-same : (a b : ResourceEntry) (ps : Pairs) → ResourceKeys a ps → ResourceKeys b ps → resource_pairs a ≡ resource_pairs b
+abbrev fields : ResourceEntry → ResourceEntry
+fields r = record { resource_type = r.resource_type; extras = r.extras }
+
+same : (a b : ResourceEntry) (ps : Pairs) → ResourceKeys a ps → ResourceKeys b ps → a ≡ b
 same a b ps first second =
-    let fields : AllSame (fills (entries a)) (fills (entries b)) = (
-      required_same 29 a.resource_type b.resource_type ps text_law first.resource_type second.resource_type,
-      tt,
-    ) in
-    put_same (fills (entries a)) (fills (entries b)) (pairs_view a.extras) (pairs_view b.extras) fields (first.extras ∙ sym second.extras)
+    let resource_type : a.resource_type ≡ b.resource_type = required_same 29 a.resource_type b.resource_type ps text_law first.resource_type second.resource_type in
+    let extras : a.extras ≡ b.extras = extras_same a.extras b.extras (first.extras ∙ sym second.extras) in
+    let alike : fields a ≡ fields b = cc in
+    alike
 
 some : (ps : Pairs) → keys_fault schema.resource ps ≡ None → (r : ResourceEntry) × ResourceKeys r ps
 some ps none =

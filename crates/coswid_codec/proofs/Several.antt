@@ -114,10 +114,10 @@ module _ {A : Type 0} (form : Form) (Is : A → Term → Type 0) (item : A → T
       let told = one_told form Is item least plain v t alike (law.told v t is) in
       record { none = told.none; again = told.again; proper = told.proper; within = λ n le deep. told.within n (next_more least n le) deep }
 
-  each_same : (vs ws : List A) (ts : Terms) → Each Is vs ts → Each Is ws ts → items_of vs ≡ items_of ws
+  each_same : (vs ws : List A) (ts : Terms) → Each Is vs ts → Each Is ws ts → vs ≡ ws
   each_same [] [] no_terms first second = refl
   each_same (v ∷ vs) (w ∷ ws) (term t ts) first second =
-      ap (λ (u : Term). u ∷ items_of vs) (law.same v w t first.0 second.0) ∙ ap (λ (us : List Term). item w ∷ us) (each_same vs ws ts first.1 second.1)
+      ap (λ (u : A). u ∷ vs) (law.same v w t first.0 second.0) ∙ ap (λ (us : List A). w ∷ us) (each_same vs ws ts first.1 second.1)
   each_same [] ws (term t ts) first second = absurd first
   each_same (v ∷ vs) ws no_terms first second = absurd first
   each_same [] (w ∷ ws) no_terms first second = absurd second
@@ -156,11 +156,11 @@ module _ {A : Type 0} (form : Form) (Is : A → Term → Type 0) (item : A → T
   abbrev Single : Term → Type 0
   Single t = (vs : List A) → OneOrMore Is vs t → (v : A) × (vs ≡ v ∷ []) × Is v t
 
-  single_same : (t : Term) → Single t → (vs ws : List A) → OneOrMore Is vs t → OneOrMore Is ws t → row_item (items_of vs) ≡ row_item (items_of ws)
+  single_same : (t : Term) → Single t → (vs ws : List A) → OneOrMore Is vs t → OneOrMore Is ws t → vs ≡ ws
   single_same t single vs ws first second =
       let a = single vs first in
       let b = single ws second in
-      ap (λ (us : List A). row_item (items_of us)) a.1 ∙ law.same a.0 b.0 t a.2 b.2 ∙ sym (ap (λ (us : List A). row_item (items_of us)) b.1)
+      a.1 ∙ ap (λ (u : A). u ∷ []) (law.same a.0 b.0 t a.2 b.2) ∙ sym b.1
 
   single_integer : (z : _) → Single (integer z)
   single_integer z (v ∷ []) is = (v, refl, is)
@@ -192,8 +192,8 @@ module _ {A : Type 0} (form : Form) (Is : A → Term → Type 0) (item : A → T
   single_boolean b [] is = absurd is
   single_boolean b (v ∷ w ∷ vs) is = absurd is
 
-  several_same : (vs ws : List A) (t : Term) → OneOrMore Is vs t → OneOrMore Is ws t → row_item (items_of vs) ≡ row_item (items_of ws)
-  several_same vs ws (array ts) first second = ap (λ (us : List Term). row_item us) (each_same vs ws ts first.1 second.1)
+  several_same : (vs ws : List A) (t : Term) → OneOrMore Is vs t → OneOrMore Is ws t → vs ≡ ws
+  several_same vs ws (array ts) first second = each_same vs ws ts first.1 second.1
   several_same vs ws (integer z) first second = single_same (integer z) (single_integer z) vs ws first second
   several_same vs ws (octets s) first second = single_same (octets s) (single_octets s) vs ws first second
   several_same vs ws (text s) first second = single_same (text s) (single_text s) vs ws first second

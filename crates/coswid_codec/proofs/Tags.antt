@@ -16,10 +16,10 @@ use Rattle.coswid_codec.proofs.EvidenceLaws.{evidence_law}
 use Rattle.coswid_codec.proofs.Links.{links_law}
 use Rattle.coswid_codec.proofs.Metas.{metas_law}
 use Rattle.coswid_codec.proofs.Payloads.{payload_law}
-use Rattle.coswid_codec.proofs.Extras.{extras_some}
+use Rattle.coswid_codec.proofs.Extras.{extras_some, extras_same}
 use Rattle.coswid_codec.proofs.Lawful.{MapTold, MapLawful}
-use Rattle.coswid_codec.proofs.Lines.{AllSame, put_same, lines_of, required_again, required_same, required_some, optional_again, optional_same, optional_some}
-use Rattle.coswid_codec.proofs.Tables.{Entry, fills, Facts, made, required_entry, required_fact, optional_entry, optional_fact}
+use Rattle.coswid_codec.proofs.Lines.{lines_of, required_again, required_same, required_some, optional_again, optional_same, optional_some}
+use Rattle.coswid_codec.proofs.Tables.{Entry, Facts, made, required_entry, required_fact, optional_entry, optional_fact}
 
 abbrev entries : Tag → List Entry
 entries g =
@@ -115,55 +115,29 @@ told g ps is =
       within = λ n le deep. all.within n le deep;
     }
 
-same : (a b : Tag) (ps : Pairs) → TagKeys a ps → TagKeys b ps → tag_pairs a ≡ tag_pairs b
+abbrev fields : Tag → Tag
+fields g = record { tag_id = g.tag_id; software_name = g.software_name; entity = g.entity; evidence = g.evidence; link = g.link; software_meta = g.software_meta; payload = g.payload; corpus = g.corpus; patch = g.patch; media = g.media; supplemental = g.supplemental; tag_version = g.tag_version; software_version = g.software_version; version_scheme = g.version_scheme; lang = g.lang; extras = g.extras }
+
+same : (a b : Tag) (ps : Pairs) → TagKeys a ps → TagKeys b ps → a ≡ b
 same a b ps first second =
-    let fields : AllSame (fills (entries a)) (fills (entries b)) = (
-      required_same 0 a.tag_id b.tag_id ps identifier_law first.tag_id second.tag_id,
-      (
-        required_same 1 a.software_name b.software_name ps text_law first.software_name second.software_name,
-        (
-          required_same 2 a.entity b.entity ps entities_law first.entity second.entity,
-          (
-            optional_same 3 a.evidence b.evidence ps evidence_law first.evidence second.evidence,
-            (
-              optional_same 4 a.link b.link ps links_law first.link second.link,
-              (
-                optional_same 5 a.software_meta b.software_meta ps metas_law first.software_meta second.software_meta,
-                (
-                  optional_same 6 a.payload b.payload ps payload_law first.payload second.payload,
-                  (
-                    optional_same 8 a.corpus b.corpus ps boolean_law first.corpus second.corpus,
-                    (
-                      optional_same 9 a.patch b.patch ps boolean_law first.patch second.patch,
-                      (
-                        optional_same 10 a.media b.media ps text_law first.media second.media,
-                        (
-                          optional_same 11 a.supplemental b.supplemental ps boolean_law first.supplemental second.supplemental,
-                          (
-                            required_same 12 a.tag_version b.tag_version ps integer_law first.tag_version second.tag_version,
-                            (
-                              optional_same 13 a.software_version b.software_version ps text_law first.software_version second.software_version,
-                              (
-                                optional_same 14 a.version_scheme b.version_scheme ps code_law first.version_scheme second.version_scheme,
-                                (
-                                  optional_same 15 a.lang b.lang ps text_law first.lang second.lang,
-                                  tt,
-                                ),
-                              ),
-                            ),
-                          ),
-                        ),
-                      ),
-                    ),
-                  ),
-                ),
-              ),
-            ),
-          ),
-        ),
-      ),
-    ) in
-    put_same (fills (entries a)) (fills (entries b)) (pairs_view a.extras) (pairs_view b.extras) fields (first.extras ∙ sym second.extras)
+    let tag_id : a.tag_id ≡ b.tag_id = required_same 0 a.tag_id b.tag_id ps identifier_law first.tag_id second.tag_id in
+    let software_name : a.software_name ≡ b.software_name = required_same 1 a.software_name b.software_name ps text_law first.software_name second.software_name in
+    let entity : a.entity ≡ b.entity = required_same 2 a.entity b.entity ps entities_law first.entity second.entity in
+    let evidence : a.evidence ≡ b.evidence = optional_same 3 a.evidence b.evidence ps evidence_law first.evidence second.evidence in
+    let link : a.link ≡ b.link = optional_same 4 a.link b.link ps links_law first.link second.link in
+    let software_meta : a.software_meta ≡ b.software_meta = optional_same 5 a.software_meta b.software_meta ps metas_law first.software_meta second.software_meta in
+    let payload : a.payload ≡ b.payload = optional_same 6 a.payload b.payload ps payload_law first.payload second.payload in
+    let corpus : a.corpus ≡ b.corpus = optional_same 8 a.corpus b.corpus ps boolean_law first.corpus second.corpus in
+    let patch : a.patch ≡ b.patch = optional_same 9 a.patch b.patch ps boolean_law first.patch second.patch in
+    let media : a.media ≡ b.media = optional_same 10 a.media b.media ps text_law first.media second.media in
+    let supplemental : a.supplemental ≡ b.supplemental = optional_same 11 a.supplemental b.supplemental ps boolean_law first.supplemental second.supplemental in
+    let tag_version : a.tag_version ≡ b.tag_version = required_same 12 a.tag_version b.tag_version ps integer_law first.tag_version second.tag_version in
+    let software_version : a.software_version ≡ b.software_version = optional_same 13 a.software_version b.software_version ps text_law first.software_version second.software_version in
+    let version_scheme : a.version_scheme ≡ b.version_scheme = optional_same 14 a.version_scheme b.version_scheme ps code_law first.version_scheme second.version_scheme in
+    let lang : a.lang ≡ b.lang = optional_same 15 a.lang b.lang ps text_law first.lang second.lang in
+    let extras : a.extras ≡ b.extras = extras_same a.extras b.extras (first.extras ∙ sym second.extras) in
+    let alike : fields a ≡ fields b = cc in
+    alike
 
 some : (ps : Pairs) → keys_fault schema.tag ps ≡ None → (g : Tag) × TagKeys g ps
 some ps none =

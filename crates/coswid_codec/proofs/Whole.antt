@@ -1,5 +1,5 @@
 -- Items that are tags: what is read, what is written, and what is read again.
-use Rattle.std.proofs.Common.{◌≡◌, ◌≤◌, ◌<◌, ◌==◌, ◌+◌, ◌&&◌, ℕ, Bool, true, false, not, nat_le, List, [], Option, Some, None, is_some, if◌then◌else◌, refl, sym, ap, ◌∙◌, arith}
+use Rattle.std.proofs.Common.{◌≡◌, ◌≤◌, ◌<◌, ◌==◌, ◌+◌, ◌&&◌, ℕ, Bool, true, false, not, nat_le, List, [], Option, Some, None, is_some, if◌then◌else◌, refl, sym, ap, ◌∙◌, subst, arith}
 use Rattle.std.proofs.lemmas.Bool.{cond-false, leb-false}
 use Rattle.cbor_det.specs.Canonical.{canon}
 use Rattle.cbor_det.specs.Lookup.{value_under}
@@ -15,7 +15,8 @@ use Rattle.coswid_tag.specs.declared.tag.Tag.{Tag}
 use Rattle.coswid_codec.specs.Answers.{limits, BeginsTag}
 use Rattle.coswid_codec.specs.Forms.{TagKeys, TagForm}
 use Rattle.coswid_codec.specs.Items.{tag_pairs, tag_item}
-use Rattle.coswid_codec.specs.Laws.{NoFaultOrNoTag, OneTag, ReadIsWritten, OneTagOneSpelling}
+use Rattle.coswid_codec.specs.HasItem.{IsItemOf}
+use Rattle.coswid_codec.specs.Laws.{NoFaultOrNoTag, OneTag, HasItemAsWritten, ReadHasItem, WrittenIsRead, ReadIsWritten, OneTagOneSpelling}
 use Rattle.coswid_codec.specs.Marked.{coswid, content, has_both, is_deep}
 use Rattle.coswid_codec.specs.TagFault.{tag_fault}
 use Rattle.coswid_codec.proofs.Lawful.{Lawful}
@@ -30,7 +31,7 @@ pub form_none : (g : Tag) (t : Term) → TagForm g t → tag_fault t ≡ None
 form_none g t form = cond-false _ _ _ form.shallow ∙ cond-false _ _ _ form.one_of_them ∙ (law.told g (content t) form.keys).none
 
 pub one_tag : OneTag
-one_tag g h t first second = ap (λ (u : Term). tagged coswid u) (law.same g h (content t) first.keys second.keys)
+one_tag g h t first second = law.same g h (content t) first.keys second.keys
 
 some_by : (b both : Bool) (t : Term) → is_deep t ≡ b → has_both (content t) ≡ both
     → (if b then fault 4 [] else (if both then fault 3 [] else field_fault (one (a_map schema.tag)) (content t))) ≡ None → (g : Tag) × TagForm g t
@@ -95,10 +96,8 @@ content_proper (array ts) proper = proper
 content_proper (map ps) proper = proper
 content_proper (boolean b) proper = proper
 
-written_proper : (g : Tag) (n : ℕ) (input : List ℕ) → BeginsTag input g n → IsProper (tag_item g)
-written_proper g n input is =
-    let proper : IsProper is.item = spelled_proper is.item _ is.begins.spelled in
-    (omega arith, (law.told g (content is.item) is.form.keys).proper (content_proper is.item proper))
+written_proper : (g : Tag) (t : Term) → IsProper t → TagForm g t → IsProper (tag_item g)
+written_proper g t proper form = (omega arith, (law.told g (content t) form.keys).proper (content_proper t proper))
 
 -- What is read is read again from the item that it is written as.
 pub written_form : (g : Tag) (t : Term) → TagForm g t → TagForm g (tag_item g)
@@ -106,15 +105,39 @@ written_form g t form =
     let again = (law.told g (content t) form.keys).again in
     record { keys = again; one_of_them = both_of g (map (tag_pairs g)) again ∙ sym (both_of g (content t) form.keys) ∙ form.one_of_them; shallow = refl }
 
-pub read_is_written : ReadIsWritten
-read_is_written g n input tail is room = record {
-  item = tag_item g;
-  begins = written_begins limits (tag_item g) tail (written_proper g n input is) (omega (arith, room)) room (written_depth g is.item is.begins.shallow is.form);
-  form = written_form g is.item is.form;
+written_item : (g : Tag) (t : Term) → IsItemOf g t → IsItemOf g (tag_item g)
+written_item g t is = record {
+  proper = written_proper g t is.proper is.form;
+  shallow = written_depth g t is.shallow is.form;
+  form = written_form g t is.form;
 }
+
+pub has_item_as_written : HasItemAsWritten
+has_item_as_written g = (λ found. written_item g found.0 found.1, λ is. (tag_item g, is))
+
+pub read_has_item : ReadHasItem
+read_has_item g n input is = (is.item, record { proper = spelled_proper is.item _ is.begins.spelled; shallow = is.begins.shallow; form = is.form })
+
+pub written_is_read : WrittenIsRead
+written_is_read g tail found room =
+    let is : IsItemOf g (tag_item g) = written_item g found.0 found.1 in
+    record {
+      item = tag_item g;
+      begins = written_begins limits (tag_item g) tail is.proper (omega (arith, room)) room is.shallow;
+      form = is.form;
+    }
+
+pub read_is_written : ReadIsWritten
+read_is_written g n input tail is room = written_is_read g tail (read_has_item g n input is) room
+
+read_proper : (g : Tag) (n : ℕ) (input : List ℕ) → BeginsTag input g n → IsProper (tag_item g)
+read_proper g n input is = let found = read_has_item g n input is in (written_item g found.0 found.1).proper
 
 pub one_tag_one_spelling : OneTagOneSpelling
 one_tag_one_spelling g h n m input other first second small = (
-  (λ e. canon_same (tag_item g) (tag_item h) (written_proper g n input first) (written_proper h m other second) small e),
-  (λ same. ap (λ (t : Term). canon t) same),
+  (λ e.
+      let one : tag_item g ≡ tag_item h = canon_same (tag_item g) (tag_item h) (read_proper g n input first) (read_proper h m other second) small e in
+      let P : Term → Type 0 = λ t. TagForm h t in
+      one_tag g h (tag_item g) (written_form g first.item first.form) (subst P (sym one) (written_form h second.item second.form))),
+  (λ same. ap (λ (k : Tag). canon (tag_item k)) same),
 )

@@ -13,7 +13,6 @@ use Rattle.coswid_tag.specs.declared.tag.Tag.{Tag}
 use Rattle.coswid_codec.specs.declared.read.TagRefused.{TagRefused}
 use Rattle.coswid_codec.specs.declared.read.TagRefused.TheVariants as refused
 use Rattle.coswid_codec.specs.Forms.{TagForm}
-use Rattle.coswid_codec.specs.Items.{tag_item}
 use Rattle.coswid_codec.specs.TagFault.{tag_fault}
 
 -- what is looked at of one tag
@@ -33,10 +32,6 @@ pub record BeginsFaulty (input : List ℕ) (f : FormFault) : Type 0 where
   pub begins : Begins limits input item len
   pub fault : tag_fault item ≡ Some f
 
--- Tags with the same fields are written as one item.
-abbrev pub Same : Tag → Tag → Type 0
-Same g h = tag_item g ≡ tag_item h
-
 -- Why no tag is read.
 abbrev pub IsRefusal : List ℕ → TagRefused → Type 0
 IsRefusal input (refused.Cbor f) = items.IsRefusal limits input (cbor.Fault f)
@@ -45,7 +40,7 @@ IsRefusal input refused.Memory = Unit {0}
 
 -- The answer is this tag with so many octets, unless memory ran out.
 abbrev pub GivesTag : Tag → ℕ → Result (Tag × ℕ) TagRefused → Type 0
-GivesTag g n (Ok read) = Same read.0 g × (read.1 ≡ n)
+GivesTag g n (Ok read) = (read.0 ≡ g) × (read.1 ≡ n)
 GivesTag g n (Err (refused.Cbor f)) = ⊥
 GivesTag g n (Err (refused.Form f)) = ⊥
 GivesTag g n (Err refused.Memory) = Unit {0}

@@ -3,6 +3,7 @@ pub mod Forms
 pub mod Items
 pub mod TagFault
 pub mod Answers
+pub mod HasItem
 pub mod Laws
 pub mod TagText
 pub mod LastKeys

@@ -1,6 +1,10 @@
 //! The keys of tags, each with its number and the form of what stands under it (RFC 9393, section 2). Behind them stand
 //! all keys that each table lists.
 
+ghost use Rattle.std.specs.Prelude.{◌≡◌};
+ghost use Rattle.coswid_res.specs.Schema as schema;
+ghost use Rattle.coswid_res.specs.Schema.{keys_of};
+
 use crate::entity::EntityTable;
 use crate::forms::{CodeForm, IdentifierForm};
 use crate::link::LinkTable;
@@ -10,97 +14,202 @@ use coswid_res::{
 };
 
 // Tags: section 2.3.
+
+/// `tag-id`, required.
 pub type TagId = Key<0, IdentifierForm>;
 
+/// `software-name`, required.
 pub type SoftwareName = Key<1, TextForm>;
 
+/// `entity`, one or more, required.
 pub type Entity = Key<2, MapForm<EntityTable>>;
 
+/// `evidence`.
 pub type Evidence = Key<3, MapForm<EvidenceTable>>;
 
+/// `link`, one or more.
 pub type Link = Key<4, MapForm<LinkTable>>;
 
+/// `software-meta`, one or more.
 pub type SoftwareMeta = Key<5, MapForm<MetaTable>>;
 
+/// `payload`.
 pub type Payload = Key<6, MapForm<PayloadTable>>;
 
+/// `corpus`.
 pub type Corpus = Key<8, BoolForm>;
 
+/// `patch`.
 pub type Patch = Key<9, BoolForm>;
 
+/// `media`, of a tag and of a link.
 pub type Media = Key<10, TextForm>;
 
+/// `supplemental`.
 pub type Supplemental = Key<11, BoolForm>;
 
+/// `tag-version`, required.
 pub type TagVersion = Key<12, IntForm>;
 
+/// `software-version`.
 pub type SoftwareVersion = Key<13, TextForm>;
 
+/// `version-scheme`.
 pub type VersionScheme = Key<14, CodeForm>;
 
+/// `lang`.
 pub type Lang = Key<15, TextForm>;
 
 /// The keys that the table of tags lists.
-pub const TAG_KEYS: [u32; 15] = [0, 1, 2, 3, 4, 5, 6, 8, 9, 10, 11, 12, 13, 14, 15];
+pub fn tag_keys() -> [u32; 15]
+    ensures keys { result ≡ keys_of (schema.table schema.tag) }
+{
+    [
+        TagId::number(),
+        SoftwareName::number(),
+        Entity::number(),
+        Evidence::number(),
+        Link::number(),
+        SoftwareMeta::number(),
+        Payload::number(),
+        Corpus::number(),
+        Patch::number(),
+        Media::number(),
+        Supplemental::number(),
+        TagVersion::number(),
+        SoftwareVersion::number(),
+        VersionScheme::number(),
+        Lang::number(),
+    ]
+}
 
 // Entities: section 2.6.
+
+/// `entity-name`, required.
 pub type EntityName = Key<31, TextForm>;
 
+/// `reg-id`.
 pub type RegId = Key<32, UriForm>;
 
+/// `role`, one or more, required.
 pub type Role = Key<33, CodeForm>;
 
+/// `thumbprint`.
 pub type Thumbprint = Key<34, HashForm>;
 
 /// The keys that the table of entities lists.
-pub const ENTITY_KEYS: [u32; 4] = [31, 32, 33, 34];
+pub fn entity_keys() -> [u32; 4]
+    ensures keys { result ≡ keys_of (schema.table schema.entity) }
+{
+    [
+        EntityName::number(),
+        RegId::number(),
+        Role::number(),
+        Thumbprint::number(),
+    ]
+}
 
 // Links: section 2.7, and `Media`.
+
+/// `artifact`.
 pub type Artifact = Key<37, TextForm>;
 
+/// `href`, required.
 pub type Href = Key<38, UriForm>;
 
+/// `ownership`.
 pub type Ownership = Key<39, CodeForm>;
 
+/// `rel`, required.
 pub type Rel = Key<40, CodeForm>;
 
+/// `media-type`.
 pub type MediaType = Key<41, TextForm>;
 
+/// `use`.
 pub type LinkUse = Key<42, CodeForm>;
 
 /// The keys that the table of links lists.
-pub const LINK_KEYS: [u32; 7] = [10, 37, 38, 39, 40, 41, 42];
+pub fn link_keys() -> [u32; 7]
+    ensures keys { result ≡ keys_of (schema.table schema.link) }
+{
+    [
+        Media::number(),
+        Artifact::number(),
+        Href::number(),
+        Ownership::number(),
+        Rel::number(),
+        MediaType::number(),
+        LinkUse::number(),
+    ]
+}
 
 // Descriptions of software: section 2.8. None must be there.
+
+/// `activation-status`.
 pub type ActivationStatus = Key<43, TextForm>;
 
+/// `channel-type`.
 pub type ChannelType = Key<44, TextForm>;
 
+/// `colloquial-version`.
 pub type ColloquialVersion = Key<45, TextForm>;
 
+/// `description`.
 pub type Description = Key<46, TextForm>;
 
+/// `edition`.
 pub type Edition = Key<47, TextForm>;
 
+/// `entitlement-data-required`.
 pub type EntitlementDataRequired = Key<48, BoolForm>;
 
+/// `entitlement-key`.
 pub type EntitlementKey = Key<49, TextForm>;
 
+/// `generator`.
 pub type Generator = Key<50, IdentifierForm>;
 
+/// `persistent-id`.
 pub type PersistentId = Key<51, TextForm>;
 
+/// `product`.
 pub type Product = Key<52, TextForm>;
 
+/// `product-family`.
 pub type ProductFamily = Key<53, TextForm>;
 
+/// `revision`.
 pub type Revision = Key<54, TextForm>;
 
+/// `summary`.
 pub type Summary = Key<55, TextForm>;
 
+/// `unspsc-code`.
 pub type UnspscCode = Key<56, TextForm>;
 
+/// `unspsc-version`.
 pub type UnspscVersion = Key<57, TextForm>;
 
 /// The keys that the table of descriptions lists.
-pub const META_KEYS: [u32; 15] = [43, 44, 45, 46, 47, 48, 49, 50, 51, 52, 53, 54, 55, 56, 57];
+pub fn meta_keys() -> [u32; 15]
+    ensures keys { result ≡ keys_of (schema.table schema.software_meta) }
+{
+    [
+        ActivationStatus::number(),
+        ChannelType::number(),
+        ColloquialVersion::number(),
+        Description::number(),
+        Edition::number(),
+        EntitlementDataRequired::number(),
+        EntitlementKey::number(),
+        Generator::number(),
+        PersistentId::number(),
+        Product::number(),
+        ProductFamily::number(),
+        Revision::number(),
+        Summary::number(),
+        UnspscCode::number(),
+        UnspscVersion::number(),
+    ]
+}

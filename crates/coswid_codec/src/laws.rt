@@ -1,6 +1,6 @@
 //! Laws of tags, and of payload and evidence by themselves. The functions do nothing: their contracts are the laws.
 
-ghost use Rattle.coswid_codec.specs.Laws.{NoFaultOrNoTag, OneTag, ReadIsWritten, OneTagOneSpelling, PayloadLaw, EvidenceLaw};
+ghost use Rattle.coswid_codec.specs.Laws.{NoFaultOrNoTag, OneTag, HasItemAsWritten, ReadHasItem, WrittenIsRead, ReadIsWritten, OneTagOneSpelling, PayloadLaw, EvidenceLaw};
 
 /// An item has no form fault exactly where some tag is read from it.
 pub fn no_fault_where_some_tag()
@@ -10,6 +10,21 @@ pub fn no_fault_where_some_tag()
 /// An item is read as one tag at most.
 pub fn item_is_one_tag()
     ensures one { OneTag }
+{}
+
+/// A tag has an item exactly where what it is written as is one.
+pub fn has_item_as_written()
+    ensures item { HasItemAsWritten }
+{}
+
+/// What is read has an item.
+pub fn read_has_item()
+    ensures item { ReadHasItem }
+{}
+
+/// What has an item is read from its canonical spelling, whatever follows.
+pub fn written_is_read()
+    ensures again { WrittenIsRead }
 {}
 
 /// What is read is written and read again, whatever follows.
@@ -22,8 +37,8 @@ pub fn one_tag_has_one_spelling()
     ensures one { OneTagOneSpelling }
 {}
 
-/// An item has no form fault exactly where some payload is read from it; all that are read from it are written as one item,
-/// and read again from that.
+/// An item has no form fault exactly where some payload is read from it; it is read as one payload at most, which is written and
+/// read again.
 pub fn payload_is_read_and_written()
     ensures payload { PayloadLaw }
 {}

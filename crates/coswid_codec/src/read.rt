@@ -1,10 +1,9 @@
 //! Reading tags.
 
-ghost use Rattle.std.specs.Prelude.{◌≡◌, ◌≤◌, ℕ, IfOk, IfErr, is_some, length};
+ghost use Rattle.std.specs.Prelude.{◌≡◌, ◌≤◌, ℕ, IfOk, IfErr, length};
 ghost use Rattle.cbor_det.specs.Faults.{IsFault, IsCut};
 ghost use Rattle.cbor_det.specs.Term.{depth};
-ghost use Rattle.cbor_det.specs.Lookup.{value_under};
-ghost use Rattle.cbor_det.specs.View.{view, pairs_view};
+ghost use Rattle.cbor_det.specs.View.{view};
 ghost use Rattle.coswid_codec.specs.Answers.{limits, BeginsTag, BeginsFaulty, IsRefusal, GivesTag, GivesForm, GivesCbor, of_cbor, of_form};
 ghost use Rattle.coswid_codec.specs.Forms.{TagForm};
 ghost use Rattle.coswid_codec.specs.Items.{tag_item};
@@ -15,9 +14,10 @@ ghost use Rattle.coswid_res.specs.declared.fault.FormFault as fault;
 ghost use Rattle.coswid_tag.specs.declared.tag.Tag as tag;
 
 use crate::deep::reaches;
+use crate::key;
 use crate::tag::TagTable;
 use crate::write::COSWID;
-use cbor_det::{CborFault, CborRefused, Item, Limits, Pairs, read_item};
+use cbor_det::{CborFault, CborRefused, Item, Limits, read_item};
 use coswid_res::{BOTH, DEEP, Form, FormFault, FormRefused, MapForm};
 use coswid_tag::Tag;
 use std::alloc::Global;
@@ -31,7 +31,7 @@ pub enum TagRefused {
     #[error("{0}")]
     Cbor(CborFault),
     /// The item is no tag.
-    #[error("a form fault")]
+    #[error("{0}")]
     Form(FormFault),
     /// Want of memory.
     #[error("out of memory")]
@@ -83,15 +83,6 @@ pub fn read_tag(alloc: Global, bytes: &[u8]) -> Result<(Tag, usize), TagRefused>
     Ok((tag, used))
 }
 
-/// The most levels that an item may have.
-const MOST_LEVELS: u32 = 64;
-
-/// The key of evidence.
-const EVIDENCE: u64 = 3;
-
-/// The key of payload.
-const PAYLOAD: u64 = 6;
-
 /// The tag that the item is.
 fn tag_of(alloc: Global, item: &Item) -> Result<Tag, FormRefused>
     ensures told { Gives (λ g. TagForm g (view item.now)) (tag_fault (view item.now)) result }
@@ -110,7 +101,7 @@ fn tag_of(alloc: Global, item: &Item) -> Result<Tag, FormRefused>
 fn is_deep(item: &Item) -> bool
     ensures deep { result ≡ is_deep (view item.now) }
 {
-    !is_marked(item) && reaches(item, MOST_LEVELS)
+    !is_marked(item) && reaches(item, LIMITS.depth)
 }
 
 /// Whether the item stands under the tag of tags.
@@ -128,16 +119,9 @@ fn has_both(item: &Item) -> bool
     ensures both { result ≡ has_both (view item.now) }
 {
     match item {
-        Item::Map(pairs) => holds(pairs, EVIDENCE) && holds(pairs, PAYLOAD),
+        Item::Map(pairs) => key::Evidence::is_there(pairs) && key::Payload::is_there(pairs),
         _ => false,
     }
-}
-
-/// Whether the key is there.
-fn holds(pairs: &Pairs, key: u64) -> bool
-    ensures holds { result ≡ is_some (value_under key (pairs_view pairs.now)) }
-{
-    pairs.under(key).is_some()
 }
 
 /// What stands under the tag of tags, or the item itself.

@@ -14,7 +14,7 @@ use std::alloc::Global;
 use wire_base::{List, Memory, Octets, push_escaped};
 
 /// The lines of the command `tag`: the kind, the software identifier, each finding, and the canonical spelling; `Memory`
-/// where there is no room.
+/// where there is no room, and where a file has a size above 2^63 - 1, which has no item and is never read.
 #[tactic(auto, unfolding(crate::specs::TagText::tag_text))]
 pub fn tag_text(alloc: Global, tag: &Tag) -> Result<Octets, Memory>
     requires depth { depth (tag_item tag.now) ≤ 64 }
@@ -37,7 +37,8 @@ pub fn put_summary(alloc: Global, out: &mut Octets, tag: &Tag) -> Result<(), Mem
     put_findings(alloc, out, found.as_slice())
 }
 
-/// Puts the line of a tag's canonical spelling at the end of `out`; `Memory` where there is no room.
+/// Puts the line of a tag's canonical spelling at the end of `out`; `Memory` where there is no room, and where a file has a size above
+/// 2^63 - 1, which has no item and is never read.
 pub fn put_canonical(alloc: Global, out: &mut Octets, tag: &Tag) -> Result<(), Memory>
     requires depth { depth (tag_item tag.now) ≤ 64 }
     ensures line { OnOk result (out.new ≡ out.old ++ canonical_line (canon (tag_item tag.now))) }

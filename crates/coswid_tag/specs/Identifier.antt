@@ -1,4 +1,5 @@
--- The software identifier that a tag tells: RFC 8412, section 3.4.1, and RFC 9393, section 5.1 and 8.
+-- The software identifier that a tag tells: RFC 8412, section 3.4.1, of the tag-id and the reg-id of RFC 9393,
+-- sections 2.3 and 2.6.
 use Rattle.std.specs.Prelude.{◌≡◌, ◌<◌, ◌≤◌, ℕ, List, [], ◌∷◌, ◌++◌, length, codes, Option, Some, None, Result, Ok, Err, if◌then◌else◌}
 use Rattle.uuid.specs.Text.{urn_text, lower}
 use Rattle.coswid_tag.specs.declared.entity.Entity.{Entity}

@@ -8,7 +8,7 @@ use wire_base::{List, Memory, Text, TryCopy};
 /// Descriptions in order.
 pub type SoftwareMetas = List<SoftwareMeta>;
 
-/// A description of the software (RFC 9393, section 2.8).
+/// A description of the software: an entry of software-meta (RFC 9393, section 2.8). A long text in it has the name description too.
 #[derive(Debug, Drop)]
 pub struct SoftwareMeta {
     /// Whether it is licensed, on trial and the like (43).
