@@ -1,4 +1,4 @@
--- Releases and spellings are equal by a law, and their order says so.
+-- Releases and contents are equal by a law, and their order says so.
 use Rattle.std.proofs.Common.{◌≡◌, Bool, true, ◌&&◌, int_eq, refl, ap, ◌∙◌}
 use Rattle.std.proofs.Common.{Ordering, Less, Equal, Greater, is_eq, int_cmp}
 use Rattle.std.specs.Cmp.{IsEquivalence}
@@ -9,7 +9,7 @@ use Rattle.coswid_tag.specs.declared.value.TagId.{TagId}
 use Rattle.coswid_tag.specs.declared.value.TagId.TheVariants as identifier
 use Rattle.coswid_links.specs.declared.release.Identifier.{Identifier}
 use Rattle.coswid_links.specs.declared.release.Release.{Release}
-use Rattle.coswid_links.specs.Releases.{Claim, claim_of, identifier_of, same_claim}
+use Rattle.coswid_links.specs.Releases.{Claim, Written, claim_of, identifier_of, same_claim, same_content}
 use Rattle.coswid_links.specs.Rivals.{same_identifier}
 
 same_itself : (s : TagId) → same_identifier s s ≡ true
@@ -36,10 +36,17 @@ identifiers_equal = record { refl = same_itself; symm = same_back; congr = same_
 pub claims_equal : IsEquivalence same_claim
 claims_equal = and_equiv (on_equiv (λ (c : Claim). c.0) identifiers_equal) (on_equiv (λ (c : Claim). c.1) int_eq_equiv)
 
+pub contents_equal : IsEquivalence same_content
+contents_equal = and_equiv (on_equiv (λ (c : Written). c.0) claims_equal) (on_equiv (λ (c : Written). c.1) nat_list_eq_equiv)
+
 both_equal : (o p : Ordering) → is_eq (ordering_then o p) ≡ (is_eq o && is_eq p)
 both_equal Less p = refl
 both_equal Equal p = refl
 both_equal Greater p = refl
+
+-- An order by one thing and then another says so.
+pub both_agree : (o p : Ordering) (a b : Bool) → is_eq o ≡ a → is_eq p ≡ b → is_eq (ordering_then o p) ≡ (a && b)
+both_agree o p a b first second = both_equal o p ∙ ap (λ (c : Bool). c && is_eq p) first ∙ ap (λ (c : Bool). a && c) second
 
 -- An order by the identifier and then the version says so.
 pub claims_agree : (cmp : Identifier → Identifier → Ordering) → ((s t : Identifier) → is_eq (cmp s t) ≡ same_identifier (identifier_of s) (identifier_of t))

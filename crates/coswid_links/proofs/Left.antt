@@ -1,5 +1,5 @@
 -- What is listed of pairs of tags, a tag at a time.
-use Rattle.std.proofs.Common.{◌≡◌, ℕ, suc, ◌+◌, ◌-◌, ◌<◌, ◌&&◌, not, Bool, List, [], ◌∷◌, ◌++◌, length, get_or, drop, append_assoc, refl, sym, ap, ◌∙◌, subst, arith, length-drop, get_or-drop}
+use Rattle.std.proofs.Common.{◌≡◌, ℕ, suc, ◌+◌, ◌-◌, ◌<◌, ◌&&◌, not, Bool, true, false, List, [], ◌∷◌, ◌++◌, length, get_or, drop, append_assoc, refl, sym, ap, ◌∙◌, subst, arith, length-drop, get_or-drop}
 use Rattle.std.proofs.lemmas.List.{drop_more, get_or_default}
 use Rattle.coswid_tag.specs.declared.tag.Tag.{Tag}
 use Rattle.coswid_links.specs.declared.finding.LinkFinding.{LinkFinding}
@@ -21,18 +21,31 @@ span_each f h (x ∷ xs) n same =
     ∙ ap (λ (ys : List _). f (n + 1) x ++ ys)
     (span_each f h xs (n + 1) (λ j d lt. subst (λ (m : ℕ). h m ≡ f (m + 1) (get_or xs j d)) (next j) (same (suc j) d (omega arith))))
 
-module _ (gs : List Tag) (releases spellings : List ℕ) (by_release : Tells same_release gs releases) (by_spelling : Tells same_spelling gs spellings) where
-  rivals_told : (i k : ℕ) (d : Tag) → i < length gs → k < length gs → rivals releases spellings i k ≡ are_rivals (get_or gs i d) (get_or gs k d)
+-- whether the tags are of one release and are written alike
+abbrev pub one_content : Tag → Tag → Bool
+one_content g h = same_release g h && same_spelling g h
+
+of_one_release : (a b : Bool) → (a && not (a && b)) ≡ (a && not b)
+of_one_release true b = refl
+of_one_release false b = refl
+
+module _ (gs : List Tag) (releases contents : List ℕ) (by_release : Tells same_release gs releases) (by_content : Tells one_content gs contents) where
+  -- There is a number of each kind for each tag.
+  pub same_lengths : length contents ≡ length releases
+  same_lengths = by_content.one_each ∙ sym by_release.one_each
+
+  rivals_told : (i k : ℕ) (d : Tag) → i < length gs → k < length gs → rivals releases contents i k ≡ are_rivals (get_or gs i d) (get_or gs k d)
   rivals_told i k d lt below =
-      ap (λ (b : Bool). b && not (has spellings (get_or spellings i 0) k)) (by_release.apart i k d lt below)
-      ∙ ap (λ (b : Bool). same_release (get_or gs i d) (get_or gs k d) && not b) (by_spelling.apart i k d lt below)
+      ap (λ (b : Bool). b && not (has contents (get_or contents i 0) k)) (by_release.apart i k d lt below)
+      ∙ ap (λ (b : Bool). same_release (get_or gs i d) (get_or gs k d) && not b) (by_content.apart i k d lt below)
+      ∙ of_one_release (same_release (get_or gs i d) (get_or gs k d)) (same_spelling (get_or gs i d) (get_or gs k d))
 
   rivals_listed : (i : ℕ) (g : Tag) → i < length gs → g ≡ get_or gs i g
-      → rivals_of releases spellings i ≡ each_from (pair_findings (i + 1) g) (i + 1 + 1) (drop (i + 1) gs)
+      → rivals_of releases contents i ≡ each_from (pair_findings (i + 1) g) (i + 1 + 1) (drop (i + 1) gs)
   rivals_listed i g lt is =
       let count : length releases - (i + 1) ≡ length (drop (i + 1) gs) = ap (λ (n : ℕ). n - (i + 1)) by_release.one_each ∙ sym (length-drop (i + 1) gs) in
-      ap (λ (n : ℕ). span (rival_findings releases spellings i) (i + 1) n) count
-      ∙ span_each (pair_findings (i + 1) g) (rival_findings releases spellings i) (drop (i + 1) gs) (i + 1)
+      ap (λ (n : ℕ). span (rival_findings releases contents i) (i + 1) n) count
+      ∙ span_each (pair_findings (i + 1) g) (rival_findings releases contents i) (drop (i + 1) gs) (i + 1)
       (λ j d below.
       let within : i + 1 + j < length gs = omega (arith, length-drop (i + 1) gs) in
       ap (λ (b : Bool). finding 4 b (i + 1) (i + 1 + j + 1)) (rivals_told i (i + 1 + j) d lt within)
@@ -40,7 +53,7 @@ module _ (gs : List Tag) (releases spellings : List ℕ) (by_release : Tells sam
       ∙ ap (λ (h : Tag). pair_findings (i + 1) g (i + 1 + j + 1) h) (sym (get_or-drop (i + 1) gs j d)))
 
   pairs_of : (i : ℕ) (g : Tag) (before old new : List LinkFinding) → i < length gs → g ≡ get_or gs i g
-      → old ++ each_pair_from pair_findings (i + 1) (drop i gs) ≡ before → new ≡ old ++ rivals_of releases spellings i
+      → old ++ each_pair_from pair_findings (i + 1) (drop i gs) ≡ before → new ≡ old ++ rivals_of releases contents i
       → new ++ each_pair_from pair_findings (i + 1 + 1) (drop (i + 1) gs) ≡ before
   pairs_of i g before old new lt is so_far put =
       let rest = each_pair_from pair_findings (i + 1 + 1) (drop (i + 1) gs) in
@@ -52,7 +65,7 @@ module _ (gs : List Tag) (releases spellings : List ℕ) (by_release : Tells sam
 
   -- With the pairs of a tag put behind the rest, those of the tags behind it are left.
   pub pairs_more : (i : ℕ) (before old new : List LinkFinding) → i < length gs → old ++ each_pair_from pair_findings (i + 1) (drop i gs) ≡ before
-      → new ≡ old ++ rivals_of releases spellings i → new ++ each_pair_from pair_findings (i + 1 + 1) (drop (i + 1) gs) ≡ before
+      → new ≡ old ++ rivals_of releases contents i → new ++ each_pair_from pair_findings (i + 1 + 1) (drop (i + 1) gs) ≡ before
   pairs_more i before old new lt so_far put =
       let some = some_of gs (omega arith) in
       let here = get_or gs i some in

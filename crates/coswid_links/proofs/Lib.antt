@@ -7,3 +7,4 @@ pub mod Walking
 pub mod Left
 pub mod Equal
 pub mod Ordered
+pub mod Apart

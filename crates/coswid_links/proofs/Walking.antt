@@ -26,21 +26,21 @@ latest_more numbers place latest lt room known number d below =
     (cases_eq number here)
 
 -- What stands behind each place, from a place on: that behind the place is known in addition.
-pub behind_more : (releases spellings : List ℕ) (place to : ℕ) (behinds : List Behind) (new : Behind) → place < length behinds → IsBehind releases spellings place new
-    → ((at : ℕ) (d : Behind) → place + 1 ≤ at → at < to → IsBehind releases spellings at (slice_index_or behinds at d))
-    → (at : ℕ) (d : Behind) → place ≤ at → at < to → IsBehind releases spellings at (slice_index_or (set behinds place new) at d)
-behind_more releases spellings place to behinds new lt is known at d ge below = ⊎_elim
-    (λ same. subst (λ (b : Behind). IsBehind releases spellings at b) (sym (get_or-set_at behinds place at new d same lt))
-    (subst (λ (k : ℕ). IsBehind releases spellings k new) (sym same) is))
-    (λ apart. subst (λ (b : Behind). IsBehind releases spellings at b) (sym (get_or-set_other behinds place at new d apart)) (known at d (omega arith) below))
+pub behind_more : (releases contents : List ℕ) (place to : ℕ) (behinds : List Behind) (new : Behind) → place < length behinds → IsBehind releases contents place new
+    → ((at : ℕ) (d : Behind) → place + 1 ≤ at → at < to → IsBehind releases contents at (slice_index_or behinds at d))
+    → (at : ℕ) (d : Behind) → place ≤ at → at < to → IsBehind releases contents at (slice_index_or (set behinds place new) at d)
+behind_more releases contents place to behinds new lt is known at d ge below = ⊎_elim
+    (λ same. subst (λ (b : Behind). IsBehind releases contents at b) (sym (get_or-set_at behinds place at new d same lt))
+    (subst (λ (k : ℕ). IsBehind releases contents k new) (sym same) is))
+    (λ apart. subst (λ (b : Behind). IsBehind releases contents at b) (sym (get_or-set_other behinds place at new d apart)) (known at d (omega arith) below))
     (cases_eq at place)
 
 -- It is known of a place that was found behind it.
-pub behind_there : (releases spellings : List ℕ) (test : ℕ → Bool) (from to : ℕ) (behinds : List Behind) (r : Option ℕ) → IsFirst test from to r
-    → ((at : ℕ) (d : Behind) → from ≤ at → at < to → IsBehind releases spellings at (slice_index_or behinds at d))
-    → IfSome r (λ m. (d : Behind) → IsBehind releases spellings m (slice_index_or behinds m d))
-behind_there releases spellings test from to behinds None is known = tt
-behind_there releases spellings test from to behinds (Some m) is known = λ d. known m d is.0 is.1
+pub behind_there : (releases contents : List ℕ) (test : ℕ → Bool) (from to : ℕ) (behinds : List Behind) (r : Option ℕ) → IsFirst test from to r
+    → ((at : ℕ) (d : Behind) → from ≤ at → at < to → IsBehind releases contents at (slice_index_or behinds at d))
+    → IfSome r (λ m. (d : Behind) → IsBehind releases contents m (slice_index_or behinds m d))
+behind_there releases contents test from to behinds None is known = tt
+behind_there releases contents test from to behinds (Some m) is known = λ d. known m d is.0 is.1
 
 -- what is left of a walk
 abbrev pub walk_left : ℕ → Option ℕ → ℕ
@@ -50,13 +50,13 @@ walk_left to (Some m) = suc (to - m)
 nothing : (b : Bool) (i j : ℕ) → b ≡ false → finding 4 b i j ≡ []
 nothing b i j e = ap (λ (t : Bool). finding 4 t i j) e
 
-module _ (releases spellings : List ℕ) (first : ℕ) where
-  no_rival : (k : ℕ) → rivals releases spellings first k ≡ false → rival_findings releases spellings first k ≡ []
-  no_rival k e = nothing (rivals releases spellings first k) (first + 1) (k + 1) e
+module _ (releases contents : List ℕ) (first : ℕ) where
+  no_rival : (k : ℕ) → rivals releases contents first k ≡ false → rival_findings releases contents first k ≡ []
+  no_rival k e = nothing (rivals releases contents first k) (first + 1) (k + 1) e
 
   -- On a walk: what was put, and what is to come from the place on, is all; the place is of the first one's release.
   pub record Walks (before found : List LinkFinding) (at : Option ℕ) : Type 0 where
-    pub put : found ++ from_first (rival_findings releases spellings first) (length releases) at ≡ before ++ rivals_of releases spellings first
+    pub put : found ++ from_first (rival_findings releases contents first) (length releases) at ≡ before ++ rivals_of releases contents first
     pub place : IfSome at (λ m. (m < length releases) × (slice_index releases first ≡ slice_index releases m))
 
   place_of : (test : ℕ → Bool) (from : ℕ) (r : Option ℕ) → ((k : ℕ) → test k ≡ true → slice_index releases first ≡ slice_index releases k)
@@ -65,49 +65,49 @@ module _ (releases spellings : List ℕ) (first : ℕ) where
   place_of test from (Some m) h is = (is.1, h m is.2)
 
   pub walk_begins : (before : List LinkFinding) (at : Option ℕ) → first < length releases
-      → IsFirst (rivals releases spellings first) (first + 1) (length releases) at → Walks before before at
+      → IsFirst (rivals releases contents first) (first + 1) (length releases) at → Walks before before at
   walk_begins before at lt is = record {
     put = ap (λ (xs : List LinkFinding). before ++ xs)
-        (sym (span_first (rival_findings releases spellings first) (rivals releases spellings first) (first + 1) (length releases) at (omega arith) no_rival is));
-    place = place_of (rivals releases spellings first) (first + 1) at
-        (λ k e. eqb-true (slice_index releases first) (slice_index releases k) (and_parts (of_release releases first k) (not (has spellings (slice_index spellings first) k)) e).0) is;
+        (sym (span_first (rival_findings releases contents first) (rivals releases contents first) (first + 1) (length releases) at (omega arith) no_rival is));
+    place = place_of (rivals releases contents first) (first + 1) at
+        (λ k e. eqb-true (slice_index releases first) (slice_index releases k) (and_parts (of_release releases first k) (not (has contents (slice_index contents first) k)) e).0) is;
   }
 
   module _ (before found : List LinkFinding) (m : ℕ) (walks : Walks before found (Some m)) where
     one_release : (k : ℕ) → of_release releases first k ≡ of_release releases m k
     one_release k = ap (λ (r : ℕ). has releases r k) walks.place.1
 
-    pub walks_past : (next : Option ℕ) → slice_index spellings m ≡ slice_index spellings first
-        → IsFirst (rivals releases spellings m) (m + 1) (length releases) next → Walks before found next
+    pub walks_past : (next : Option ℕ) → slice_index contents m ≡ slice_index contents first
+        → IsFirst (rivals releases contents m) (m + 1) (length releases) next → Walks before found next
     walks_past next alike is =
-        let same : (k : ℕ) → rivals releases spellings first k ≡ rivals releases spellings m k =
-        λ k. ap (λ (b : Bool). b && not (has spellings (slice_index spellings first) k)) (one_release k)
-        ∙ ap (λ (s : ℕ). of_release releases m k && not (has spellings s k)) (sym alike) in
-        let here : rival_findings releases spellings first m ≡ [] =
-        no_rival m (and_right (of_release releases first m) (not (has spellings (slice_index spellings first) m)) (not_from_true _ (eq-eqb (slice_index spellings first) (slice_index spellings m) (sym alike)))) in
+        let same : (k : ℕ) → rivals releases contents first k ≡ rivals releases contents m k =
+        λ k. ap (λ (b : Bool). b && not (has contents (slice_index contents first) k)) (one_release k)
+        ∙ ap (λ (s : ℕ). of_release releases m k && not (has contents s k)) (sym alike) in
+        let here : rival_findings releases contents first m ≡ [] =
+        no_rival m (and_right (of_release releases first m) (not (has contents (slice_index contents first) m)) (not_from_true _ (eq-eqb (slice_index contents first) (slice_index contents m) (sym alike)))) in
         record {
-          put = ap (λ (xs : List LinkFinding). found ++ (xs ++ from_first (rival_findings releases spellings first) (length releases) next)) (sym here)
+          put = ap (λ (xs : List LinkFinding). found ++ (xs ++ from_first (rival_findings releases contents first) (length releases) next)) (sym here)
               ∙ ap (λ (xs : List LinkFinding). found ++ xs)
-              (sym (walks_on (rival_findings releases spellings first) (rivals releases spellings m) m (length releases) next walks.place.0 (λ k e. no_rival k (same k ∙ e)) is))
+              (sym (walks_on (rival_findings releases contents first) (rivals releases contents m) m (length releases) next walks.place.0 (λ k e. no_rival k (same k ∙ e)) is))
               ∙ walks.put;
-          place = place_of (rivals releases spellings m) (m + 1) next
-              (λ k e. walks.place.1 ∙ eqb-true (slice_index releases m) (slice_index releases k) (and_parts (of_release releases m k) (not (has spellings (slice_index spellings m) k)) e).0) is;
+          place = place_of (rivals releases contents m) (m + 1) next
+              (λ k e. walks.place.1 ∙ eqb-true (slice_index releases m) (slice_index releases k) (and_parts (of_release releases m k) (not (has contents (slice_index contents m) k)) e).0) is;
         }
 
-    pub walks_over : (next : Option ℕ) (one : LinkFinding) → one ≡ record { kind = 4; first = first + 1; second = m + 1 } → (slice_index spellings m ≡ slice_index spellings first → ⊥)
+    pub walks_over : (next : Option ℕ) (one : LinkFinding) → one ≡ record { kind = 4; first = first + 1; second = m + 1 } → (slice_index contents m ≡ slice_index contents first → ⊥)
         → IsFirst (of_release releases m) (m + 1) (length releases) next → Walks before (found ++ one ∷ []) next
     walks_over next one one_is apart is =
-        let shows : rivals releases spellings first m ≡ true =
-        and_from (of_release releases first m) (not (has spellings (slice_index spellings first) m)) (eq-eqb (slice_index releases first) (slice_index releases m) walks.place.1)
-        (not_from_false _ (ne_eqb (slice_index spellings first) (slice_index spellings m) (λ q. apart (sym q)))) in
-        let here : rival_findings releases spellings first m ≡ one ∷ [] =
+        let shows : rivals releases contents first m ≡ true =
+        and_from (of_release releases first m) (not (has contents (slice_index contents first) m)) (eq-eqb (slice_index releases first) (slice_index releases m) walks.place.1)
+        (not_from_false _ (ne_eqb (slice_index contents first) (slice_index contents m) (λ q. apart (sym q)))) in
+        let here : rival_findings releases contents first m ≡ one ∷ [] =
         ap (λ (b : Bool). finding 4 b (first + 1) (m + 1)) shows ∙ ap (λ (x : LinkFinding). x ∷ []) (sym one_is) in
         record {
-          put = append_assoc found (one ∷ []) (from_first (rival_findings releases spellings first) (length releases) next)
-              ∙ ap (λ (xs : List LinkFinding). found ++ (xs ++ from_first (rival_findings releases spellings first) (length releases) next)) (sym here)
+          put = append_assoc found (one ∷ []) (from_first (rival_findings releases contents first) (length releases) next)
+              ∙ ap (λ (xs : List LinkFinding). found ++ (xs ++ from_first (rival_findings releases contents first) (length releases) next)) (sym here)
               ∙ ap (λ (xs : List LinkFinding). found ++ xs)
-              (sym (walks_on (rival_findings releases spellings first) (of_release releases m) m (length releases) next walks.place.0
-              (λ k e. no_rival k (and_left (of_release releases first k) (not (has spellings (slice_index spellings first) k)) (one_release k ∙ e))) is))
+              (sym (walks_on (rival_findings releases contents first) (of_release releases m) m (length releases) next walks.place.0
+              (λ k e. no_rival k (and_left (of_release releases first k) (not (has contents (slice_index contents first) k)) (one_release k ∙ e))) is))
               ∙ walks.put;
           place = place_of (of_release releases m) (m + 1) next
               (λ k e. walks.place.1 ∙ eqb-true (slice_index releases m) (slice_index releases k) e) is;

@@ -1,5 +1,5 @@
--- Places in a list, and those behind a place. Two lists of numbers tell the releases and the spellings of tags: of two places the
--- numbers are equal exactly where the releases are, and where the spellings are.
+-- Places in a list, and those behind a place. Two lists of numbers tell the releases and the contents of tags: of two places the
+-- numbers are equal exactly where the releases are, and where the releases and the canonical octets are.
 use Rattle.std.specs.Prelude.{◌≡◌, ℕ, zero, suc, ◌+◌, ◌-◌, ◌<◌, ◌≤◌, ◌==◌, Bool, true, false, not, ◌&&◌, List, [], ◌++◌, length, slice_index, slice_index_or, Option, MatchOption}
 use Rattle.coswid_links.specs.declared.behind.Behind.{Behind}
 use Rattle.coswid_links.specs.declared.behind.Places.{Places}
@@ -21,20 +21,20 @@ of_release releases at = has releases (slice_index releases at)
 
 -- whether they are and are not written alike
 abbrev pub rivals : List ℕ → List ℕ → ℕ → ℕ → Bool
-rivals releases spellings at k = of_release releases at k && not (has spellings (slice_index spellings at) k)
+rivals releases contents at k = of_release releases at k && not (has contents (slice_index contents at) k)
 
 -- What is said to stand behind a place does: the next place of its release, and the next that is its rival.
 abbrev pub IsBehind : List ℕ → List ℕ → ℕ → Behind → Type 0
-IsBehind releases spellings at b =
-    IsFirst (of_release releases at) (at + 1) (length releases) b.next × IsFirst (rivals releases spellings at) (at + 1) (length releases) b.other
+IsBehind releases contents at b =
+    IsFirst (of_release releases at) (at + 1) (length releases) b.next × IsFirst (rivals releases contents at) (at + 1) (length releases) b.other
 
 abbrev pub AreBehind : List ℕ → List ℕ → List Behind → Type 0
-AreBehind releases spellings bs =
-    (length bs ≡ length releases) × ((at : ℕ) (d : Behind) → at < length bs → IsBehind releases spellings at (slice_index_or bs at d))
+AreBehind releases contents bs =
+    (length bs ≡ length releases) × ((at : ℕ) (d : Behind) → at < length bs → IsBehind releases contents at (slice_index_or bs at d))
 
 -- What these places say to stand behind each does.
 abbrev pub ArePlaces : Places → Type 0
-ArePlaces p = (length p.spellings.items ≡ length p.releases.items) × AreBehind p.releases.items p.spellings.items p.behind.items
+ArePlaces p = (length p.contents.items ≡ length p.releases.items) × AreBehind p.releases.items p.contents.items p.behind.items
 
 -- what f gives of each of the n places from `at` on
 abbrev pub span : {B : Type 0} → (ℕ → List B) → ℕ → ℕ → List B
@@ -43,11 +43,11 @@ span f at (suc n) = f at ++ span f (at + 1) n
 
 -- the finding on two places, where they are rivals; places count from 0, and findings from 1
 abbrev pub rival_findings : List ℕ → List ℕ → ℕ → ℕ → List LinkFinding
-rival_findings releases spellings at k = finding 4 (rivals releases spellings at k) (at + 1) (k + 1)
+rival_findings releases contents at k = finding 4 (rivals releases contents at k) (at + 1) (k + 1)
 
 -- the findings on the place and each rival behind it
 abbrev pub rivals_of : List ℕ → List ℕ → ℕ → List LinkFinding
-rivals_of releases spellings at = span (rival_findings releases spellings at) (at + 1) (length releases - (at + 1))
+rivals_of releases contents at = span (rival_findings releases contents at) (at + 1) (length releases - (at + 1))
 
 -- Each number is below the length of the list, as a place is.
 abbrev pub AreBelow : List ℕ → Type 0

@@ -11,3 +11,7 @@ pub record Tells {A : Type 0} (same : A → A → Bool) (xs : List A) (numbers :
   pub one_each : length numbers ≡ length xs
   pub apart : (i j : ℕ) (d : A) → i < length xs → j < length xs
       → (slice_index numbers i == slice_index numbers j) ≡ same (slice_index_or xs i d) (slice_index_or xs j d)
+
+-- Each number is its own place: no value is the same as one before it.
+abbrev pub AreOwnPlaces : List ℕ → Type 0
+AreOwnPlaces numbers = (k : ℕ) → k < length numbers → slice_index numbers k ≡ k

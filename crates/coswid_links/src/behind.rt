@@ -15,31 +15,31 @@ pub(crate) struct Behind {
     other: Option<usize>,
 }
 
-/// The places of tags, with what tells their releases and spellings apart.
+/// The places of tags, with what tells their releases and contents apart.
 #[derive(Drop)]
 pub(crate) struct Places {
     releases: Vec<usize>,
-    spellings: Vec<usize>,
+    contents: Vec<usize>,
     behind: Vec<Behind>,
 }
 
 impl Places {
-    /// The places of these releases and spellings; `Memory` where there is no room.
+    /// The places of these releases and contents; `Memory` where there is no room.
     pub(crate) fn of(
         alloc: Global,
         releases: Vec<usize>,
-        spellings: Vec<usize>,
+        contents: Vec<usize>,
     ) -> Result<Self, Memory>
-        requires alike { length spellings.items ≡ length releases.items }
+        requires alike { length contents.items ≡ length releases.items }
         requires below { AreBelow releases.items }
         ensures releases { IfOk result (λ made. made.releases.items ≡ releases.items) }
-        ensures spellings { IfOk result (λ made. made.spellings.items ≡ spellings.items) }
+        ensures contents { IfOk result (λ made. made.contents.items ≡ contents.items) }
         ensures behind { IfOk result ArePlaces }
     {
-        let behind = places_behind(alloc, releases.as_slice(), spellings.as_slice())?;
+        let behind = places_behind(alloc, releases.as_slice(), contents.as_slice())?;
         Ok(Places {
             releases,
-            spellings,
+            contents,
             behind,
         })
     }
@@ -48,11 +48,11 @@ impl Places {
     pub(crate) fn put_rivals_of(&self, found: &mut LinkFindings, first: usize) -> Result<(), Memory>
         requires behind { ArePlaces self.now }
         requires first { first < length self.now.releases.items }
-        ensures rivals { OnOk result (found.new ≡ found.old ++ rivals_of self.now.releases.items self.now.spellings.items first) }
+        ensures rivals { OnOk result (found.new ≡ found.old ++ rivals_of self.now.releases.items self.now.contents.items first) }
     {
         let mut at = self.behind[first].other;
         while let Some(second) = at {
-            if self.spellings[second] == self.spellings[first] {
+            if self.contents[second] == self.contents[first] {
                 at = self.behind[second].other;
             } else {
                 found.push(LinkFinding {
@@ -71,11 +71,11 @@ impl Places {
 fn places_behind(
     alloc: Global,
     releases: &[usize],
-    spellings: &[usize],
+    contents: &[usize],
 ) -> Result<Vec<Behind>, Memory>
-    requires alike { length spellings.now ≡ length releases.now }
+    requires alike { length contents.now ≡ length releases.now }
     requires below { AreBelow releases.now }
-    ensures behind { IfOk result (λ made. AreBehind releases.now spellings.now made.items) }
+    ensures behind { IfOk result (λ made. AreBehind releases.now contents.now made.items) }
 {
     let none = Behind {
         next: None,
@@ -85,7 +85,7 @@ fn places_behind(
     let mut behind = vec![in alloc; none; releases.len()]?;
     for place in (0..releases.len()).rev() {
         let next = latest[releases[place]];
-        let other = other_than(spellings, place, next, behind.as_slice());
+        let other = other_than(contents, place, next, behind.as_slice());
         behind[place] = Behind { next, other };
         latest[releases[place]] = Some(place);
     }
@@ -94,20 +94,20 @@ fn places_behind(
 
 /// The first of the places from `next` on that is written differently from `place`.
 fn other_than(
-    spellings: &[usize],
+    contents: &[usize],
     place: usize,
     next: Option<usize>,
     behind: &[Behind],
 ) -> Option<usize>
-    requires place { place < length spellings.now }
-    requires spelled { IfSome next (λ m. m < length spellings.now) }
+    requires place { place < length contents.now }
+    requires spelled { IfSome next (λ m. m < length contents.now) }
     requires within { IfSome next (λ m. m < length behind.now) }
     ensures other { (releases : List ℕ) → IsFirst (of_release releases place) (place + 1) (length releases) next
-        → IfSome next (λ m. (d : declared.Behind) → IsBehind releases spellings.now m (slice_index_or behind.now m d))
-        → IsFirst (rivals releases spellings.now place) (place + 1) (length releases) result }
+        → IfSome next (λ m. (d : declared.Behind) → IsBehind releases contents.now m (slice_index_or behind.now m d))
+        → IsFirst (rivals releases contents.now place) (place + 1) (length releases) result }
 {
     let next = next?;
-    if spellings[next] == spellings[place] {
+    if contents[next] == contents[place] {
         return behind[next].other;
     }
     Some(next)

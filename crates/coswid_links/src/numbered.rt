@@ -1,8 +1,8 @@
 //! Values told apart by numbers.
 
-ghost use Rattle.std.specs.Prelude.{◌≡◌, IfOk};
+ghost use Rattle.std.specs.Prelude.{◌≡◌, ◌↔◌, true, IfOk};
 ghost use Rattle.std.specs.Ordering.{eq_by_cmp};
-ghost use Rattle.coswid_links.specs.Numbered.{first_places};
+ghost use Rattle.coswid_links.specs.Numbered.{AreOwnPlaces, first_places};
 
 use std::alloc::Global;
 use std::collections::BTreeMap;
@@ -23,4 +23,16 @@ pub(crate) fn first_places<K: Ord + Drop>(
         places.push(first)?;
     }
     Ok(places)
+}
+
+/// Whether each of these numbers is its own place, so that no value equals one before it.
+pub(crate) fn has_no_repeat(places: &[usize]) -> bool
+    ensures own { (result ≡ true) ↔ AreOwnPlaces places.now }
+{
+    for (place, first) in places.iter().enumerate() {
+        if *first != place {
+            return false;
+        }
+    }
+    true
 }

@@ -1,8 +1,11 @@
-//! What identifies a release of a tag.
+//! What identifies a release of a tag, and what a tag says of it.
 
-ghost use Rattle.std.specs.Prelude.{◌≡◌, IfOk};
-ghost use Rattle.coswid_links.specs.Releases.{claim, claim_of};
+ghost use Rattle.std.specs.Prelude.{◌≡◌, ◌≤◌, IfOk};
+ghost use Rattle.cbor_det.specs.Term.{depth};
+ghost use Rattle.coswid_codec.specs.Items.{tag_item};
+ghost use Rattle.coswid_links.specs.Releases.{claim, claim_of, content, content_of};
 
+use coswid_codec::write_tag;
 use coswid_tag::{Tag, TagId};
 use std::alloc::Global;
 use wire_base::Memory;
@@ -36,6 +39,26 @@ impl Release {
         Ok(Release {
             tag_id,
             tag_version: tag.tag_version,
+        })
+    }
+}
+
+/// A release with the canonical octets of a tag of it, in an order that looks at octets only where the releases are equal.
+#[derive(PartialEq, Eq, PartialOrd, Ord, Drop)]
+pub(crate) struct Content {
+    release: Release,
+    octets: Vec<u8>,
+}
+
+impl Content {
+    /// The release that the tag is, and its canonical octets; `Memory` where there is no room.
+    pub(crate) fn of(alloc: Global, tag: &Tag) -> Result<Self, Memory>
+        requires depth { depth (tag_item tag.now) ≤ 64 }
+        ensures content { IfOk result (λ made. content_of made ≡ content tag.now) }
+    {
+        Ok(Content {
+            release: Release::of(alloc, tag)?,
+            octets: write_tag(alloc, tag)?.into_vec(),
         })
     }
 }

@@ -2,18 +2,16 @@
 
 ghost use Rattle.std.specs.Prelude.{◌≡◌, ◌≤◌, ◌++◌, IfOk, OnOk, map};
 ghost use Rattle.std.specs.List.{All};
-ghost use Rattle.cbor_det.specs.Canonical.{canon};
 ghost use Rattle.cbor_det.specs.Term.{depth};
 ghost use Rattle.coswid_codec.specs.Items.{tag_item};
 ghost use Rattle.coswid_links.specs.Rivals.{pair_findings};
 ghost use Rattle.coswid_links.specs.Listed.{each_pair_from};
-ghost use Rattle.coswid_links.specs.Releases.{claim, claim_of};
+ghost use Rattle.coswid_links.specs.Releases.{claim, claim_of, content, content_of};
 
 use crate::behind::Places;
 use crate::finding::LinkFindings;
-use crate::numbered::first_places;
-use crate::release::Release;
-use coswid_codec::write_tag;
+use crate::numbered::{first_places, has_no_repeat};
+use crate::release::{Content, Release};
 use coswid_tag::Tag;
 use std::alloc::Global;
 use wire_base::Memory;
@@ -28,8 +26,11 @@ pub(crate) fn put_rivals(
     ensures findings { OnOk result (found.new ≡ found.old ++ each_pair_from pair_findings 1 tags.now) }
 {
     let releases = first_places(alloc, releases(alloc, tags)?)?;
-    let spellings = first_places(alloc, spellings(alloc, tags)?)?;
-    let places = Places::of(alloc, releases, spellings)?;
+    if has_no_repeat(releases.as_slice()) {
+        return Ok(());
+    }
+    let contents = first_places(alloc, contents(alloc, tags)?)?;
+    let places = Places::of(alloc, releases, contents)?;
     for first in 0..tags.len() {
         places.put_rivals_of(found, first)?;
     }
@@ -47,14 +48,14 @@ fn releases(alloc: Global, tags: &[Tag]) -> Result<Vec<Release>, Memory>
     Ok(made)
 }
 
-/// The canonical spellings of the tags.
-fn spellings(alloc: Global, tags: &[Tag]) -> Result<Vec<Vec<u8>>, Memory>
+/// The releases that the tags are, each with the canonical octets of its tag.
+fn contents(alloc: Global, tags: &[Tag]) -> Result<Vec<Content>, Memory>
     requires depth { All (λ g. depth (tag_item g) ≤ 64) tags.now }
-    ensures spellings { IfOk result (λ made. map (λ v. v.items) made.items ≡ map (λ g. canon (tag_item g)) tags.now) }
+    ensures contents { IfOk result (λ made. map content_of made.items ≡ map content tags.now) }
 {
     let mut made = Vec::with_capacity(alloc, tags.len())?;
     for tag in tags {
-        made.push(write_tag(alloc, tag)?.into_vec())?;
+        made.push(Content::of(alloc, tag)?)?;
     }
     Ok(made)
 }

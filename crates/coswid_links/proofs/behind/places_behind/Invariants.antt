@@ -8,6 +8,6 @@ abbrev pub invariant-loop-place : goal.invariant-loop-place
 invariant-loop-place l = record {
   latest_len : length l.latest.items ≡ length l.releases;
   behind_len : length l.behind.items ≡ length l.releases;
-  behind : (at : ℕ) (d : Behind) → l.place ≤ at → at < length l.releases → IsBehind l.releases l.spellings at (slice_index_or l.behind.items at d);
+  behind : (at : ℕ) (d : Behind) → l.place ≤ at → at < length l.releases → IsBehind l.releases l.contents at (slice_index_or l.behind.items at d);
   latest : (number : ℕ) (d : Option ℕ) → number < length l.releases → IsFirst (has l.releases number) l.place (length l.releases) (slice_index_or l.latest.items number d);
 }

@@ -10,40 +10,40 @@ pub loop-at-init : goal.loop-at-init
 loop-at-init c =
     let places = c.args.self.now in
     let releases = places.releases.items in
-    let spellings = places.spellings.items in
-    let is = subst (λ (b : Behind). IsBehind releases spellings c.args.first b) (sym c.index.ensures)
+    let contents = places.contents.items in
+    let is = subst (λ (b : Behind). IsBehind releases contents c.args.first b) (sym c.index.ensures)
     (c.requires.behind.1.1 c.args.first c.index.result.now (omega (arith, c.requires.behind.1.0))) in
-    walk_begins releases spellings c.args.first c.args.found.now c.index.result.now.other c.requires.first is.1
+    walk_begins releases contents c.args.first c.args.found.now c.index.result.now.other c.requires.first is.1
 
 pub loop-at-preserved-then-index : goal.loop-at-preserved-then-index
 loop-at-preserved-then-index c =
     let places = c.args.self.now in
     let releases = places.releases.items in
-    let spellings = places.spellings.items in
+    let contents = places.contents.items in
     let second = c.in-Some.second in
-    let walks = subst (λ (o : Option ℕ). Walks releases spellings c.args.first c.args.found.now c.loop-at.found o) c.in-Some.is c.loop-at.invariant in
-    let there : c.index-in-Some.result.now ≡ slice_index spellings second =
-    get_or_read spellings second _ (omega (arith, c.requires.behind.0, walks.place.0)) c.index-in-Some.ensures 0 in
-    let here : c.index-in-Some-2.result.now ≡ slice_index spellings c.args.first =
-    get_or_read spellings c.args.first _ (omega (arith, c.requires.behind.0)) c.index-in-Some-2.ensures 0 in
-    let is = subst (λ (b : Behind). IsBehind releases spellings second b) (sym c.index-then-index.ensures)
+    let walks = subst (λ (o : Option ℕ). Walks releases contents c.args.first c.args.found.now c.loop-at.found o) c.in-Some.is c.loop-at.invariant in
+    let there : c.index-in-Some.result.now ≡ slice_index contents second =
+    get_or_read contents second _ (omega (arith, c.requires.behind.0, walks.place.0)) c.index-in-Some.ensures 0 in
+    let here : c.index-in-Some-2.result.now ≡ slice_index contents c.args.first =
+    get_or_read contents c.args.first _ (omega (arith, c.requires.behind.0)) c.index-in-Some-2.ensures 0 in
+    let is = subst (λ (b : Behind). IsBehind releases contents second b) (sym c.index-then-index.ensures)
     (c.requires.behind.1.1 second c.index-then-index.result.now (omega (arith, c.requires.behind.1.0, walks.place.0))) in
-    walks_past releases spellings c.args.first c.args.found.now c.loop-at.found second walks c.index-then-index.result.now.other (sym there ∙ c.if-index.true ∙ here) is.1
+    walks_past releases contents c.args.first c.args.found.now c.loop-at.found second walks c.index-then-index.result.now.other (sym there ∙ c.if-index.true ∙ here) is.1
 
 pub loop-at-preserved : goal.loop-at-preserved
 loop-at-preserved c =
     let places = c.args.self.now in
     let releases = places.releases.items in
-    let spellings = places.spellings.items in
+    let contents = places.contents.items in
     let second = c.in-Some.second in
     let next = c.index-else-index.result.now.next in
-    let walks = subst (λ (o : Option ℕ). Walks releases spellings c.args.first c.args.found.now c.loop-at.found o) c.in-Some.is c.loop-at.invariant in
-    let there : c.index-in-Some.result.now ≡ slice_index spellings second =
-    get_or_read spellings second _ (omega (arith, c.requires.behind.0, walks.place.0)) c.index-in-Some.ensures 0 in
-    let here : c.index-in-Some-2.result.now ≡ slice_index spellings c.args.first =
-    get_or_read spellings c.args.first _ (omega (arith, c.requires.behind.0)) c.index-in-Some-2.ensures 0 in
-    let is = subst (λ (b : Behind). IsBehind releases spellings second b) (sym c.index-else-index.ensures)
+    let walks = subst (λ (o : Option ℕ). Walks releases contents c.args.first c.args.found.now c.loop-at.found o) c.in-Some.is c.loop-at.invariant in
+    let there : c.index-in-Some.result.now ≡ slice_index contents second =
+    get_or_read contents second _ (omega (arith, c.requires.behind.0, walks.place.0)) c.index-in-Some.ensures 0 in
+    let here : c.index-in-Some-2.result.now ≡ slice_index contents c.args.first =
+    get_or_read contents c.args.first _ (omega (arith, c.requires.behind.0)) c.index-in-Some-2.ensures 0 in
+    let is = subst (λ (b : Behind). IsBehind releases contents second b) (sym c.index-else-index.ensures)
     (c.requires.behind.1.1 second c.index-else-index.result.now (omega (arith, c.requires.behind.1.0, walks.place.0))) in
     let one : LinkFinding = record { kind = 4; first = c.args.first + 1; second = second + 1 } in
-    subst (λ (found : List LinkFinding). Walks releases spellings c.args.first c.args.found.now found next) (sym c.in_ok-push.ensures.ok)
-    (walks_over releases spellings c.args.first c.args.found.now c.loop-at.found second walks next one refl (λ q. c.if-index.false (there ∙ q ∙ sym here)) is.0)
+    subst (λ (found : List LinkFinding). Walks releases contents c.args.first c.args.found.now found next) (sym c.in_ok-push.ensures.ok)
+    (walks_over releases contents c.args.first c.args.found.now c.loop-at.found second walks next one refl (λ q. c.if-index.false (there ∙ q ∙ sym here)) is.0)

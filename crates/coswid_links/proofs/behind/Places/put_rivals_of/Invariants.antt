@@ -4,7 +4,7 @@ use Rattle.std.proofs.Common.{length}
 use Rattle.coswid_links.proofs.behind.Places.put_rivals_of.Given as goal
 
 abbrev pub invariant-loop-at : goal.invariant-loop-at
-invariant-loop-at l = Walks l.self.releases.items l.self.spellings.items l.first l.fn.found l.found l.at
+invariant-loop-at l = Walks l.self.releases.items l.self.contents.items l.first l.fn.found l.found l.at
 
 abbrev pub decreases-loop-at : goal.decreases-loop-at
 decreases-loop-at l = walk_left (length l.self.releases.items) l.at
