@@ -11,8 +11,5 @@ pub mod Telling
 pub mod TagTelling
 pub mod Reading
 pub mod LinksTelling
-pub mod SameListing
 pub mod OneText
-pub mod SameLinks
-pub mod SameParts
 pub mod OneList

@@ -1,7 +1,7 @@
 -- Octets are one list of tags, so `links` prints one text of them.
-use Rattle.std.proofs.Common.{◌≡◌, ◌≢◌, ℕ, zero, suc, ◌+◌, ◌<◌, ◌≤◌, ◌⊎◌, inl, inr, Bool, true, false, List, [], ◌∷◌, ◌++◌, map as map_list, length, take, drop, Option, Some, None, refl, sym, ap, subst, ◌∙◌, arith, length-append}
+use Rattle.std.proofs.Common.{◌≡◌, ◌≢◌, ℕ, zero, suc, ◌+◌, ◌<◌, ◌≤◌, ◌⊎◌, inl, inr, Bool, true, false, List, [], ◌∷◌, ◌++◌, length, take, drop, Option, Some, None, refl, sym, ap, subst, ◌∙◌, arith, length-append}
 use Rattle.std.proofs.lemmas.Bool.{cases_lt}
-use Rattle.std.proofs.lemmas.List.{map-append, take-append-drop}
+use Rattle.std.proofs.lemmas.List.{take-append-drop}
 use Rattle.std.specs.Prelude.{◌&&◌, if◌then◌else◌, nat_lt}
 use Rattle.wire_base.specs.Layout.{AreOctets}
 use Rattle.wire_base.proofs.Spelled.{AreOctets-rest, AreOctets-take}
@@ -18,25 +18,20 @@ use Rattle.cbor_det.specs.Faults.{top}
 use Rattle.coswid_res.specs.declared.fault.FormFault.{FormFault}
 use Rattle.coswid_tag.specs.declared.tag.Tag.{Tag}
 use Rattle.coswid_codec.specs.Answers.{limits, BeginsTag, BeginsFaulty}
-use Rattle.coswid_codec.specs.Forms.{TagForm}
 use Rattle.coswid_codec.specs.TagFault.{tag_fault}
-use Rattle.coswid_codec.proofs.Whole.{no_fault_or_no_tag}
-use Rattle.coswid_links.specs.LinkFindings.{findings}
-use Rattle.coswid_links.specs.declared.finding.LinkFinding.{LinkFinding}
+use Rattle.coswid_codec.proofs.Whole.{no_fault_or_no_tag, one_tag}
 use Rattle.swid_cli.specs.declared.answer.Answer.{Answer}
 use Rattle.swid_cli.specs.declared.step.Ending.{Ending}
 use Rattle.swid_cli.specs.declared.tag_list.Behind.{Behind}
 use Rattle.swid_cli.specs.declared.tag_list.Behind.TheVariants as behind
 use Rattle.swid_cli.specs.declared.tag_list.TagList.{TagList}
-use Rattle.swid_cli.specs.Answer.{ending_of, limit_answer, refusal_answer}
-use Rattle.swid_cli.specs.Links.{LIST_OCTETS, LinksTells, answer_behind, at_tag, findings_text, is_cut, list_answer}
+use Rattle.swid_cli.specs.Answer.{limit_answer, refusal_answer}
+use Rattle.swid_cli.specs.Links.{LIST_OCTETS, LinksTells, answer_behind, at_tag, is_cut, list_answer}
 use Rattle.swid_cli.specs.LinksLaws.{OneLinksText, SomeLinksText}
 use Rattle.swid_cli.specs.TagList.{BeginsTags, IsTagList, LIST_TAGS, StandsBehind, no_tags, one_more}
 use Rattle.swid_cli.specs.Tagging.{form_line}
 use Rattle.swid_cli.specs.Text.{fault_line}
 use Rattle.swid_cli.proofs.OneText.{fault_same, form_of, form_same, length_same, no_tag_and_tag, not_both}
-use Rattle.swid_cli.proofs.SameLinks.{aim, claim, references, same_links}
-use Rattle.swid_cli.proofs.SameParts.{same_aim, same_claim, same_references}
 
 -- ---- two lists of tags that one input begins with
 
@@ -47,12 +42,9 @@ nothing_begins t n begins = never t (drop n []) (item_runs limits [] t n begins)
     never : (t : Term) (rest : List ℕ) → Same (due top, []) (whole t, rest) → ⊥
     never t rest e = let same : due top ≡ whole t = ap (λ (p : State × List ℕ). p.0) e in absurd cc
 
--- Two tags that one input begins with have the same part.
-abbrev Tells : {B : Type 0} → (Tag → B) → Type 0
-Tells part = (g h : Tag) (t : Term) → TagForm g t → TagForm h t → part g ≡ part h
-
-part_same : {B : Type 0} (part : Tag → B) → Tells part → (octets : List ℕ) (g h : Tag) (n m : ℕ) → BeginsTag octets g n → BeginsTag octets h m → part g ≡ part h
-part_same part tells octets g h n m a b = tells g h a.item a.form (form_of octets g h n m a b)
+-- Two tags that one input begins with are one.
+tag_same : (octets : List ℕ) (g h : Tag) (n m : ℕ) → BeginsTag octets g n → BeginsTag octets h m → g ≡ h
+tag_same octets g h n m a b = one_tag g h a.item a.form (form_of octets g h n m a b)
 
 count_of : (gs : List Tag) (g : Tag) → length (gs ++ g ∷ []) ≡ length gs + 1
 count_of gs g = length-append gs (g ∷ [])
@@ -67,20 +59,16 @@ rest_same octets gs hs r s (one_more fs o g n a x) (one_more is q h m b y) same 
     let also : BeginsTag o h m = subst (λ (p : List ℕ). BeginsTag p h m) (sym fewer) y in
     ap (λ (k : ℕ). drop k o) (length_same o g h n m x also) ∙ ap (λ (p : List ℕ). drop m p) fewer
 
--- So are the parts of as many tags that an item fixes.
-module _ {B : Type 0} (part : Tag → B) (tells : Tells part) where
-  parts_same : (octets : List ℕ) (gs hs : List Tag) (r s : List ℕ) → BeginsTags octets gs r → BeginsTags octets hs s → length gs ≡ length hs → map_list part gs ≡ map_list part hs
-  parts_same octets gs hs r s no_tags no_tags same = refl
-  parts_same octets gs hs r s no_tags (one_more is o h m b y) same = absurd (omega (arith, same, count_of is h))
-  parts_same octets gs hs r s (one_more fs o g n a x) no_tags same = absurd (omega (arith, same, count_of fs g))
-  parts_same octets gs hs r s (one_more fs o g n a x) (one_more is q h m b y) same =
-      let count : length fs ≡ length is = omega (arith, same, count_of fs g, count_of is h) in
-      let fewer : o ≡ q = rest_same octets fs is o q a b count in
-      let also : BeginsTag o h m = subst (λ (p : List ℕ). BeginsTag p h m) (sym fewer) y in
-      map-append part fs (g ∷ [])
-      ∙ ap (λ (ps : List B). ps ++ part g ∷ []) (parts_same octets fs is o q a b count)
-      ∙ ap (λ (p : B). map_list part is ++ p ∷ []) (part_same part tells o g h n m x also)
-      ∙ sym (map-append part is (h ∷ []))
+-- So are as many tags.
+tags_same : (octets : List ℕ) (gs hs : List Tag) (r s : List ℕ) → BeginsTags octets gs r → BeginsTags octets hs s → length gs ≡ length hs → gs ≡ hs
+tags_same octets gs hs r s no_tags no_tags same = refl
+tags_same octets gs hs r s no_tags (one_more is o h m b y) same = absurd (omega (arith, same, count_of is h))
+tags_same octets gs hs r s (one_more fs o g n a x) no_tags same = absurd (omega (arith, same, count_of fs g))
+tags_same octets gs hs r s (one_more fs o g n a x) (one_more is q h m b y) same =
+    let count : length fs ≡ length is = omega (arith, same, count_of fs g, count_of is h) in
+    let fewer : o ≡ q = rest_same octets fs is o q a b count in
+    let also : BeginsTag o h m = subst (λ (p : List ℕ). BeginsTag p h m) (sym fewer) y in
+    ap (λ (ks : List Tag). ks ++ g ∷ []) (tags_same octets fs is o q a b count) ∙ ap (λ (k : Tag). is ++ k ∷ []) (tag_same o g h n m x also)
 
 -- Of more tags each begins where those before it end.
 record NextTag (octets : List ℕ) (count : ℕ) : Type 0 where
@@ -134,48 +122,33 @@ abbrev fault_answer : ℕ → Bool → ℕ → ℕ → Answer
 fault_answer count goes_on kind at =
     if goes_on && is_cut (record { kind = kind; at = at }) then limit_answer LIST_OCTETS else refusal_answer (at_tag (count + 1) (fault_line kind at))
 
-abbrev found_answer : ℕ → List LinkFinding → Answer
-found_answer count found = record { text = findings_text count found; ending = ending_of found }
-
-nothing_same : (gs hs : List Tag) (goes_on : Bool) → length gs ≡ length hs → findings gs ≡ findings hs → answer_behind gs goes_on behind.Nothing ≡ answer_behind hs goes_on behind.Nothing
-nothing_same gs hs true count found = refl
-nothing_same gs hs false count found = ap (λ (n : ℕ). found_answer n (findings gs)) count ∙ ap (λ (fs : List LinkFinding). found_answer (length hs) fs) found
-
-answers_same : (gs hs : List Tag) (goes_on : Bool) (rest : List ℕ) (x y : Behind) → StandsBehind (length gs) rest x → StandsBehind (length gs) rest y → length gs ≡ length hs → findings gs ≡ findings hs
-    → answer_behind gs goes_on x ≡ answer_behind hs goes_on y
-answers_same gs hs goes_on rest behind.Nothing behind.Nothing a b count found = nothing_same gs hs goes_on count found
-answers_same gs hs goes_on rest behind.Nothing behind.More a b count found = absurd (b.1 a.1)
-answers_same gs hs goes_on rest behind.Nothing (behind.NoItem e) a b count found = absurd (b.1 a.1)
-answers_same gs hs goes_on rest behind.Nothing (behind.NoTag e) a b count found = absurd (nothing_begins b.1.item b.1.len (subst (λ (o : List ℕ). Begins limits o b.1.item b.1.len) a.1 b.1.begins))
-answers_same gs hs goes_on rest behind.More behind.Nothing a b count found = absurd (a.1 b.1)
-answers_same gs hs goes_on rest behind.More behind.More a b count found = refl
-answers_same gs hs goes_on rest behind.More (behind.NoItem e) a b count found = absurd (omega (arith, a.0, b.0))
-answers_same gs hs goes_on rest behind.More (behind.NoTag e) a b count found = absurd (omega (arith, a.0, b.0))
-answers_same gs hs goes_on rest (behind.NoItem f) behind.Nothing a b count found = absurd (a.1 b.1)
-answers_same gs hs goes_on rest (behind.NoItem f) behind.More a b count found = absurd (omega (arith, a.0, b.0))
-answers_same gs hs goes_on rest (behind.NoItem f) (behind.NoItem e) a b count found =
+answers_same : (gs : List Tag) (goes_on : Bool) (rest : List ℕ) (x y : Behind) → StandsBehind (length gs) rest x → StandsBehind (length gs) rest y → answer_behind gs goes_on x ≡ answer_behind gs goes_on y
+answers_same gs goes_on rest behind.Nothing behind.Nothing a b = refl
+answers_same gs goes_on rest behind.Nothing behind.More a b = absurd (b.1 a.1)
+answers_same gs goes_on rest behind.Nothing (behind.NoItem e) a b = absurd (b.1 a.1)
+answers_same gs goes_on rest behind.Nothing (behind.NoTag e) a b = absurd (nothing_begins b.1.item b.1.len (subst (λ (o : List ℕ). Begins limits o b.1.item b.1.len) a.1 b.1.begins))
+answers_same gs goes_on rest behind.More behind.Nothing a b = absurd (a.1 b.1)
+answers_same gs goes_on rest behind.More behind.More a b = refl
+answers_same gs goes_on rest behind.More (behind.NoItem e) a b = absurd (omega (arith, a.0, b.0))
+answers_same gs goes_on rest behind.More (behind.NoTag e) a b = absurd (omega (arith, a.0, b.0))
+answers_same gs goes_on rest (behind.NoItem f) behind.Nothing a b = absurd (a.1 b.1)
+answers_same gs goes_on rest (behind.NoItem f) behind.More a b = absurd (omega (arith, a.0, b.0))
+answers_same gs goes_on rest (behind.NoItem f) (behind.NoItem e) a b =
     let same = fault_same rest f e a.2 b.2 in
-    ap (λ (n : ℕ). fault_answer n goes_on f.kind f.at) count
-    ∙ ap (λ (k : ℕ). fault_answer (length hs) goes_on k f.at) same.0
-    ∙ ap (λ (n : ℕ). fault_answer (length hs) goes_on e.kind n) same.1
-answers_same gs hs goes_on rest (behind.NoItem f) (behind.NoTag e) a b count found = absurd (not_both rest f b.1.item b.1.len a.2 b.1.begins)
-answers_same gs hs goes_on rest (behind.NoTag f) behind.Nothing a b count found = absurd (nothing_begins a.1.item a.1.len (subst (λ (o : List ℕ). Begins limits o a.1.item a.1.len) b.1 a.1.begins))
-answers_same gs hs goes_on rest (behind.NoTag f) behind.More a b count found = absurd (omega (arith, a.0, b.0))
-answers_same gs hs goes_on rest (behind.NoTag f) (behind.NoItem e) a b count found = absurd (not_both rest e a.1.item a.1.len b.2 a.1.begins)
-answers_same gs hs goes_on rest (behind.NoTag f) (behind.NoTag e) a b count found =
-    ap (λ (n : ℕ). refusal_answer (at_tag (n + 1) (form_line f))) count ∙ ap (λ (d : FormFault). refusal_answer (at_tag (length hs + 1) (form_line d))) (form_same rest f e a.1 b.1)
+    ap (λ (k : ℕ). fault_answer (length gs) goes_on k f.at) same.0 ∙ ap (λ (n : ℕ). fault_answer (length gs) goes_on e.kind n) same.1
+answers_same gs goes_on rest (behind.NoItem f) (behind.NoTag e) a b = absurd (not_both rest f b.1.item b.1.len a.2 b.1.begins)
+answers_same gs goes_on rest (behind.NoTag f) behind.Nothing a b = absurd (nothing_begins a.1.item a.1.len (subst (λ (o : List ℕ). Begins limits o a.1.item a.1.len) b.1 a.1.begins))
+answers_same gs goes_on rest (behind.NoTag f) behind.More a b = absurd (omega (arith, a.0, b.0))
+answers_same gs goes_on rest (behind.NoTag f) (behind.NoItem e) a b = absurd (not_both rest e a.1.item a.1.len b.2 a.1.begins)
+answers_same gs goes_on rest (behind.NoTag f) (behind.NoTag e) a b = ap (λ (d : FormFault). refusal_answer (at_tag (length gs + 1) (form_line d))) (form_same rest f e a.1 b.1)
 
 lists_same : (octets : List ℕ) (l k : TagList) (goes_on : Bool) → IsTagList octets l → IsTagList octets k → list_answer l goes_on ≡ list_answer k goes_on
 lists_same octets l k goes_on a b =
     let count = count_same octets l.tags k.tags a.0 b.0 l.behind k.behind a.1 a.2 b.1 b.2 in
     let rest : b.0 ≡ a.0 = rest_same octets k.tags l.tags b.0 a.0 b.1 a.1 (sym count) in
-    let found : findings l.tags ≡ findings k.tags =
-    same_links l.tags k.tags
-    (parts_same aim same_aim octets l.tags k.tags a.0 b.0 a.1 b.1 count)
-    (parts_same references same_references octets l.tags k.tags a.0 b.0 a.1 b.1 count)
-    (parts_same claim same_claim octets l.tags k.tags a.0 b.0 a.1 b.1 count) in
+    let tags : l.tags ≡ k.tags = tags_same octets l.tags k.tags a.0 b.0 a.1 b.1 count in
     let other : StandsBehind (length l.tags) a.0 k.behind = subst (λ (n : ℕ). StandsBehind n a.0 k.behind) (sym count) (subst (λ (o : List ℕ). StandsBehind (length k.tags) o k.behind) rest b.2) in
-    answers_same l.tags k.tags goes_on a.0 l.behind k.behind a.2 other count found
+    answers_same l.tags goes_on a.0 l.behind k.behind a.2 other ∙ ap (λ (gs : List Tag). answer_behind gs goes_on k.behind) tags
 
 abbrev answer_of : List ℕ → Ending → Answer
 answer_of text how = record { text = text; ending = how }

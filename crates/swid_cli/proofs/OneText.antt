@@ -1,8 +1,6 @@
 -- An input is spelled in one way only, if any, so `tag` prints one text of it.
 use Rattle.std.proofs.Common.{◌≡◌, ℕ, ◌<◌, ◌≤◌, Bool, true, false, List, [], ◌∷◌, ◌++◌, map as map_list, length, ◌⊎◌, inl, inr, Option, Some, None, refl, sym, ap, subst, ◌∙◌, arith}
 use Rattle.std.specs.Prelude.{codes}
-use Rattle.std.specs.List.{flat_map}
-use Rattle.std.specs.Option.{option_map}
 use Rattle.std.proofs.lemmas.Bool.{cases_lt}
 use Rattle.std.proofs.lemmas.Option.{none-some}
 use Rattle.wire_base.specs.Layout.{AreOctets}
@@ -11,7 +9,6 @@ use Rattle.wire_base.specs.declared.files.NamedFile.{NamedFile}
 use Rattle.cbor_det.specs.Answers.{IsRefusal}
 use Rattle.cbor_det.specs.Faults.{Begins, IsFault, IsCut}
 use Rattle.cbor_det.specs.Laws.{SomeOutcome}
-use Rattle.cbor_det.specs.Canonical.{canon}
 use Rattle.cbor_det.specs.Term.{Term}
 use Rattle.cbor_det.specs.declared.fault.CborFault.{CborFault}
 use Rattle.cbor_det.specs.declared.fault.CborRefused.TheVariants as refused
@@ -29,13 +26,10 @@ use Rattle.coswid_codec.specs.Answers.{limits, BeginsTag, BeginsFaulty}
 use Rattle.coswid_codec.specs.Forms.{TagForm}
 use Rattle.coswid_codec.specs.Items.{tag_item}
 use Rattle.coswid_codec.specs.TagFault.{tag_fault}
-use Rattle.coswid_codec.specs.TagText.{canonical_line, summary_text}
-use Rattle.coswid_codec.proofs.SameText.{same_findings, same_summary}
 use Rattle.coswid_codec.proofs.Whole.{no_fault_or_no_tag, one_tag, written_form}
 use Rattle.swid_cli.specs.declared.step.Ending.{Ending}
 use Rattle.swid_cli.specs.declared.step.Ending.TheVariants as ending
-use Rattle.swid_cli.specs.Checking.{PayloadVerdicts, TagVerdicts, checked_ending, checked_text, file_line}
-use Rattle.swid_cli.proofs.SameListing.{payload_listed}
+use Rattle.swid_cli.specs.Checking.{PayloadVerdicts, TagVerdicts, checked_ending, checked_text}
 use Rattle.swid_cli.specs.Tagging.{TAG_OCTETS, TagTells, long_input, more_follows, no_item, no_tag, form_line, whole_tag}
 use Rattle.swid_cli.specs.TagLaws.{OneTagText, OneText, OneVerifiedText, SomeTagText, ToldAlike}
 use Rattle.swid_cli.specs.Text.{fault_line, refusal}
@@ -78,14 +72,6 @@ no_tag_and_tag octets f g n a b =
 
 -- ---- verdicts
 
--- the text of a tag, by its parts
-abbrev text_by : List ℕ → List (List ℕ × Verdict) → Term → List ℕ
-text_by summary verdicts item = summary ++ flat_map file_line verdicts ++ canonical_line (canon item)
-
-summaries_same : (g h : Tag) (t : Term) (verdicts : List (List ℕ × Verdict)) → TagForm g t → TagForm h t → tag_item g ≡ tag_item h → checked_text g verdicts ≡ checked_text h verdicts
-summaries_same g h t verdicts a b item =
-    ap (λ (s : List ℕ). text_by s verdicts (tag_item g)) (same_summary g h t a b) ∙ ap (λ (u : Term). text_by (summary_text h) verdicts u) item
-
 module _ (looked_at : Bool) (files : Option (List NamedFile)) where
   -- Of tags that are read from one item the verdicts are the same.
   abbrev pub OneVerdicts : Type 0
@@ -95,9 +81,10 @@ module _ (looked_at : Bool) (files : Option (List NamedFile)) where
       → TagVerdicts looked_at files g vs → TagVerdicts looked_at files h ws → (checked_text g vs ≡ checked_text h ws) × (checked_ending (findings g) vs ≡ checked_ending (findings h) ws)
   text_same one octets g h vs ws a b is are =
       let form = form_of octets g h (length octets) (length octets) a b in
+      let tags = one_tag g h a.item a.form form in
       let verdicts = one g h a.item vs ws a.form form is are in (
-        summaries_same g h a.item vs a.form form (one_tag g h a.item a.form form) ∙ ap (λ (xs : List (List ℕ × Verdict)). checked_text h xs) verdicts,
-        ap (λ (fs : List ℕ). checked_ending fs vs) (same_findings g h a.item a.form form) ∙ ap (λ (xs : List (List ℕ × Verdict)). checked_ending (findings h) xs) verdicts,
+        ap (λ (k : Tag). checked_text k vs) tags ∙ ap (λ (xs : List (List ℕ × Verdict)). checked_text h xs) verdicts,
+        ap (λ (k : Tag). checked_ending (findings k) vs) tags ∙ ap (λ (xs : List (List ℕ × Verdict)). checked_ending (findings h) xs) verdicts,
       )
 
   one_text : OneVerdicts → OneText looked_at files
@@ -148,18 +135,15 @@ lines_told all (file ∷ files) (line ∷ lines) is =
     ap (λ (first : List ℕ × Verdict). first ∷ lines) (line_told all file line is.0)
     ∙ ap (λ (rest : List (List ℕ × Verdict)). line_of file.path (verdict_of all file) ∷ rest) (lines_told all files lines is.1)
 
-files_same : (p q : Payload) → Some (listed p) ≡ Some (listed q) → listed p ≡ listed q
-files_same p q e = cc
+payload_told : (all : List NamedFile) (x : Option Payload) (vs ws : List (List ℕ × Verdict)) → PayloadVerdicts (Some all) x vs → PayloadVerdicts (Some all) x ws → vs ≡ ws
+payload_told all None vs ws is are = is ∙ sym are
+payload_told all (Some p) vs ws is are = lines_told all (listed p) vs is ∙ sym (lines_told all (listed p) ws are)
 
-payload_same : (all : List NamedFile) (x y : Option Payload) (vs ws : List (List ℕ × Verdict)) → option_map listed x ≡ option_map listed y → PayloadVerdicts (Some all) x vs → PayloadVerdicts (Some all) y ws → vs ≡ ws
-payload_same all None None vs ws e is are = is ∙ sym are
-payload_same all (Some p) (Some q) vs ws e is are =
-    lines_told all (listed p) vs is ∙ ap (λ (files : List ListedFile). verdicts_of all files) (files_same p q e) ∙ sym (lines_told all (listed q) ws are)
-payload_same all None (Some q) vs ws e is are = absurd cc
-payload_same all (Some p) None vs ws e is are = absurd cc
+tag_told : (all : List NamedFile) (g h : Tag) (vs ws : List (List ℕ × Verdict)) → g ≡ h → PayloadVerdicts (Some all) g.payload vs → PayloadVerdicts (Some all) h.payload ws → vs ≡ ws
+tag_told all g h vs ws same is are = payload_told all g.payload vs ws is (subst (λ (k : Tag). PayloadVerdicts (Some all) k.payload ws) (sym same) are)
 
 pub one_verified_text : OneVerifiedText
-one_verified_text all = one_text true (Some all) (λ g h t vs ws a b is are. payload_same all g.payload h.payload vs ws (payload_listed g h t a b) is are)
+one_verified_text all = one_text true (Some all) (λ g h t vs ws a b is are. tag_told all g h vs ws (one_tag g h t a b) is are)
 
 -- Some verdicts there are, whatever is told.
 
@@ -228,4 +212,5 @@ some_tag_text looked_at files octets are = some_text looked_at files octets are
 
 pub told_alike : ToldAlike
 told_alike g h n m input other verdicts a b same =
-    summaries_same g h (tag_item g) verdicts (written_form g a.item a.form) (subst (λ (t : Term). TagForm h t) (sym same) (written_form h b.item b.form)) same
+    let again : TagForm h (tag_item g) = subst (λ (t : Term). TagForm h t) (sym same) (written_form h b.item b.form) in
+    ap (λ (k : Tag). checked_text k verdicts) (one_tag g h (tag_item g) (written_form g a.item a.form) again)

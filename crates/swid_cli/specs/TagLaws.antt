@@ -4,7 +4,8 @@ use Rattle.wire_base.specs.Layout.{AreOctets}
 use Rattle.wire_base.specs.declared.files.NamedFile.{NamedFile}
 use Rattle.coswid_res.specs.declared.verdict.Verdict.{Verdict}
 use Rattle.coswid_tag.specs.declared.tag.Tag.{Tag}
-use Rattle.coswid_codec.specs.Answers.{BeginsTag, Same}
+use Rattle.coswid_codec.specs.Answers.{BeginsTag}
+use Rattle.coswid_codec.specs.Items.{tag_item}
 use Rattle.swid_cli.specs.declared.step.Ending.{Ending}
 use Rattle.swid_cli.specs.Checking.{checked_text}
 use Rattle.swid_cli.specs.Tagging.{TagTells}
@@ -26,4 +27,4 @@ SomeTagText = (looked_at : Bool) (files : Option (List NamedFile)) (octets : Lis
 
 -- Tags that are written as one item are told alike with the same verdicts, in whatever spellings they came.
 abbrev pub ToldAlike : Type 0
-ToldAlike = (g h : Tag) (n m : ℕ) (input other : List ℕ) (verdicts : List (List ℕ × Verdict)) → BeginsTag input g n → BeginsTag other h m → Same g h → checked_text g verdicts ≡ checked_text h verdicts
+ToldAlike = (g h : Tag) (n m : ℕ) (input other : List ℕ) (verdicts : List (List ℕ × Verdict)) → BeginsTag input g n → BeginsTag other h m → tag_item g ≡ tag_item h → checked_text g verdicts ≡ checked_text h verdicts

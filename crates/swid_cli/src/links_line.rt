@@ -8,12 +8,16 @@ use coswid_links::LinkFinding;
 use std::alloc::Global;
 use wire_base::{List, Memory, Octets};
 
+/// The most octets of the line of a finding on two of at most 10,000 tags.
+const LINE_OCTETS: usize = 20;
+
 /// How many tags there are, and a line for each finding between them.
 pub fn findings_text(alloc: Global, count: u64, found: &[LinkFinding]) -> Result<Octets, Memory>
     ensures text { IfOk result (λ made. made ≡ findings_text count found.now) }
 {
-    let mut out = List::new(alloc);
     let first = format!(in alloc; "tags {count}\n")?;
+    let lines = found.len().saturating_mul(LINE_OCTETS);
+    let mut out = List::with_capacity(alloc, lines.saturating_add(first.len()))?;
     out.extend(first.as_bytes())?;
     push_findings(alloc, &mut out, found)?;
     Ok(out)

@@ -139,9 +139,12 @@ fn tells_which_tag_is_refused(rt: HostRuntime) -> Result<(), Fail> {
     expect(&rt, rt.alloc(), &REFUSED)
 }
 
-/// The octets of a tag, so many times one after another.
+/// The hexadecimal digits of a tag.
+const TAG: &str = "a400616101616202a2181f61631821010c00";
+
+/// The octets of that tag, so many times one after another.
 fn repeated(alloc: Global, count: u32) -> Result<Vec<u8>, Fail> {
-    let tag = octets(alloc, "a400616101616202a2181f61631821010c00")?;
+    let tag = octets(alloc, TAG)?;
     let mut input = Vec::new(alloc);
     for _ in 0..count {
         input.extend_from_slice(tag.as_slice())?;
@@ -158,15 +161,17 @@ fn takes_10000_tags(rt: HostRuntime) -> Result<(), Fail> {
     Ok(())
 }
 
+/// What stands behind the last tag is not looked at: one more tag, and an octet with which none begins.
 #[test]
 fn takes_no_more_tags(rt: HostRuntime) -> Result<(), Fail> {
     let alloc = rt.alloc();
-    let mut input = repeated(alloc, 10000)?;
-    // No tag begins so, and it is not looked at.
-    input.push(0xff)?;
-    let (status, written) = run(alloc, &["links"], &input, &[], &[])?;
-    assert_eq!(rt; written.as_slice(), b"limit 10000\n".as_slice());
-    assert_eq!(rt; status, 1);
+    for more in [TAG, "ff"] {
+        let mut input = repeated(alloc, 10000)?;
+        input.extend_from_slice(octets(alloc, more)?.as_slice())?;
+        let (status, written) = run(alloc, &["links"], &input, &[], &[])?;
+        assert_eq!(rt; written.as_slice(), b"limit 10000\n".as_slice());
+        assert_eq!(rt; status, 1, "{more}");
+    }
     Ok(())
 }
 

@@ -35,7 +35,7 @@ const SOUND: &str =
     "tag primary\nident invalid.unavailable__a\ncanonical 26 da53574944a500616101616202a2181f61631821010c000d6131\n";
 
 /// Tags, in several spellings.
-const TAGS: [Row; 9] = [
+const TAGS: [Row; 15] = [
     Row {
         input: "a400616101616202a2181f61631821010c00",
         output: BY_CREATOR,
@@ -83,6 +83,40 @@ const TAGS: [Row; 9] = [
         input: "a500616101616202a2181f61631821010c000d6131",
         output: SOUND,
         status: 0,
+    },
+    // A corpus, sound; and one without a software version, which is a patch and supplemental too.
+    Row {
+        input: "a600616101616202a2181f616318210108f50c000d6131",
+        output: "tag corpus\nident invalid.unavailable__a\ncanonical 28 da53574944a600616101616202a2181f616318210108f50c000d6131\n",
+        status: 0,
+    },
+    Row {
+        input: "a800616101616202a2181f61631821010482a21826d8206164182807a21826d820616418286c737570706c656d656e74616c08f509f50bf50c00",
+        output: "tag corpus\nident invalid.unavailable__a\nfinding F1\nfinding F3\ncanonical 63 da53574944a800616101616202a2181f61631821010482a21826d8206164182807a21826d820616418286c737570706c656d656e74616c08f509f50bf50c00\n",
+        status: 1,
+    },
+    // Supplemental, by a number and by a text.
+    Row {
+        input: "a600616101616202a2181f616318210104a21826d820616418280b0bf50c00",
+        output: "tag supplemental\nident invalid.unavailable__a\ncanonical 36 da53574944a600616101616202a2181f616318210104a21826d820616418280b0bf50c00\n",
+        status: 0,
+    },
+    Row {
+        input: "a600616101616202a2181f616318210104a21826d820616418286c737570706c656d656e74616c0bf50c00",
+        output: "tag supplemental\nident invalid.unavailable__a\ncanonical 48 da53574944a600616101616202a2181f616318210104a21826d820616418286c737570706c656d656e74616c0bf50c00\n",
+        status: 0,
+    },
+    // A patch by a text.
+    Row {
+        input: "a600616101616202a2181f616318210104a21826d82061641828677061746368657309f50c00",
+        output: "tag patch\nident invalid.unavailable__a\ncanonical 43 da53574944a600616101616202a2181f616318210104a21826d82061641828677061746368657309f50c00\n",
+        status: 0,
+    },
+    // A role that is a text counts as no role.
+    Row {
+        input: "a500616101616202a2181f616318216b7461672d63726561746f720c000d6131",
+        output: "tag primary\nident none\nfinding F6\ncanonical 37 da53574944a500616101616202a2181f616318216b7461672d63726561746f720c000d6131\n",
+        status: 1,
     },
 ];
 
