@@ -1,4 +1,5 @@
--- What is wrong with an attribute, as a table. Of the rows that show, the one with the lowest place counts, and of two at
+-- What is wrong with an attribute (RFC 5792, section 4.1), as a table, with the codes of section 4.2.8. The limits on lengths and on the
+-- number of attributes are our own, and so is the order. Of the rows that show, the one with the lowest place counts, and of two at
 -- one place the earlier; the rows stand in this order, so it is the first that shows.
 use Rattle.std.specs.Prelude.{◌==◌, ◌&&◌, ◌||◌, ℕ, Bool, not, List, [], ◌∷◌, Option, Some, None, Result, Ok, Err, length, nat_lt, if◌then◌else◌}
 use Rattle.std.specs.List.{list_any}

@@ -1,4 +1,5 @@
--- What the joined octets of a stream of attributes begin with, and what a feed of them answers.
+-- What the joined octets of a stream of attributes (RFC 5792, section 4.1) begin with, and what a feed of them answers. The RFC has
+-- messages alone; a stream is our own.
 use Rattle.std.specs.Prelude.{◌≡◌, ◌<◌, ◌≤◌, ◌+◌, ℕ, List, [], ◌++◌, Option, Some, None, Result, Ok, Err, length, take, nat_lt, if◌then◌else◌}
 use Rattle.pa_attrs.specs.declared.attr.Attr.{Attr}
 use Rattle.pa_attrs.specs.declared.fault.AttrFault.{AttrFault}

@@ -218,7 +218,7 @@ const EVENTS: [Example; 6] = [
 ];
 
 /// Streams that are refused, and attributes that are skipped.
-const REFUSED: [Example; 19] = [
+const REFUSED: [Example; 21] = [
     // The input ends inside a value, and inside a header.
     Example {
         input: &[b"\0\0\0\0\0\0\0\x0e\0\0\0\x1c\0\0\0\0\0\0\0\x01"],
@@ -274,6 +274,19 @@ const REFUSED: [Example; 19] = [
     Example {
         input: &[b"\0\0\0\x09\xff\xff\xff\xff\0\0\0\x0b"],
         output: "fault 1 4\n",
+        status: 1,
+        ..IDS
+    },
+    Example {
+        input: &[EMPTY, b"\0\0\0\x09\xff\xff\xff\xff\0\0\0\x0b"],
+        output: "took adopted 7 0 0\nfault 1 32\n",
+        status: 1,
+        ..IDS
+    },
+    // An octet is left over behind an inventory of no records.
+    Example {
+        input: &[b"\0\0\0\0\0\0\0\x0e\0\0\0\x1d\0\0\0\0\0\0\0\x01\0\0\0\x07\0\0\0\0\0"],
+        output: "fault 1 28\n",
         status: 1,
         ..IDS
     },

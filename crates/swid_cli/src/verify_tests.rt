@@ -155,6 +155,18 @@ fn tells_that_a_file_was_not_read(rt: HostRuntime) -> Result<(), Fail> {
     Ok(())
 }
 
+/// A second call would fail.
+#[test]
+fn reads_a_file_once(rt: HostRuntime) -> Result<(), Fail> {
+    let alloc = rt.alloc();
+    let input = hex::decode(alloc, digits(alloc, HASHED)?.as_slice())?;
+    let (status, written) = run(alloc, &input, &mut files(alloc, Some("abc"), &[2])?)?;
+    let wanted = text(alloc, &input, "file same f\n")?;
+    assert_eq!(rt; written.as_slice(), wanted.as_slice());
+    assert_eq!(rt; status, 0);
+    Ok(())
+}
+
 #[test]
 fn looks_at_no_file_of_what_is_no_tag(rt: HostRuntime) -> Result<(), Fail> {
     let alloc = rt.alloc();

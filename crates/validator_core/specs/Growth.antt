@@ -1,4 +1,4 @@
--- A history that grows keeps what was said of it.
+-- A history that grows, by events and by epochs (RFC 8412, section 3.7.1), keeps what was said of it.
 use Rattle.std.specs.Prelude.{◌<◌, List, [], ◌∷◌, ◌++◌, length}
 use Rattle.std.specs.List.{AllByRecursion}
 use Rattle.swima_model.specs.declared.event.Event.{Event}

@@ -1,4 +1,4 @@
--- What a mirror holds of one collector's inventory.
+-- What a mirror holds of one collector's inventory. RFC 8412 leaves it to the validator; the words are our own.
 use Rattle.std.specs.Prelude.{Bool, false, List, [], Option, None}
 use Rattle.swima_model.specs.declared.record.Record.{Record}
 use Rattle.swima_model.specs.declared.report.Kind.{Kind}

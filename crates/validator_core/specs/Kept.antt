@@ -1,4 +1,4 @@
--- What every report keeps.
+-- What every report keeps, by the table of Judge.
 use Rattle.std.specs.List.Sorted.{IsStrictlyIncreasing}
 use Rattle.swima_model.specs.declared.report.Report.{Report}
 use Rattle.validator_core.specs.Held.{Held}

@@ -1,4 +1,4 @@
--- What events say of the records that they mention.
+-- What events say of the records that they mention (RFC 8412, section 3.7).
 use Rattle.std.specs.Prelude.{◌≡◌, ℕ, List, reverse}
 use Rattle.std.specs.BTreeSet.{contains}
 use Rattle.std.specs.Ordering.{nat_cmp}

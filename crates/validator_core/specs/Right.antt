@@ -1,4 +1,4 @@
--- When a mirror is right over a history.
+-- When a mirror is right over a history of epochs and events (RFC 8412, section 3.7.1). What is right is our own to say.
 use Rattle.std.specs.Prelude.{◌≡◌, List, [], Option, Some, None}
 use Rattle.swima_model.specs.declared.record.Record.{Record}
 use Rattle.swima_model.specs.declared.report.Kind.{Kind}
