@@ -4,7 +4,7 @@
 use super::*;
 use std::alloc::Global;
 use std::test::Fail;
-use wire_base::{FieldRefused, List, Memory, Octets, TryCopy};
+use wire_base::{FieldRefused, List, Memory, Octets};
 
 /// The header of a message.
 const START: [u8; 8] = [1, 0, 0, 0, 0, 0, 0, 5];
@@ -188,29 +188,34 @@ fn an_attribute_that_is_refused_is_told(rt: HostRuntime) {
     assert_eq!(rt; fault_of(rt.alloc(), &octets), Some(refused));
 }
 
+/// How many attributes are handed out of octets that are a message.
+fn count_of(alloc: Global, octets: &[u8]) -> Option<usize> {
+    if 4096 < octets.len() {
+        return None;
+    }
+    match read_message(alloc, octets, &SUPPORTED) {
+        PaRead::Ok { attrs, .. } => Some(attrs.len()),
+        PaRead::Refused(_) => None,
+        PaRead::Memory => None,
+    }
+}
+
 #[test]
 fn a_message_has_64_attributes(rt: HostRuntime) -> Result<(), Fail> {
     let alloc = rt.alloc();
-    let mut octets = message_of(alloc, &[], &[])?;
+    let mut attributes = List::new(alloc);
     for _ in 0..64 {
-        octets.extend(&GOOD)?;
+        attributes.extend(&GOOD)?;
     }
-    assert_eq!(rt; fault_of(alloc, octets.as_slice()), None);
+    let message = message_of(alloc, attributes.as_slice(), &[])?;
+    assert_eq!(rt; count_of(alloc, message.as_slice()), Some(64));
+    let refused = Some((1, 776, true));
+    assert_eq!(rt; told_of(alloc, attributes.as_slice(), &GOOD, 0), refused);
+    assert_eq!(rt; told_of(alloc, attributes.as_slice(), &[0], 0), refused);
     for (attribute, _, _) in FAULTS.iter() {
-        let mut longer = octets.copy()?;
-        longer.extend(attribute)?;
-        let fault = fault_of(alloc, longer.as_slice());
-        assert_eq!(rt;
-            fault.map(|fault| (fault.code, fault.offset)),
-            Some((1, 776))
-        );
+        let told = told_of(alloc, attributes.as_slice(), attribute, 0);
+        assert_eq!(rt; told, refused);
     }
-    octets.push(0)?;
-    let fault = fault_of(alloc, octets.as_slice());
-    assert_eq!(rt;
-        fault.map(|fault| (fault.code, fault.offset)),
-        Some((1, 776))
-    );
     Ok(())
 }
 
@@ -258,10 +263,17 @@ fn a_message_is_written(rt: HostRuntime) -> Result<(), Fail> {
         kind: 14,
         value,
     })?;
+    attrs.push(Attr {
+        noskip: false,
+        vendor: 0,
+        kind: 18,
+        value: List::new(alloc),
+    })?;
     let written = write_message(alloc, &PaMessage { id: 5, attrs })?;
     let wanted = [
         1, 0, 0, 0, 0, 0, 0, 5, // version, reserved, identifier
-        0x80, 1, 2, 3, 0, 0, 0, 14, 0, 0, 0, 14, b'a', b'b', // the attribute
+        0x80, 1, 2, 3, 0, 0, 0, 14, 0, 0, 0, 14, b'a', b'b', // the first attribute
+        0, 0, 0, 0, 0, 0, 0, 18, 0, 0, 0, 12, // the second attribute
     ];
     assert_eq!(rt; written.as_slice(), wanted.as_slice());
     Ok(())

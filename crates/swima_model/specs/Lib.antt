@@ -6,5 +6,6 @@ pub mod InOrder
 pub mod Kinds
 pub mod Live
 pub mod Repeated
+pub mod Reports
 pub mod Rising
 pub mod Size

@@ -12,6 +12,7 @@ use Rattle.wire_base.specs.Stamp.{IsStamp, digits}
 use Rattle.wire_base.specs.Written.{Fit, flags_octet, written, written_field}
 use Rattle.wire_base.proofs.WrittenLaws.{Fit-append, written-append, written_form}
 use Rattle.swima_model.specs.Kinds.{record_of_kind, records_of_kind, events_of_kind}
+use Rattle.swima_model.specs.Reports.{ConsultsWithin, HasStamps}
 use Rattle.swima_model.specs.Size.{body_size, event_size, record_size, report_count}
 use Rattle.swima_model.specs.declared.event.Event.{Event}
 use Rattle.swima_model.specs.declared.record.Record.{Record}
@@ -24,7 +25,7 @@ use Rattle.swima_model.proofs.OfKind.{event_of_kind, length_of_kind}
 use Rattle.swima_reports.specs.ActionNumber.{action_number}
 use Rattle.swima_reports.specs.ReportForm.{CanBeWritten, FULFIL, MayCarry, MayCarryEvent, ReportForm, body_fields, event_fields, record_fields, report_fields}
 use Rattle.swima_reports.specs.ReportType.{report_type}
-use Rattle.swima_reports.specs.Written.{CarriedIsReport, ConsultsWithin, EventHasRoom, FormIsCounted, HasStamps, IsWritable, RecordHasRoom, WrittenIsCounted, WrittenIsRead, carried, written_report}
+use Rattle.swima_reports.specs.Written.{CarriedIsReport, EventHasRoom, FormIsCounted, IsWritable, RecordHasRoom, WrittenIsCounted, WrittenIsRead, carried, written_report}
 use Rattle.swima_reports.proofs.ReportLaws.{only}
 
 -- ---- entries one after another

@@ -1,8 +1,7 @@
 -- What is written of a report (RFC 8412, sections 5.7 to 5.10).
-use Rattle.std.specs.Prelude.{◌≡◌, ◌≤◌, ℕ, All, List, Ok, drop, length, take}
+use Rattle.std.specs.Prelude.{◌≡◌, ℕ, List, Ok, drop, length, take}
 use Rattle.wire_base.specs.Layout.{Field}
 use Rattle.wire_base.specs.Reading.{whole}
-use Rattle.wire_base.specs.Stamp.{IsStamp}
 use Rattle.wire_base.specs.Written.{Fit, written}
 use Rattle.swima_model.specs.Kinds.{body_of_kind, records_of_kind, events_of_kind}
 use Rattle.swima_model.specs.declared.event.Event.{Event}
@@ -11,6 +10,7 @@ use Rattle.swima_model.specs.declared.report.Kind.{Kind}
 use Rattle.swima_model.specs.declared.report.Kind.TheVariants.{Ids}
 use Rattle.swima_model.specs.declared.report.Report.{Report}
 use Rattle.swima_model.specs.declared.report.Report.TheVariants.{Inventory, Events}
+use Rattle.swima_model.specs.Reports.{HasStamps}
 use Rattle.swima_model.specs.Size.{report_size}
 use Rattle.swima_reports.specs.ReportForm.{CanBeWritten, MayCarry, ReportForm, event_fields, record_fields, report_fields}
 use Rattle.swima_reports.specs.ReportReading.{read_report}
@@ -33,18 +33,6 @@ origin_fields r = take 4 (record_fields Ids r)
 
 abbrev pub software_fields : Kind → Record → List Field
 software_fields kind r = drop 5 (record_fields kind r)
-
--- ---- what a report has to be
-
--- The time of each of its events is told as a stamp (section 5.8, "Timestamp").
-abbrev pub HasStamps : Report → Type 0
-HasStamps (Inventory kind fulfil id point records) = Unit {0}
-HasStamps (Events kind fulfil id point consulted events) = All (λ (e : Event). IsStamp e.stamp) events
-
--- The last event that was consulted is none behind its point (section 5.8, "Last Consulted EID").
-abbrev pub ConsultsWithin : Report → Type 0
-ConsultsWithin (Inventory kind fulfil id point records) = Unit {0}
-ConsultsWithin (Events kind fulfil id point consulted events) = consulted ≤ point.eid
 
 -- ---- what its parts are by their types
 

@@ -11,11 +11,11 @@ ghost use Rattle.wire_base.specs.Reading.{Gives, value_alone, whole};
 use crate::attribute_types::{
     SOFTWARE_IDENTIFIER_EVENTS, SOFTWARE_IDENTIFIER_INVENTORY, SOFTWARE_INVENTORY,
 };
-use crate::entry::{FEWEST_EVENT_OCTETS, FEWEST_RECORD_OCTETS, entries};
+use crate::entry::{EventReader, FEWEST_EVENT_OCTETS, FEWEST_RECORD_OCTETS, RecordReader};
 use crate::fields::{FULFIL, consulted};
 use std::alloc::Global;
 use swima_model::{Kind, Point, Report};
-use wire_base::{Cursor, FieldRefused};
+use wire_base::{Cursor, FieldRefused, read_several};
 
 /// The report that is the value of an attribute of a type from 14 to 17 (RFC 8412, sections 5.7 to 5.10).
 ///
@@ -59,7 +59,8 @@ fn inventory(alloc: Global, mut cursor: Cursor, kind: Kind) -> Result<Report, Fi
     let id = cursor.u32()?;
     let epoch = cursor.u32()?;
     let eid = cursor.u32()?;
-    let records = entries(alloc, &mut cursor, kind, count, FEWEST_RECORD_OCTETS)?;
+    let reader = RecordReader { kind };
+    let records = read_several(alloc, &mut cursor, &reader, count, FEWEST_RECORD_OCTETS)?;
     cursor.end()?;
     Ok(Report::Inventory {
         kind,
@@ -80,7 +81,8 @@ fn events(alloc: Global, mut cursor: Cursor, kind: Kind) -> Result<Report, Field
     let epoch = cursor.u32()?;
     let eid = cursor.u32()?;
     let consulted = consulted(&mut cursor, eid)?;
-    let events = entries(alloc, &mut cursor, kind, count, FEWEST_EVENT_OCTETS)?;
+    let reader = EventReader { kind };
+    let events = read_several(alloc, &mut cursor, &reader, count, FEWEST_EVENT_OCTETS)?;
     cursor.end()?;
     Ok(Report::Events {
         kind,

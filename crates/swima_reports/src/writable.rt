@@ -1,6 +1,6 @@
 //! Writing records and events, which stand in a report one after another.
 
-ghost use Rattle.std.specs.Prelude.{◌≡◌, ◌≤◌, ◌++◌, All, List, OnOk, length};
+ghost use Rattle.std.specs.Prelude.{◌≡◌, ◌++◌, All, List, OnOk};
 ghost use Rattle.std.specs.List.{flat_map};
 ghost use Rattle.swima_model.specs.Kinds.{body_of_kind};
 ghost use Rattle.swima_model.specs.declared.event.Event.{Event as EventValue};
@@ -8,12 +8,12 @@ ghost use Rattle.swima_model.specs.declared.record.Record.{Record as RecordValue
 ghost use Rattle.swima_model.specs.declared.report.Kind.{Kind as KindValue};
 ghost use Rattle.swima_reports.specs.ReportForm.{MayCarry, body_fields, event_fields, record_fields};
 ghost use Rattle.swima_reports.specs.Written.{EventHasRoom, RecordHasRoom, origin_fields, software_fields};
-ghost use Rattle.wire_base.specs.Layout.{Field, Counted};
-ghost use Rattle.wire_base.specs.Written.{Fit, written, written_field};
+ghost use Rattle.wire_base.specs.Layout.{Field};
+ghost use Rattle.wire_base.specs.Written.{Fit, written};
 
 use crate::fields::action_number;
 use swima_model::{Body, Event, Kind, Record};
-use wire_base::{List, Memory, Octets, put_u8, put_u16, put_u24, put_u32};
+use wire_base::{List, Memory, Octets, put_counted_u16, put_counted_u32, put_u8, put_u24, put_u32};
 
 /// What is written in a report one after another.
 pub trait Writable: Drop + Sized {
@@ -96,18 +96,9 @@ fn put_software(out: &mut Octets, kind: Kind, subject: &Record) -> Result<(), Me
     ensures fits { OnOk result (Fit (software_fields kind subject.now)) }
     ensures within { OnOk result (MayCarry kind (body_of_kind kind subject.now.content.body)) }
 {
-    put_counted(out, subject.content.ident.bytes())?;
-    put_counted(out, subject.content.locator.bytes())?;
+    put_counted_u16(out, subject.content.ident.bytes())?;
+    put_counted_u16(out, subject.content.locator.bytes())?;
     put_body(out, kind, &subject.content.body)
-}
-
-/// Puts octets at the end, behind two octets that count them.
-fn put_counted(out: &mut Octets, octets: &[u8]) -> Result<(), Memory>
-    requires { length octets.now ≤ 65535 }
-    ensures appended { OnOk result (out.new ≡ out.old ++ written_field (Counted 2 octets.now)) }
-{
-    put_u16(out, octets.len() as u16)?;
-    out.extend(octets)
 }
 
 /// Puts the body of a record at the end, which stands in reports of whole records alone (RFC 8412, sections 5.9 and 5.10).
@@ -120,9 +111,6 @@ fn put_body(out: &mut Octets, kind: Kind, body: &Body) -> Result<(), Memory>
     let octets = body.bytes();
     match kind {
         Kind::Ids => Ok(()),
-        Kind::Full => {
-            put_u32(out, octets.len() as u32)?;
-            out.extend(octets)
-        }
+        Kind::Full => put_counted_u32(out, octets),
     }
 }

@@ -1,12 +1,13 @@
 //! Writing reports.
 
 ghost use Rattle.std.specs.Prelude.{◌≡◌, ◌≤◌, ◌<◌, ◌^◌, ◌++◌, ◌∷◌, [], All, IfOk, OnOk, length};
+ghost use Rattle.swima_model.specs.Reports.{ConsultsWithin, HasStamps};
 ghost use Rattle.swima_model.specs.Size.{report_count, report_size};
 ghost use Rattle.swima_model.specs.declared.event.Event.{Event as EventValue};
 ghost use Rattle.swima_model.specs.declared.report.Report.TheVariants.{Inventory, Events as Changes};
 ghost use Rattle.swima_reports.specs.ReportForm.{FULFIL as FULFIL_FLAG, ReportForm};
 ghost use Rattle.swima_reports.specs.ReportType.{report_type};
-ghost use Rattle.swima_reports.specs.Written.{ConsultsWithin, HasStamps, IsWritable, carried, written_report};
+ghost use Rattle.swima_reports.specs.Written.{IsWritable, carried, written_report};
 ghost use Rattle.wire_base.specs.Stamp.{IsStamp};
 ghost use Rattle.wire_base.specs.Written.{flags_octet};
 

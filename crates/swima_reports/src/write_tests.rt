@@ -1,9 +1,9 @@
 //! What is written of reports. The values are worked out by hand from the figures of RFC 8412, sections 5.7 to 5.10.
 
 ghost use Rattle.std.specs.Prelude.{◌≡◌, ◌≤◌, IfOk, length};
+ghost use Rattle.swima_model.specs.Reports.{ConsultsWithin, HasStamps};
 ghost use Rattle.swima_model.specs.Size.{report_count};
 ghost use Rattle.swima_model.specs.declared.event.Event.{Event as EventValue};
-ghost use Rattle.swima_reports.specs.Written.{ConsultsWithin, HasStamps};
 ghost use Rattle.wire_base.specs.Stamp.{IsStamp};
 
 use super::test_values::{

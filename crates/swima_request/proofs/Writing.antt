@@ -3,16 +3,16 @@ use Rattle.std.proofs.Common.{◌≡◌, ℕ, ◌+◌, List, [], ◌∷◌, ◌+
 use Rattle.std.specs.List.{flat_map, sum_by}
 use Rattle.std.proofs.lemmas.List.Sums.{sum_by-cons}
 use Rattle.wire_base.specs.Numbers.{octets_of}
-use Rattle.wire_base.specs.Written.{flags_octet, written}
+use Rattle.wire_base.specs.Layout.{Counted}
+use Rattle.wire_base.specs.Written.{flags_octet, written, written_field}
 use Rattle.wire_base.proofs.Spelled.{length-octets_of}
-use Rattle.wire_base.proofs.WrittenLaws.{written-flat_map}
 use Rattle.swima_request.specs.declared.request.Request.{Request}
 use Rattle.swima_request.specs.Laws.{WrittenIsCounted}
 use Rattle.swima_request.specs.RequestForm.{CLEAR, SUBSCRIBE, IDENTIFIERS_ONLY, is_ids, target_fields, written_request}
 
 -- What is written of a target.
 abbrev pub written_target : List ℕ → List ℕ
-written_target target = written (target_fields target)
+written_target target = written_field (Counted 2 target)
 
 -- What is written before the targets.
 abbrev pub head : Request → List ℕ
@@ -20,19 +20,19 @@ head request =
     (flags_octet ((CLEAR, request.clear) ∷ (SUBSCRIBE, request.subscribe) ∷ (IDENTIFIERS_ONLY, is_ids request.kind) ∷ []) ∷ [])
     ++ octets_of 3 (length request.targets) ++ octets_of 4 request.id ++ octets_of 4 request.earliest
 
+-- What is written of targets is what is written of each.
+targets_written : (targets : List (List ℕ)) → written (flat_map target_fields targets) ≡ flat_map written_target targets
+unfolding written
+targets_written [] = refl
+targets_written (target ∷ targets) = ap (λ (o : List ℕ). written_target target ++ o) (targets_written targets)
+
 pub request_written : (request : Request) → written_request request ≡ head request ++ flat_map written_target request.targets
 unfolding written octets_of
-request_written request = ap (λ (o : List ℕ). head request ++ o) (written-flat_map target_fields request.targets)
+request_written request = ap (λ (o : List ℕ). head request ++ o) (targets_written request.targets)
 
 -- A target has its length and its octets.
 length-target : (target : List ℕ) → length (written_target target) ≡ 2 + length target
-unfolding written
-length-target target = omega (
-  arith,
-  length-append (octets_of 2 (length target) ++ target) [],
-  length-append (octets_of 2 (length target)) target,
-  length-octets_of 2 (length target),
-)
+length-target target = omega (arith, length-append (octets_of 2 (length target)) target, length-octets_of 2 (length target))
 
 -- Targets have the octets that are counted.
 length-targets : (targets : List (List ℕ)) → length (flat_map written_target targets) ≡ sum_by (λ (target : List ℕ). 2 + length target) targets

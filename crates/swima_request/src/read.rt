@@ -4,13 +4,13 @@ ghost use Rattle.std.specs.Prelude.{◌≡◌, ◌+◌, ◌-◌, ◌<◌, ◌≤
 ghost use Rattle.swima_request.specs.declared.request.Request.{Request as RequestValue};
 ghost use Rattle.swima_request.specs.RequestForm.{RequestFault, RequestForm, kind_of, read_request};
 ghost use Rattle.wire_base.specs.FirstFault.{OnFault};
-ghost use Rattle.wire_base.specs.Reading.{Gives, counted, several, value_alone, whole};
+ghost use Rattle.wire_base.specs.Reading.{Gives, counted, value_alone, whole};
 
 use crate::numbers::{CLEAR, IDENTIFIERS_ONLY, SUBSCRIBE};
-use crate::request::{Idents, Request};
+use crate::request::Request;
 use std::alloc::Global;
 use swima_model::{Ident, Kind};
-use wire_base::{Cursor, FieldRefused, List};
+use wire_base::{Cursor, FieldReader, FieldRefused, read_several};
 
 /// The request that is the value of an attribute of type `SWIMA_REQUEST` (RFC 8412, section 5.6).
 ///
@@ -36,7 +36,7 @@ fn request(alloc: Global, mut cursor: Cursor) -> Result<Request, FieldRefused>
     let count = cursor.u24()?;
     let id = cursor.u32()?;
     let earliest = cursor.u32()?;
-    let targets = targets(alloc, &mut cursor, count)?;
+    let targets = read_several(alloc, &mut cursor, &TargetReader, count, FEWEST_OCTETS)?;
     cursor.end()?;
     Ok(Request {
         clear: flags & CLEAR != 0,
@@ -56,23 +56,19 @@ fn kind_of(ids_only: bool) -> Kind
 }
 
 /// The fewest octets of a target.
-const FEWEST_TARGET_OCTETS: usize = 2;
+const FEWEST_OCTETS: usize = 2;
 
-/// So many targets, one after another.
-fn targets(alloc: Global, cursor: &mut Cursor, count: u32) -> Result<Idents, FieldRefused>
-    ensures targets { Gives (λ read. (read, cursor.new)) result (several count (counted 2) cursor.old) }
-{
-    let fit = cursor.left() / FEWEST_TARGET_OCTETS;
-    let mut targets = List::with_capacity(alloc, fit.min(count as usize))?;
-    for _ in 0..count {
-        targets.push(target(alloc, cursor)?)?;
+/// Reads a target.
+#[derive(Drop)]
+struct TargetReader;
+
+impl FieldReader for TargetReader {
+    type Value = Ident;
+
+    ghost reading = { λ reader. counted 2 };
+
+    /// A target; a fault in it is at its length.
+    fn read(&self, alloc: Global, cursor: &mut Cursor) -> Result<Ident, FieldRefused> {
+        Ok(Ident::of(alloc, cursor.counted(2)?)?)
     }
-    Ok(targets)
-}
-
-/// A target; a fault in it is at its length.
-fn target(alloc: Global, cursor: &mut Cursor) -> Result<Ident, FieldRefused>
-    ensures target { Gives (λ read. (read, cursor.new)) result (counted 2 cursor.old) }
-{
-    Ok(Ident::of(alloc, cursor.counted(2)?)?)
 }

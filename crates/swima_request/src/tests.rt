@@ -14,6 +14,15 @@ const VALUE: [u8; 15] = [
     0, 1, b'a', // target
 ];
 
+/// A request of whole records for two targets, from the event identifier 0 on.
+const TWO_TARGETS: [u8; 19] = [
+    0x40, 0, 0, 2, // flags, count
+    1, 2, 3, 4, // identifier
+    0, 0, 0, 0, // earliest event
+    0, 2, b'a', b'b', // first target
+    0, 1, b'c', // second target
+];
+
 /// Values with a fault, each with its place where the value begins at 20: fields that do not fit, a count and lengths that pass
 /// the value, and octets left over.
 const FAULTS: [(&[u8], u32); 14] = [
@@ -81,6 +90,41 @@ fn a_request_is_written(rt: HostRuntime) -> Result<(), Fail> {
     };
     let written = write_request(alloc, &request)?;
     assert_eq!(rt; written.as_slice(), VALUE.as_slice());
+    Ok(())
+}
+
+#[test]
+fn a_request_for_two_targets_is_read_and_written(rt: HostRuntime) -> Result<(), Fail> {
+    let alloc = rt.alloc();
+    let read = read_request(alloc, &TWO_TARGETS, 20)?;
+    assert_eq!(rt;
+        (
+            read.clear,
+            read.subscribe,
+            read.kind,
+            read.id,
+            read.earliest
+        ),
+        (false, true, Kind::Full, 16_909_060, 0)
+    );
+    assert_eq!(rt; read.targets.len(), 2);
+    let first = read.targets.get(0).ok_or("a first target")?;
+    assert_eq!(rt; first.bytes(), b"ab".as_slice());
+    let second = read.targets.get(1).ok_or("a second target")?;
+    assert_eq!(rt; second.bytes(), b"c".as_slice());
+    let mut targets = List::new(alloc);
+    targets.push(Ident::new(alloc, b"ab")?)?;
+    targets.push(Ident::new(alloc, b"c")?)?;
+    let request = Request {
+        clear: false,
+        subscribe: true,
+        kind: Kind::Full,
+        id: 16_909_060,
+        earliest: 0,
+        targets,
+    };
+    let written = write_request(alloc, &request)?;
+    assert_eq!(rt; written.as_slice(), TWO_TARGETS.as_slice());
     Ok(())
 }
 

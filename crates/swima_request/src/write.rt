@@ -1,14 +1,14 @@
 //! Writing requests.
 
-ghost use Rattle.std.specs.Prelude.{◌≡◌, ◌+◌, ◌<◌, ◌≤◌, ◌^◌, ◌++◌, ◌∷◌, [], length, IfOk, OnOk, if◌then◌else◌};
-ghost use Rattle.swima_request.specs.RequestForm.{CLEAR as CLEAR_FLAG, IDENTIFIERS_ONLY as IDENTIFIERS_FLAG, SUBSCRIBE as SUBSCRIBE_FLAG, is_ids, request_octets, target_fields, written_request};
-ghost use Rattle.wire_base.specs.Written.{flags_octet, written};
+ghost use Rattle.std.specs.Prelude.{◌≡◌, ◌<◌, ◌≤◌, ◌^◌, ◌∷◌, [], length, IfOk, if◌then◌else◌};
+ghost use Rattle.swima_request.specs.RequestForm.{CLEAR as CLEAR_FLAG, IDENTIFIERS_ONLY as IDENTIFIERS_FLAG, SUBSCRIBE as SUBSCRIBE_FLAG, is_ids, request_octets, written_request};
+ghost use Rattle.wire_base.specs.Written.{flags_octet};
 
 use crate::numbers::{CLEAR, IDENTIFIERS_ONLY, SUBSCRIBE};
 use crate::request::Request;
 use std::alloc::Global;
-use swima_model::{Ident, Kind};
-use wire_base::{List, Memory, Octets, put_u16, put_u24, put_u32};
+use swima_model::Kind;
+use wire_base::{List, Memory, Octets, put_counted_u16, put_u24, put_u32};
 
 /// The octets of a request: the value of its attribute, of type `SWIMA_REQUEST` (RFC 8412, section 5.6), with 0 in the flags
 /// that have no meaning.
@@ -24,7 +24,7 @@ pub fn write_request(alloc: Global, request: &Request) -> Result<Octets, Memory>
     put_u32(&mut out, request.id)?;
     put_u32(&mut out, request.earliest)?;
     for target in request.targets.as_slice() {
-        put_target(&mut out, target)?;
+        put_counted_u16(&mut out, target.bytes())?;
     }
     Ok(out)
 }
@@ -53,14 +53,4 @@ fn is_ids(kind: Kind) -> bool
         Kind::Ids => true,
         Kind::Full => false,
     }
-}
-
-/// Puts the octets of a target at the end.
-#[tactic(auto, unfolding(wire_base::specs::Written::written))]
-fn put_target(out: &mut Octets, target: &Ident) -> Result<(), Memory>
-    ensures appended { OnOk result (out.new ≡ out.old ++ written (target_fields target.now)) }
-{
-    let octets = target.bytes();
-    put_u16(out, octets.len() as u16)?;
-    out.extend(octets)
 }

@@ -3,15 +3,18 @@
 //!
 //! It stands on std, on `jiff` for the calendar, and on `thiserror` for the texts of errors. The crates above rest on
 //! `reads`, `writes` and `cause` of `Source` and `Sink` (what was left or written, and faults that are counted), on `field`
-//! of each method of `Cursor` (what a reader gives, or the place of the first fault), on `appended` of `put_u8` and its kin,
-//! on `text` of `stamp_text` and of `push_escaped`, on `stamp` of `is_stamp`, and on `equal` of `TryCopy::copy`. The words of
-//! these clauses are in `specs/`: `Outside`, `Passing`, `Numbers`, `Layout`, `Reading`, `FirstFault`, `Stamp`, `Escaped`.
+//! of each method of `Cursor` (what a reader gives, or the place of the first fault) and of `FieldReader::read`, on `several`
+//! of `read_several`, on `appended` of `put_u8` and its kin and of `put_counted_u16` and `put_counted_u32`, on `text` of
+//! `stamp_text` and of `push_escaped`, on `stamp` of `is_stamp`, and on `equal` of `TryCopy::copy`. The words of these clauses
+//! are in `specs/`: `Outside`, `Passing`, `Numbers`, `Layout`, `Reading`, `FirstFault`, `Stamp`, `Written`, `Escaped`.
 #![tactic(auto)]
 
 mod boxed;
+mod counted;
 mod cursor;
 mod escape;
 mod failing;
+mod field_reader;
 mod files;
 mod folder_files;
 pub mod laws;
@@ -31,8 +34,10 @@ mod standard;
 mod text;
 
 pub use boxed::Boxed;
+pub use counted::{put_counted_u16, put_counted_u32};
 pub use cursor::Cursor;
 pub use escape::push_escaped;
+pub use field_reader::{FieldReader, read_several};
 pub use files::{FileAnswer, Files, NamedFile};
 pub use folder_files::FolderFiles;
 pub use list::{List, Octets, TryCopy};

@@ -1,11 +1,13 @@
 //! Each public call with ample memory, on values made by hand, and calls of the outside that fail in mid-stream.
 
 ghost use Rattle.std.specs.Prelude.{◌≡◌, IfOk};
+ghost use Rattle.wire_base.specs.Reading.{number};
 
 use crate::{
-    Boxed, Cursor, Failed, FieldRefused, List, MemSink, MemSource, Memory, NoFaultSink,
-    NoFaultSource, Octets, Sink, Source, StdinSource, StdoutSink, Stopped, Text, TryCopy, fill,
-    number_of, push_escaped, put_u8, put_u16, put_u24, put_u32, u24_at, u32_at, write_all,
+    Boxed, Cursor, Failed, FieldReader, FieldRefused, List, MemSink, MemSource, Memory,
+    NoFaultSink, NoFaultSource, Octets, Sink, Source, StdinSource, StdoutSink, Stopped, Text,
+    TryCopy, fill, number_of, push_escaped, put_counted_u16, put_counted_u32, put_u8, put_u16,
+    put_u24, put_u32, read_several, u24_at, u32_at, write_all,
 };
 use std::alloc::Global;
 use std::io;
@@ -226,6 +228,16 @@ fn numbers_are_put_at_the_end(rt: HostRuntime) -> Result<(), Fail> {
 }
 
 #[test]
+fn octets_are_put_behind_their_number(rt: HostRuntime) -> Result<(), Fail> {
+    let mut octets = List::new(rt.alloc());
+    put_counted_u16(&mut octets, b"ab")?;
+    put_counted_u32(&mut octets, b"c")?;
+    let wanted = [0, 2, b'a', b'b', 0, 0, 0, 1, b'c'];
+    assert_eq!(rt; octets.as_slice(), wanted.as_slice());
+    Ok(())
+}
+
+#[test]
 fn a_cursor_takes_fields_in_turn(rt: HostRuntime) -> Result<(), Fail> {
     let octets = [7, 1, 2, 1, 2, 3, 1, 2, 3, 4, 8, 9, 0, 2, 10, 11, 12];
     let mut cursor = Cursor::new(100, &octets);
@@ -264,6 +276,33 @@ fn a_cursor_faults_at_the_field(rt: HostRuntime) {
     assert_eq!(rt; cursor.u32(), Err(fault));
     assert_eq!(rt; cursor.counted(1).err(), Some(fault));
     assert!(rt; cursor.octets(0).is_ok());
+}
+
+/// Reads a number of two octets.
+#[derive(Drop)]
+struct PairReader;
+
+impl FieldReader for PairReader {
+    type Value = u16;
+
+    ghost reading = { λ reader. number 2 };
+
+    fn read(&self, _alloc: Global, cursor: &mut Cursor) -> Result<u16, FieldRefused> {
+        cursor.u16()
+    }
+}
+
+#[test]
+fn several_fields_are_read_in_turn(rt: HostRuntime) -> Result<(), Fail> {
+    let alloc = rt.alloc();
+    let mut cursor = Cursor::new(100, &[1, 2, 0, 3, 0, 4, 9]);
+    let none = read_several(alloc, &mut cursor, &PairReader, 0, 2)?;
+    assert!(rt; none.is_empty());
+    let two = read_several(alloc, &mut cursor, &PairReader, 2, 2)?;
+    assert_eq!(rt; two.as_slice(), [258, 3].as_slice());
+    let fault = read_several(alloc, &mut cursor, &PairReader, 4_294_967_295, 2).err();
+    assert_eq!(rt; fault, Some(FieldRefused::Fault { offset: 106 }));
+    Ok(())
 }
 
 #[test]
