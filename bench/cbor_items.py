@@ -26,23 +26,18 @@ links, of as many octets in all that no tag more finds room; or one tag of at mo
     tag-deep         the mixture `deep` under a key of its own, down to the depth of 64 under the tag of tags
 """
 
+import os
 import random
 import struct
 import sys
 
+sys.dont_write_bytecode = True
+sys.path.insert(0, os.path.join(os.path.dirname(os.path.abspath(__file__)), os.pardir, "examples"))
+
+from cbor import head, spelled
+
 DEEPEST = 64
 NESTED = 20  # directories in one another
-
-
-def head(major, argument):
-    """The shortest head."""
-    first = major << 5
-    if argument < 24:
-        return bytes([first | argument])
-    for information, form, above in ((24, ">B", 8), (25, ">H", 16), (26, ">I", 32), (27, ">Q", 64)):
-        if argument < 1 << above:
-            return bytes([first | information]) + struct.pack(form, argument)
-    raise ValueError(argument)
 
 
 def scattered(index):
@@ -105,15 +100,10 @@ SHAPES = {
 TAGS = {"tags": lambda room: tags(room, 2, True), "links": lambda room: tags(room, 60, False)}
 
 
-def text(string):
-    octets = string.encode()
-    return head(3, len(octets)) + octets
-
-
 def file_of(chance, index):
     """A file with its name, size, and SHA-256."""
     digest = head(4, 2) + head(0, 1) + head(2, 32) + chance.randbytes(32)
-    name = text(f"{chance.choice(('lib', 'bin', 'share', 'etc'))}-{index:05d}.{chance.choice(('so.6', 'py', 'conf', 'h'))}")
+    name = spelled(f"{chance.choice(('lib', 'bin', 'share', 'etc'))}-{index:05d}.{chance.choice(('so.6', 'py', 'conf', 'h'))}")
     return head(5, 3) + head(0, 7) + digest + head(0, 20) + head(0, chance.randrange(1 << 24)) + head(0, 24) + name
 
 
@@ -124,20 +114,20 @@ def payload(chance):
 
 def tag(chance, index, links, has_files):
     """A primary tag with its creator, so many links, and its files, if it has any (RFC 9393, section 2)."""
-    entity = head(5, 3) + head(0, 31) + text("Example Software Limited") + head(0, 32) + head(6, 32) + text("example.com")
+    entity = head(5, 3) + head(0, 31) + spelled("Example Software Limited") + head(0, 32) + head(6, 32) + spelled("example.com")
     entity += head(0, 33) + head(4, 2) + b"\1\2"
     link = b"".join(
-        head(5, 2) + head(0, 38) + head(6, 32) + text(f"swid:example.com/component-{chance.randrange(9999)}") + head(0, 40) + b"\7" for _ in range(links)
+        head(5, 2) + head(0, 38) + head(6, 32) + spelled(f"swid:example.com/component-{chance.randrange(9999)}") + head(0, 40) + b"\7" for _ in range(links)
     )
     files = [payload(chance)] if has_files else []
     fields = [
         (0, head(2, 16) + chance.randbytes(16)),
-        (1, text(f"Example Package {index}")),
+        (1, spelled(f"Example Package {index}")),
         (2, entity),
         (4, head(4, links) + link),
         *files,
         (12, b"\0"),
-        (13, text(f"{index % 7}.{index % 13}.{index % 101}")),
+        (13, spelled(f"{index % 7}.{index % 13}.{index % 101}")),
     ]
     return head(6, 1398229316) + head(5, len(fields)) + b"".join(head(0, key) + value for key, value in fields)
 
@@ -146,7 +136,7 @@ def directory(chance, index):
     """A directory in a directory and so on, and files in the innermost."""
     held = head(5, 1) + head(0, 17) + head(4, 3) + b"".join(file_of(chance, 3 * index + place) for place in range(3))
     for level in range(NESTED):
-        held = head(5, 2) + head(0, 24) + text(f"d{level}-{index:05d}") + head(0, 26) + held
+        held = head(5, 2) + head(0, 24) + spelled(f"d{level}-{index:05d}") + head(0, 26) + held
         if level + 1 < NESTED:
             held = head(5, 1) + head(0, 16) + held
     return held

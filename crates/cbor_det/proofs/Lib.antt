@@ -8,6 +8,7 @@ pub mod Shown
 pub mod Sound
 pub mod Steps
 pub mod Outcome
+pub mod Counts
 pub mod Written
 pub mod BigEndian
 pub mod Views

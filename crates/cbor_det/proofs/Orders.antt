@@ -7,7 +7,8 @@ use Rattle.std.proofs.lemmas.List.Sorted.{IsPermutation-keeps}
 use Rattle.cbor_det.specs.Term.{Term, Pairs, no_pairs, pair}
 use Rattle.cbor_det.specs.Spelling.{PutsIn, here, later, Spelling, PairSeries, no_members, member}
 use Rattle.cbor_det.specs.Laws.{Member, joined}
-use Rattle.cbor_det.proofs.Written.{spelling_some, one_item}
+use Rattle.cbor_det.proofs.Counts.{spelling_some}
+use Rattle.cbor_det.proofs.Written.{one_item}
 
 -- Of two pairs that are put in, one after the other, either may be the first.
 puts_swap : (k v l w : Term) (ps qs more : Pairs) → PutsIn k v ps qs → PutsIn l w qs more → (rs : Pairs) × PutsIn l w ps rs × PutsIn k v rs more

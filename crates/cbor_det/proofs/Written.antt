@@ -1,5 +1,5 @@
 -- The canonical spelling is a spelling, of one item alone.
-use Rattle.std.proofs.Common.{◌≡◌, ℕ, ◌+◌, ◌^◌, ◌<◌, ◌≤◌, List, [], ◌∷◌, ◌++◌, length, refl, sym, ap, ◌∙◌, arith, subst, true, false, append_assoc, length-append, pos, negsuc}
+use Rattle.std.proofs.Common.{◌≡◌, ℕ, ◌+◌, ◌^◌, ◌<◌, ◌≤◌, List, [], ◌∷◌, ◌++◌, length, max, refl, sym, ap, ◌∙◌, arith, subst, true, false, append_assoc, length-append, pos, negsuc}
 use Rattle.std.specs.Prelude.{nat_lt}
 use Rattle.std.proofs.lemmas.List.{append-nil, take_at}
 use Rattle.std.proofs.lemmas.Bool.{cond_both, ltb-true}
@@ -14,8 +14,7 @@ use Rattle.cbor_det.specs.Proper.{IsProper, AreProper, ArePairsProper}
 use Rattle.cbor_det.specs.Machine.{due, whole, give, run}
 use Rattle.cbor_det.proofs.Completes.{reads, chunks_part}
 use Rattle.cbor_det.proofs.Shown.{ended}
-use Rattle.cbor_det.proofs.Lengths.{count_plus}
-use Rattle.cbor_det.proofs.Order.{count_puts}
+use Rattle.cbor_det.proofs.Counts.{most, terms_most, pairs_most, spelled_most, canon_most}
 use Rattle.cbor_det.proofs.Outcome.{same_whole}
 
 -- heads
@@ -39,67 +38,6 @@ below_bound eight = omega arith
 
 pub head_small : (major n : ℕ) (h : List ℕ) → IsHead major n h → n < 2 ^ 64
 head_small major n h is = let b = below_bound is.form in let f = is.fits in omega (arith, b, f)
-
-head_some : (form : Form) (major n : ℕ) → 1 ≤ length (head form major n)
-head_some direct major n = omega arith
-head_some one major n = omega arith
-head_some two major n = omega arith
-head_some four major n = omega arith
-head_some eight major n = omega arith
-
-is_head_some : (major n : ℕ) (h : List ℕ) → IsHead major n h → 1 ≤ length h
-is_head_some major n h is = let s = head_some is.form major n in let e = ap length is.is in omega (arith, s, e)
-
-front_some : (x y : List ℕ) → 1 ≤ length x → 1 ≤ length (x ++ y)
-front_some x y some = omega (arith, length-append x y)
-
-canon_some : (t : Term) → 1 ≤ length (canon t)
-canon_some (integer (pos n)) = head_some (shortest n) 0 n
-canon_some (integer (negsuc n)) = head_some (shortest n) 1 n
-canon_some (octets s) = front_some (short_head 2 (length s)) s (head_some (shortest (length s)) 2 (length s))
-canon_some (text s) = front_some (short_head 3 (length s)) s (head_some (shortest (length s)) 3 (length s))
-canon_some (array ts) = front_some (short_head 4 (count ts)) (canon_terms ts) (head_some (shortest (count ts)) 4 (count ts))
-canon_some (map ps) = front_some (short_head 5 (pair_count ps)) (canon_pairs ps) (head_some (shortest (pair_count ps)) 5 (pair_count ps))
-canon_some (tagged n t) = front_some (short_head 6 n) (canon t) (head_some (shortest n) 6 n)
-canon_some (boolean false) = omega arith
-canon_some (boolean true) = omega arith
-
-pub spelling_some : (t : Term) (o : List ℕ) → Spelling t o → 1 ≤ length o
-spelling_some t o (unsigned n h lt is) = is_head_some 0 n h is
-spelling_some t o (negative n h lt is) = is_head_some 1 n h is
-spelling_some t o (definite_string kind s h part is) = front_some h s (is_head_some (major_of kind) (length s) h is)
-spelling_some t o (indefinite_string kind s q _) = omega arith
-spelling_some t o (definite_array ts h r is series) = front_some h r (is_head_some 4 (count ts) h is)
-spelling_some t o (indefinite_array ts r series) = omega arith
-spelling_some t o (definite_map ps h r rises is series) = front_some h r (is_head_some 5 (pair_count ps) h is)
-spelling_some t o (indefinite_map ps r rises series) = omega arith
-spelling_some t o (under_tag n u h q is spelled) = front_some h q (is_head_some 6 n h is)
-spelling_some t o is_false = omega arith
-spelling_some t o is_true = omega arith
-
-series_some : (ts : Terms) (r : List ℕ) → Series ts r → count ts ≤ length r
-series_some ts r no_items = omega arith
-series_some ts r (item us u q o series spelled) =
-    let s = spelling_some u o spelled in let c = count_plus us u in let i = series_some us q series in omega (arith, length-append q o, s, c, i)
-
-pairs_some : (ps : Pairs) (r : List ℕ) → PairSeries ps r → pair_count ps ≤ length r
-pairs_some ps r no_members = omega arith
-pairs_some ps r (member qs more k v u o q series key value puts) =
-    let s = spelling_some k o key in let c = count_puts k v qs more puts in let i = pairs_some qs u series in omega (arith, length-append u (o ++ q), length-append o q, s, c, i)
-
-chunks_some : (kind : Kind) (s o : List ℕ) → Chunks kind s o → length s ≤ length o
-chunks_some kind s o no_chunks = omega arith
-chunks_some kind s o (chunk t u q h parts part is) =
-    let i = chunks_some kind t q parts in omega (arith, length-append t u, length-append (q ++ h) u, length-append q h, i)
-
-terms_some : (ts : Terms) → count ts ≤ length (canon_terms ts)
-terms_some no_terms = omega arith
-terms_some (term t ts) = let s = canon_some t in let i = terms_some ts in omega (arith, length-append (canon t) (canon_terms ts), s, i)
-
-canon_pairs_some : (ps : Pairs) → pair_count ps ≤ length (canon_pairs ps)
-canon_pairs_some no_pairs = omega arith
-canon_pairs_some (pair k v ps) =
-    let s = canon_some k in let i = canon_pairs_some ps in omega (arith, length-append (canon k ++ canon v) (canon_pairs ps), length-append (canon k) (canon v), s, i)
 
 -- series with one more in front
 
@@ -135,53 +73,9 @@ each_pairs : (ps : Pairs) → EachPair ps → PairSeries ps (canon_pairs ps)
 each_pairs no_pairs each = no_members
 each_pairs (pair k v ps) each = pairs_cons k v (canon k) (canon v) each.0 each.1 ps (canon_pairs ps) (each_pairs ps each.2)
 
-each_plus : (ts : Terms) (t : Term) → Each ts → Spelling t (canon t) → Each (plus ts t)
-each_plus no_terms t each spelled = (spelled, tt)
-each_plus (term u ts) t each spelled = (each.0, each_plus ts t each.1 spelled)
-
-each_puts : (k v : Term) (ps more : Pairs) → PutsIn k v ps more → EachPair ps → Spelling k (canon k) → Spelling v (canon v) → EachPair more
-each_puts k v ps more (here qs) each key value = (key, value, each)
-each_puts k v ps more (later l w qs rest puts) each key value = (each.0, each.1, each_puts k v qs rest puts each.2 key value)
-
 string_written : (kind : Kind) (s : List ℕ) → IsPart kind s → length s < 2 ^ 64 → Spelling (string kind s) (canon (string kind s))
 string_written ByteString s part small = definite_string ByteString s (short_head 2 (length s)) part (short_is 2 (length s) small)
 string_written TextString s part small = definite_string TextString s (short_head 3 (length s)) part (short_is 3 (length s) small)
-
-mutual
-  -- What has a spelling has its canonical one.
-  pub written : (t : Term) (o : List ℕ) → Spelling t o → length o < 2 ^ 64 → Spelling t (canon t)
-  written t o (unsigned n h lt is) small = unsigned n (short_head 0 n) lt (short_is 0 n (head_small 0 n h is))
-  written t o (negative n h lt is) small = negative n (short_head 1 n) lt (short_is 1 n (head_small 1 n h is))
-  written t o (definite_string kind s h part is) small = string_written kind s part (head_small (major_of kind) (length s) h is)
-  written t o (indefinite_string kind s q parts) small =
-      string_written kind s (chunks_part kind s q parts) (let c = chunks_some kind s q parts in omega (arith, length-append q (stop ∷ []), c, small))
-  written t o (definite_array ts h r is series) small =
-      definite_array ts (short_head 4 (count ts)) (canon_terms ts) (short_is 4 (count ts) (head_small 4 (count ts) h is)) (each_series ts (series_written ts r series (omega (arith, length-append h r, small))))
-  written t o (indefinite_array ts r series) small =
-      definite_array ts (short_head 4 (count ts)) (canon_terms ts) (short_is 4 (count ts) (let c = series_some ts r series in omega (arith, length-append r (stop ∷ []), c, small)))
-      (each_series ts (series_written ts r series (omega (arith, length-append r (stop ∷ []), small))))
-  written t o (definite_map ps h r rises is series) small =
-      definite_map ps (short_head 5 (pair_count ps)) (canon_pairs ps) rises (short_is 5 (pair_count ps) (head_small 5 (pair_count ps) h is))
-      (each_pairs ps (pairs_written ps r series (omega (arith, length-append h r, small))))
-  written t o (indefinite_map ps r rises series) small =
-      definite_map ps (short_head 5 (pair_count ps)) (canon_pairs ps) rises (short_is 5 (pair_count ps) (let c = pairs_some ps r series in omega (arith, length-append r (stop ∷ []), c, small)))
-      (each_pairs ps (pairs_written ps r series (omega (arith, length-append r (stop ∷ []), small))))
-  written t o (under_tag n u h q is spelled) small =
-      under_tag n u (short_head 6 n) (canon u) (short_is 6 n (head_small 6 n h is)) (written u q spelled (omega (arith, length-append h q, small)))
-  written t o is_false small = is_false
-  written t o is_true small = is_true
-
-  series_written : (ts : Terms) (r : List ℕ) → Series ts r → length r < 2 ^ 64 → Each ts
-  series_written ts r no_items small = tt
-  series_written ts r (item us u q o series spelled) small =
-      each_plus us u (series_written us q series (omega (arith, length-append q o, small))) (written u o spelled (omega (arith, length-append q o, small)))
-
-  pairs_written : (ps : Pairs) (r : List ℕ) → PairSeries ps r → length r < 2 ^ 64 → EachPair ps
-  pairs_written ps r no_members small = tt
-  pairs_written ps r (member qs more k v u o q series key value puts) small =
-      let l1 = length-append u (o ++ q) in
-      let l2 = length-append o q in
-      each_puts k v qs more puts (pairs_written qs u series (omega (arith, l1, small))) (written k o key (omega (arith, l1, l2, small))) (written v q value (omega (arith, l1, l2, small)))
 
 -- proper items
 
@@ -222,37 +116,41 @@ mutual
       proper_puts k v qs more puts (pairs_proper qs u series) (spelled_proper k o key) (spelled_proper v q value)
 
 mutual
-  -- A proper item is spelled by its canonical spelling, where that has fewer than 2 ^ 64 octets.
-  pub proper_spelled : (t : Term) → IsProper t → length (canon t) < 2 ^ 64 → Spelling t (canon t)
-  proper_spelled (integer (pos n)) proper small = unsigned n (short_head 0 n) proper (short_is 0 n (omega arith))
-  proper_spelled (integer (negsuc n)) proper small = negative n (short_head 1 n) proper (short_is 1 n (omega arith))
-  proper_spelled (octets s) proper small = string_written ByteString s tt (omega (arith, length-append (short_head 2 (length s)) s, small))
-  proper_spelled (text s) proper small = string_written TextString s proper (omega (arith, length-append (short_head 3 (length s)) s, small))
-  proper_spelled (array ts) proper small =
-      let l = length-append (short_head 4 (count ts)) (canon_terms ts) in
-      definite_array ts (short_head 4 (count ts)) (canon_terms ts) (short_is 4 (count ts) (let c = terms_some ts in omega (arith, l, c, small))) (each_series ts (terms_spelled ts proper (omega (arith, l, small))))
-  proper_spelled (map ps) proper small =
-      let l = length-append (short_head 5 (pair_count ps)) (canon_pairs ps) in
-      definite_map ps (short_head 5 (pair_count ps)) (canon_pairs ps) proper.0 (short_is 5 (pair_count ps) (let c = canon_pairs_some ps in omega (arith, l, c, small)))
-      (each_pairs ps (pairs_spelled ps proper.1 (omega (arith, l, small))))
-  proper_spelled (tagged n t) proper small =
-      let l = length-append (short_head 6 n) (canon t) in
-      under_tag n t (short_head 6 n) (canon t) (short_is 6 n proper.0) (proper_spelled t proper.1 (omega (arith, l, small)))
-  proper_spelled (boolean false) proper small = is_false
-  proper_spelled (boolean true) proper small = is_true
+  -- A proper item is spelled by its canonical spelling, where each part has fewer than 2 ^ 64 of them.
+  pub few_spelled : (t : Term) → IsProper t → most t < 2 ^ 64 → Spelling t (canon t)
+  few_spelled (integer (pos n)) proper few = unsigned n (short_head 0 n) proper (short_is 0 n (let l : n < 2 ^ 63 = proper in omega (arith, l)))
+  few_spelled (integer (negsuc n)) proper few = negative n (short_head 1 n) proper (short_is 1 n (let l : n < 2 ^ 63 = proper in omega (arith, l)))
+  few_spelled (octets s) proper few = string_written ByteString s tt few
+  few_spelled (text s) proper few = string_written TextString s proper few
+  few_spelled (array ts) proper few =
+      let l : max (count ts) (terms_most ts) < 2 ^ 64 = few in
+      definite_array ts (short_head 4 (count ts)) (canon_terms ts) (short_is 4 (count ts) (omega (arith, l))) (each_series ts (terms_spelled ts proper (omega (arith, l))))
+  few_spelled (map ps) proper few =
+      let l : max (pair_count ps) (pairs_most ps) < 2 ^ 64 = few in
+      definite_map ps (short_head 5 (pair_count ps)) (canon_pairs ps) proper.0 (short_is 5 (pair_count ps) (omega (arith, l))) (each_pairs ps (pairs_spelled ps proper.1 (omega (arith, l))))
+  few_spelled (tagged n t) proper few = under_tag n t (short_head 6 n) (canon t) (short_is 6 n proper.0) (few_spelled t proper.1 few)
+  few_spelled (boolean false) proper few = is_false
+  few_spelled (boolean true) proper few = is_true
 
-  terms_spelled : (ts : Terms) → AreProper ts → length (canon_terms ts) < 2 ^ 64 → Each ts
-  terms_spelled no_terms proper small = tt
-  terms_spelled (term t ts) proper small =
-      let l = length-append (canon t) (canon_terms ts) in
-      (proper_spelled t proper.0 (omega (arith, l, small)), terms_spelled ts proper.1 (omega (arith, l, small)))
+  terms_spelled : (ts : Terms) → AreProper ts → terms_most ts < 2 ^ 64 → Each ts
+  terms_spelled no_terms proper few = tt
+  terms_spelled (term t ts) proper few =
+      let l : max (most t) (terms_most ts) < 2 ^ 64 = few in
+      (few_spelled t proper.0 (omega (arith, l)), terms_spelled ts proper.1 (omega (arith, l)))
 
-  pairs_spelled : (ps : Pairs) → ArePairsProper ps → length (canon_pairs ps) < 2 ^ 64 → EachPair ps
-  pairs_spelled no_pairs proper small = tt
-  pairs_spelled (pair k v ps) proper small =
-      let l1 = length-append (canon k ++ canon v) (canon_pairs ps) in
-      let l2 = length-append (canon k) (canon v) in
-      (proper_spelled k proper.0 (omega (arith, l1, l2, small)), proper_spelled v proper.1 (omega (arith, l1, l2, small)), pairs_spelled ps proper.2 (omega (arith, l1, small)))
+  pairs_spelled : (ps : Pairs) → ArePairsProper ps → pairs_most ps < 2 ^ 64 → EachPair ps
+  pairs_spelled no_pairs proper few = tt
+  pairs_spelled (pair k v ps) proper few =
+      let l : max (most k) (max (most v) (pairs_most ps)) < 2 ^ 64 = few in
+      (few_spelled k proper.0 (omega (arith, l)), few_spelled v proper.1 (omega (arith, l)), pairs_spelled ps proper.2 (omega (arith, l)))
+
+-- What has a spelling has its canonical one.
+pub written : (t : Term) (o : List ℕ) → Spelling t o → length o < 2 ^ 64 → Spelling t (canon t)
+written t o spelled small = few_spelled t (spelled_proper t o spelled) (let l = spelled_most t o spelled in omega (arith, l, small))
+
+-- So has a proper item whose canonical spelling has fewer than 2 ^ 64 octets.
+pub proper_spelled : (t : Term) → IsProper t → length (canon t) < 2 ^ 64 → Spelling t (canon t)
+proper_spelled t proper small = few_spelled t proper (let l = canon_most t in omega (arith, l, small))
 
 -- unambiguous and prefix-free
 
@@ -267,11 +165,14 @@ one_item t u o q x y first second e =
     let limits : Limits = record { octets = length o + length q; depth = depth t + depth u } in
     same_whole t u x y (sym (reads_whole limits t o x first (omega arith) (omega arith)) ∙ ap (λ (z : List ℕ). run limits 0 (due top) z) e ∙ reads_whole limits u q y second (omega arith) (omega arith))
 
--- Two proper items with one canonical spelling are one.
+-- Two proper items with one canonical spelling are one, where each part has fewer than 2 ^ 64 of them.
+pub few_same : (t u : Term) → IsProper t → IsProper u → most t < 2 ^ 64 → most u < 2 ^ 64 → canon t ≡ canon u → t ≡ u
+few_same t u first second few less e =
+    (one_item t u (canon t) (canon u) [] [] (few_spelled t first few) (few_spelled u second less) (ap (λ (z : List ℕ). z ++ []) e)).0
+
 pub canon_same : (t u : Term) → IsProper t → IsProper u → length (canon t) < 2 ^ 64 → canon t ≡ canon u → t ≡ u
 canon_same t u first second small e =
-    let l = ap length e in
-    (one_item t u (canon t) (canon u) [] [] (proper_spelled t first small) (proper_spelled u second (omega (arith, l, small))) (ap (λ (z : List ℕ). z ++ []) e)).0
+    few_same t u first second (let l = canon_most t in omega (arith, l, small)) (let l = canon_most u in omega (arith, l, ap length e, small)) e
 
 -- What is written is read, whatever follows.
 pub written_begins : (limits : Limits) (t : Term) (tail : List ℕ) → IsProper t → length (canon t) < 2 ^ 64 → length (canon t) ≤ limits.octets → depth t ≤ limits.depth

@@ -6,6 +6,7 @@ use Rattle.cbor_det.specs.declared.feed.CborFed.{CborFed}
 use Rattle.cbor_det.specs.declared.feed.CborFed.TheVariants as fed
 use Rattle.cbor_det.specs.declared.feed.Progress.{Progress}
 use Rattle.cbor_det.specs.declared.feed.Progress.TheVariants as progress
+use Rattle.cbor_det.specs.declared.frame.Frame.{Frame}
 use Rattle.cbor_det.specs.declared.limits.Limits.{Limits}
 use Rattle.cbor_det.specs.View.{view}
 use Rattle.cbor_det.specs.Faults.{Begins, IsFault, IsCut}
@@ -35,6 +36,15 @@ IsSpent feed = IsSpentAt feed.progress
 -- The feed has answered this fault.
 abbrev pub HasFailed : CborFeed → CborFault → Type 0
 HasFailed feed f = feed.progress ≡ progress.Failed f
+
+abbrev pub IsReleasedAt : Progress → List Frame → Type 0
+IsReleasedAt (progress.Reading reading) frames = Unit {0}
+IsReleasedAt (progress.Failed f) frames = frames ≡ []
+IsReleasedAt progress.OutOfMemory frames = frames ≡ []
+
+-- Where the feed has answered a fault or want of memory, it holds nothing of the arrays and maps that were open.
+abbrev pub IsReleased : CborFeed → Type 0
+IsReleased feed = IsReleasedAt feed.progress feed.stack.items
 
 -- The answer for a piece behind octets that were taken, and the feed afterwards: More exactly where the joined octets are
 -- neither an item nor a fault, and behind an item the next one begins.

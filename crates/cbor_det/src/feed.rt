@@ -58,7 +58,7 @@ pub struct CborFeed {
 
 impl CborFeed {
     ghost use Rattle.cbor_det.specs.Pieces.{Stands};
-    ghost use Rattle.cbor_det.specs.Feeding.{HasFailed, HasTaken, IsFed, IsMemory, IsSpent, limits_of};
+    ghost use Rattle.cbor_det.specs.Feeding.{HasFailed, HasTaken, IsFed, IsMemory, IsReleased, IsSpent, limits_of};
 
     /// A feed of items within the limits. It takes no memory.
     pub fn new(alloc: Global, limits: Limits) -> Self
@@ -66,6 +66,7 @@ impl CborFeed {
         requires depth { limits.depth ≤ 64 }
         ensures taken { HasTaken result [] }
         ensures limits { limits_of result ≡ limits }
+        ensures released { IsReleased result }
     {
         CborFeed {
             limits,
@@ -76,11 +77,12 @@ impl CborFeed {
     }
 
     /// Takes the next piece of the octets. Offsets of faults count from the first octet of the item, whatever the
-    /// pieces were.
+    /// pieces were. Behind a fault or want of memory it holds nothing of the item.
     pub fn feed(&mut self, piece: &[u8]) -> CborFed
         ensures fed { (before : List ℕ) → HasTaken self.old before → IsFed (limits_of self.old) before piece.now result self.new }
         ensures stays { (f : CborFault) → HasFailed self.old f → (result ≡ fed.Fault f) × HasFailed self.new f }
         ensures spent { IsSpent self.old → IsMemory result × IsSpent self.new }
+        ensures released { IsReleased self.old → IsReleased self.new }
         ensures limits { limits_of self.new ≡ limits_of self.old }
     {
         match mem::replace(&mut self.progress, Progress::OutOfMemory) {
@@ -101,6 +103,7 @@ impl CborFeed {
         requires fits { Fits phase }
         requires spent { IsSpent self.old }
         ensures fed { (before : List ℕ) → Stands self.old.limits self.old.stack.items phase self.old.taken before → IsFed (limits_of self.old) before piece.now result self.new }
+        ensures released { IsReleased self.new }
         ensures limits { limits_of self.new ≡ limits_of self.old }
     {
         let alloc = *self.stack.allocator();

@@ -3,8 +3,9 @@
 //!
 //! It stands on `wire_base`, and on `thiserror` for the texts of errors. The crates above rest on `found` and `refused` of
 //! `read_item`, on `canonical` of `write_item`, on `empty`, `put`, `value`, `others`, `len` and `key` of the methods of `Pairs`, on
-//! `equal` of the copies of items and pairs, and on `laws`. `CborFeed` (`fed`, `stays`, `spent`), `is_canonical` and `Pairs::add`
-//! (`added`, `proper`) are there for other callers.
+//! `equal` of the copies of items and pairs, and on `laws`; their proofs also on the lemmas of `proofs/Order`, `Outcome`, `Outcomes`,
+//! `Written`, `Adds`, `Entries` and `Views`. `CborFeed` (`fed`, `stays`, `spent`, `released`), `is_canonical` and `Pairs::add` (`added`,
+//! `proper`) are there for other callers.
 //!
 //! The words of these clauses are in `specs/`: `Term` and `View` (items), `Canonical`, `Spelling` and `Proper`, `Faults`, `Answers`
 //! (of a reader), `Feeding` (of a feed), `Lookup` and `Adding` (of pairs), `Laws`. The others are the private means of proof: where
