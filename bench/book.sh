@@ -1,13 +1,15 @@
 #!/usr/bin/env bash
-# Measures a book of 1,000, 10,000 and 65,536 records: the inventory of all, one change, and an answer of 100 events. It is a
-# measurement and no test: it judges no output, and no time makes it fail.
+# Measures a book of 1,000, 10,000 and 65,536 records whose log is full: the inventory of all, an answer of 100 events, and
+# changes. It is a measurement and no test: it judges no output, and no time makes it fail.
 #
 # usage: bench/book.sh [RUNS]     each row is run RUNS times, 5 if not given
 #
 # The program crates/book_bench is built first where that is needed, which proves it, and building is not measured. Needs awk.
 #
 # Columns: the records; what was done; how many times in one run; and the time of one in microseconds: the lowest wall time of
-# all runs, less that of runs that do it not once, over how many times it was done.
+# all runs, less that of runs that do it not once, over how many times it was done. What is done: `answer` and `events` ask for
+# the inventory and for events; `change` alters a record; `last` deletes the last record, behind which none moves, and creates
+# another; `middle` does so with the record in the middle.
 
 set -u
 
@@ -40,7 +42,7 @@ lowest() {
 
 {
     for records in 1000 10000 65536; do
-        for row in 'answer 20' 'change 100000' 'events 2000'; do
+        for row in 'answer 20' 'events 2000' 'change 20000' 'last 20000' 'middle 2000'; do
             read -r what times <<<"$row"
             printf '%s\t%s\t%s\t%s\t%s\n' "$records" "$what" "$times" "$(lowest "$records" "$what" 0)" "$(lowest "$records" "$what" "$times")"
         done

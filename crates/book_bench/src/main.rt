@@ -1,6 +1,7 @@
-//! Asks a book, to measure with `bench/book.sh`. The words are how many records the book has, then `answer` for the inventory
-//! of all, `change` for an alteration of one, or `events` for the latest 100 events, then how many times. It prints how many
-//! records or events were told, or how many alterations were done.
+//! Asks a book whose log is full, to measure with `bench/book.sh`. The words are how many records the book has, 1 at least, then
+//! what is done, then how many times: `answer` for the inventory of all, `events` for the latest 100 events, `change` for an
+//! alteration of one record, `last` for a deletion of the last record and a creation of another, or `middle` for a deletion of
+//! the record in the middle and a creation. It prints how many records or events were told, or how often that was done.
 //!
 //! It stands on `collector_core`, `swima_request`, `swima_model` and `wire_base`.
 #![tactic(auto)]
@@ -15,6 +16,9 @@ use std::process::ExitCode;
 use swima_model::{Body, Content, Ident, Kind, Locator, Model, Report};
 use swima_request::Request;
 use wire_base::{List, TryCopy, is_stamp};
+
+/// How many events the book keeps.
+const KEPT: u32 = 4096;
 
 /// How many events are asked for.
 const EVENTS: u32 = 100;
@@ -40,14 +44,14 @@ fn run(rt: &HostRuntime) -> Option<u64> {
     let what = words.next()?;
     let times: u32 = words.next()?.as_str().parse().ok()?;
     let mut book = book_of(alloc, records)?;
+    alterations(alloc, &mut book, KEPT)?;
+    let count = book.count();
     match what.as_str() {
         "answer" => answers(alloc, &book, 0, times),
+        "events" => answers(alloc, &book, KEPT - EVENTS + 1, times),
         "change" => alterations(alloc, &mut book, times),
-        "events" => {
-            alterations(alloc, &mut book, EVENTS)?;
-            let earliest = book.point().eid.saturating_sub(EVENTS - 1);
-            answers(alloc, &book, earliest, times)
-        }
+        "last" => exchanges(alloc, &mut book, count, times),
+        "middle" => exchanges(alloc, &mut book, count / 2 + 1, times),
         _ => None,
     }
 }
@@ -59,7 +63,7 @@ fn book_of(alloc: Global, records: usize) -> Option<Book> {
     for _ in 0..records {
         base.push(one.copy().ok()?).ok()?;
     }
-    Book::new(alloc, 1, 4096, base.as_slice()).ok()
+    Book::new(alloc, 1, KEPT as usize, base.as_slice()).ok()
 }
 
 /// A content with so many octets of a body.
@@ -92,6 +96,28 @@ fn alter(book: &mut Book, content: &Content) -> Option<()> {
         return None;
     }
     book.alter(&STAMP, 1, content).ok()
+}
+
+/// Deletes a record and creates another, so many times, and gives how often that was done. The first that is deleted has this
+/// identifier, and each further one the identifier above, so that each stands at the place of the first.
+fn exchanges(alloc: Global, book: &mut Book, first: u32, times: u32) -> Option<u64> {
+    let other = content(alloc, 64)?;
+    let mut done: u64 = 0;
+    for further in 0..times {
+        exchange(book, first.saturating_add(further), &other)?;
+        done = done.saturating_add(1);
+    }
+    Some(done)
+}
+
+/// Deletes the record of this identifier, and creates another.
+fn exchange(book: &mut Book, id: u32, content: &Content) -> Option<()> {
+    if !is_stamp(&STAMP) {
+        return None;
+    }
+    book.delete(&STAMP, id).ok()?;
+    book.create(&STAMP, content).ok()?;
+    Some(())
 }
 
 /// How many records or events so many answers tell.

@@ -1,11 +1,10 @@
 -- What the definitions of chronicles mean.
 use Rattle.std.specs.Prelude.{◌≡◌, ◌≢◌, ◌<◌, ◌≤◌, ◌↔◌, ℕ, true, Some, List, [], ◌∷◌, ◌++◌, All, AllPairs, length}
-use Rattle.wire_base.specs.Stamp.{IsStamp}
 use Rattle.swima_model.specs.declared.event.Event.{Event as EventValue}
 use Rattle.swima_model.specs.declared.report.Point.{Point}
 use Rattle.swima_model.specs.declared.report.Report.{Report}
-use Rattle.swima_model.specs.declared.report.Report.TheVariants.{Inventory, Events}
 use Rattle.swima_model.specs.History.{Epoch, History, IsHonest, Answers}
+use Rattle.swima_model.specs.Reports.{ConsultsWithin, HasStamps}
 use Rattle.swima_model.specs.Size.{MOST_RECORDS, report_count, report_size}
 use Rattle.swima_request.specs.declared.request.Request.{Request}
 use Rattle.collector_core.specs.declared.chronicle.Entry.{Entry}
@@ -38,21 +37,11 @@ FrontsAreLegal = (chronicle : Chronicle) (count : ℕ) → IsLegal chronicle →
 
 -- ---- what answers tell
 
--- The moment of each event that is told is a stamp (section 5.8, "Timestamp").
-abbrev pub TellsStamps : Report → Type 0
-TellsStamps (Inventory kind fulfil id point records) = Unit {0}
-TellsStamps (Events kind fulfil id point consulted events) = All (λ (e : EventValue). IsStamp e.stamp) events
-
--- The last event that was consulted is not behind the point (section 5.8, "Last Consulted EID").
-abbrev pub ConsultsWithin : Report → Type 0
-ConsultsWithin (Inventory kind fulfil id point records) = Unit {0}
-ConsultsWithin (Events kind fulfil id point consulted events) = consulted ≤ point.eid
-
 -- The report has at most so many octets, and no more than 65,536 records or events; and it may be written.
 pub record CanBeTold (most : ℕ) (report : Report) : Type 0 where
   pub size : report_size report ≤ most
   pub count : report_count report ≤ MOST_RECORDS
-  pub stamps : TellsStamps report
+  pub stamps : HasStamps report
   pub consulted : ConsultsWithin report
 
 -- At a legal chronicle, each report that is an answer can be told.

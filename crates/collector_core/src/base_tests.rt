@@ -18,20 +18,40 @@ fn contents(alloc: Global, count: usize, octets: usize) -> Result<Vec<Content>, 
     Ok(contents)
 }
 
-/// Expects that a book of so many contents takes no record of the identifier `a`, and is as it was.
+/// A book of so many contents, each with so many octets of a body.
+fn book_of(alloc: Global, count: usize, octets: usize) -> Result<Book, Fail> {
+    let base = contents(alloc, count, octets)?;
+    Ok(Book::new(alloc, 1, 4, base.as_slice())?)
+}
+
+/// Expects that a book takes no record of the identifier `a`, and is as it was.
 fn expect_full(
     rt: &impl Abort,
     alloc: Global,
-    of: (usize, usize),
+    book: &mut Book,
     why: BookError,
 ) -> Result<(), Fail> {
-    let base = contents(alloc, of.0, of.1)?;
     let one = content(alloc, b"a", 0)?;
-    let mut book = Book::new(alloc, 1, 4, base.as_slice())?;
     let count = book.count();
     assert!(rt; is_stamp(&STAMP));
     assert_eq!(rt; book.create(&STAMP, &one), Err(why));
-    expect_at(rt, &book, 1, 0, 1, count);
+    expect_at(rt, book, 1, 0, 1, count);
+    Ok(())
+}
+
+/// Expects that record 1 of a book does not get the identifier `a` and so many octets of a body, and that the book is as it was.
+fn expect_unaltered(
+    rt: &impl Abort,
+    alloc: Global,
+    book: &mut Book,
+    octets: usize,
+    why: BookError,
+) -> Result<(), Fail> {
+    let other = content(alloc, b"a", octets)?;
+    let count = book.count();
+    assert!(rt; is_stamp(&STAMP));
+    assert_eq!(rt; book.alter(&STAMP, 1, &other), Err(why));
+    expect_at(rt, book, 1, 0, 1, count);
     Ok(())
 }
 
@@ -51,15 +71,22 @@ fn expect_none(
 #[test]
 fn a_book_has_so_many_records(rt: HostRuntime) -> Result<(), Fail> {
     let full = BookError::RecordsFull { count: 65_536 };
-    expect_full(&rt, rt.alloc(), (65_536, 0), full)?;
+    let mut book = book_of(rt.alloc(), 65_536, 0)?;
+    expect_full(&rt, rt.alloc(), &mut book, full)?;
     expect_none(&rt, rt.alloc(), (65_536, 0), full)
 }
 
 #[test]
 fn a_book_has_so_many_octets(rt: HostRuntime) -> Result<(), Fail> {
+    let mut book = book_of(rt.alloc(), 256, 1_048_576)?;
     let held = 268_435_456;
     let one_more = BookError::BytesFull { held, given: 1 };
-    expect_full(&rt, rt.alloc(), (256, 1_048_576), one_more)
+    expect_full(&rt, rt.alloc(), &mut book, one_more)?;
+    let beside = BookError::BytesFull {
+        held: 267_386_880,
+        given: 1_048_577,
+    };
+    expect_unaltered(&rt, rt.alloc(), &mut book, 1_048_576, beside)
 }
 
 #[test]

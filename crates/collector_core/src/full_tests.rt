@@ -10,12 +10,12 @@ use swima_model::{Event, Kind, Record, Report};
 use swima_request::Request;
 use wire_base::{List, is_stamp};
 
-/// What a book answers to a request for whole records, from the event identifier on.
-fn ask(alloc: Global, book: &Book, earliest: u32, max: u32) -> Answer {
+/// What a book answers to a request of this kind for all records, from the event identifier on.
+pub fn ask(alloc: Global, book: &Book, kind: Kind, earliest: u32, max: u32) -> Answer {
     let request = Request {
         clear: false,
         subscribe: false,
-        kind: Kind::Full,
+        kind,
         id: 9,
         earliest,
         targets: List::new(alloc),
@@ -103,7 +103,7 @@ fn expect_inventory(rt: &impl Abort, answer: &Answer) {
 #[test]
 fn whole_events_have_their_bodies(rt: HostRuntime) -> Result<(), Fail> {
     let book = changed(&rt, rt.alloc())?;
-    let all = ask(rt.alloc(), &book, 1, 212);
+    let all = ask(rt.alloc(), &book, Kind::Full, 1, 212);
     expect_told(&rt, &all, 4, &[(1, 1, 5), (2, 2, 5), (3, 2, 9), (4, 1, 0)]);
     Ok(())
 }
@@ -111,9 +111,9 @@ fn whole_events_have_their_bodies(rt: HostRuntime) -> Result<(), Fail> {
 #[test]
 fn fronts_of_whole_events(rt: HostRuntime) -> Result<(), Fail> {
     let book = changed(&rt, rt.alloc())?;
-    let three = ask(rt.alloc(), &book, 1, 211);
+    let three = ask(rt.alloc(), &book, Kind::Full, 1, 211);
     expect_told(&rt, &three, 3, &[(1, 1, 5), (2, 2, 5), (3, 2, 9)]);
-    let one = ask(rt.alloc(), &book, 1, 68);
+    let one = ask(rt.alloc(), &book, Kind::Full, 1, 68);
     expect_told(&rt, &one, 1, &[(1, 1, 5)]);
     Ok(())
 }
@@ -121,20 +121,20 @@ fn fronts_of_whole_events(rt: HostRuntime) -> Result<(), Fail> {
 #[test]
 fn a_whole_event_is_too_large(rt: HostRuntime) -> Result<(), Fail> {
     let book = changed(&rt, rt.alloc())?;
-    expect_too_large(&rt, &ask(rt.alloc(), &book, 1, 67), (68, 67));
+    expect_too_large(&rt, &ask(rt.alloc(), &book, Kind::Full, 1, 67), (68, 67));
     Ok(())
 }
 
 #[test]
 fn whole_records_have_their_bodies(rt: HostRuntime) -> Result<(), Fail> {
     let book = changed(&rt, rt.alloc())?;
-    expect_inventory(&rt, &ask(rt.alloc(), &book, 0, 45));
+    expect_inventory(&rt, &ask(rt.alloc(), &book, Kind::Full, 0, 45));
     Ok(())
 }
 
 #[test]
 fn a_whole_record_is_too_large(rt: HostRuntime) -> Result<(), Fail> {
     let book = changed(&rt, rt.alloc())?;
-    expect_too_large(&rt, &ask(rt.alloc(), &book, 0, 44), (45, 44));
+    expect_too_large(&rt, &ask(rt.alloc(), &book, Kind::Full, 0, 44), (45, 44));
     Ok(())
 }

@@ -35,6 +35,8 @@ mod desk_tests;
 #[cfg(test)]
 mod edit_tests;
 #[cfg(test)]
+mod epoch_tests;
+#[cfg(test)]
 mod full_tests;
 #[cfg(test)]
 mod moved_tests;

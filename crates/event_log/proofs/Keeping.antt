@@ -6,7 +6,7 @@ use Rattle.std.proofs.lemmas.List.Elements.{filter-append}
 use Rattle.swima_model.specs.declared.event.Event.{Event}
 use Rattle.swima_model.specs.History.{AreNumberedFrom}
 use Rattle.event_log.specs.Log.{Log, events_from, kept_from, pushed}
-use Rattle.event_log.specs.Meaning.{Keeps, NewKeepsAll, PushKeeps, TrimKeeps, first_of}
+use Rattle.event_log.specs.Meaning.{NewKeepsAll, PushKeeps, TrimKeeps, first_of}
 
 -- ---- events from one identifier on, and of these from another
 

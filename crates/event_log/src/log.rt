@@ -2,11 +2,10 @@
 
 ghost use Rattle.std.specs.Prelude.{◌≡◌, ◌<◌, ◌≤◌, ◌+◌, ◌-◌, ◌↔◌, ◌++◌, ◌∷◌, [], None, IfOk, IsSome, drop, length, nat_lt, option_to_list, slice_get, if◌then◌else◌};
 ghost use Rattle.std.specs.Option.{option_copied};
-ghost use Rattle.std.specs.VecDeque.{deque_len, deque_capacity};
+ghost use Rattle.std.specs.Vec.{vec_len, vec_capacity};
 ghost use Rattle.event_log.specs.Log.{IsLog, Log, empty_log, event_at, kept_from, pushed};
 
 use std::alloc::Global;
-use std::collections::VecDeque;
 use std::marker::Model;
 use swima_model::Event;
 use wire_base::Memory;
@@ -16,19 +15,19 @@ use wire_base::Memory;
 pub struct EventLog {
     cap: usize,
     last: u32,
-    events: VecDeque<Event>,
+    events: Vec<Event>,
 }
 
 impl Model for EventLog {
     ghost use Rattle.std.specs.Prelude.{◌≤◌};
-    ghost use Rattle.std.specs.VecDeque.{deque_capacity};
+    ghost use Rattle.std.specs.Vec.{vec_capacity};
     ghost use Rattle.event_log.specs.Log.{IsLog, Log, log_of};
 
     ghost Value = { Log };
 
     ghost view = { λ log. log_of log.cap log.last log.events.items };
 
-    ghost invariant = { λ log. (log.cap ≤ deque_capacity log.events) × IsLog (log_of log.cap log.last log.events.items) };
+    ghost invariant = { λ log. (log.cap ≤ vec_capacity log.events) × IsLog (log_of log.cap log.last log.events.items) };
 }
 
 impl EventLog {
@@ -41,7 +40,7 @@ impl EventLog {
         Ok(EventLog {
             cap,
             last: 0,
-            events: VecDeque::with_capacity(alloc, cap)?,
+            events: Vec::with_capacity(alloc, cap)?,
         })
     }
 
@@ -88,7 +87,7 @@ impl EventLog {
         ensures trimmed { self.new ≡ kept_from first self.old }
     {
         let count = first.saturating_sub(self.first());
-        drop_front(&mut self.events, count);
+        drop_front(&mut self.events, count as usize);
     }
 
     /// Drops all events; the next is the first of an epoch. It takes no memory.
@@ -101,32 +100,32 @@ impl EventLog {
 }
 
 /// Where `cap` events are held, takes the first out.
-fn make_room(events: &mut VecDeque<Event>, cap: usize) -> Option<Event>
+fn make_room(events: &mut Vec<Event>, cap: usize) -> Option<Event>
+    requires some { 1 ≤ cap }
     ensures oldest { result ≡ (if nat_lt (length events.old.items) cap then None else slice_get events.old.items 0) }
     ensures others { events.old.items ≡ option_to_list result ++ events.new.items }
-    ensures room { deque_capacity events.new ≡ deque_capacity events.old }
+    ensures room { vec_capacity events.new ≡ vec_capacity events.old }
 {
     if events.len() < cap {
         return None;
     }
-    events.pop_front()
+    Some(events.remove(0))
 }
 
 /// Puts an event at the end, for which there is room.
-fn put_last(events: &mut VecDeque<Event>, event: Event)
-    requires room { deque_len events.old < deque_capacity events.old }
+fn put_last(events: &mut Vec<Event>, event: Event)
+    requires room { vec_len events.old < vec_capacity events.old }
     ensures items { events.new.items ≡ events.old.items ++ event ∷ [] }
-    ensures room { deque_capacity events.new ≡ deque_capacity events.old }
+    ensures room { vec_capacity events.old ≤ vec_capacity events.new }
 {
-    events.push_back(event).unwrap();
+    events.push(event).unwrap();
 }
 
-/// Drops so many events from the front.
-fn drop_front(events: &mut VecDeque<Event>, count: u32)
+/// Drops so many events from the front, all at once.
+fn drop_front(events: &mut Vec<Event>, count: usize)
+    requires within { count ≤ vec_len events.old }
     ensures rest { events.new.items ≡ drop count events.old.items }
-    ensures room { deque_capacity events.new ≡ deque_capacity events.old }
+    ensures room { vec_capacity events.new ≡ vec_capacity events.old }
 {
-    for _ in 0..count {
-        let _dropped = events.pop_front();
-    }
+    drop(events.drain(..count));
 }
