@@ -5,6 +5,7 @@ use Rattle.cbor_det.specs.Lookup.{value_under, other_than}
 use Rattle.cbor_det.specs.Proper.{IsProperMap}
 use Rattle.cbor_det.specs.Term.{Term, Terms, Pairs, integer, octets, text, array, map, tagged, boolean, no_terms, term, depth, terms_depth, pairs_depth}
 use Rattle.cbor_det.specs.View.{pairs_view}
+use Rattle.cbor_det.proofs.Counts.{most}
 use Rattle.coswid_res.specs.declared.directory.DirEntry.{DirEntry, out-DirEntry}
 use Rattle.coswid_res.specs.declared.directory.PathElements.{PathElements, out-PathElements}
 use Rattle.coswid_res.specs.declared.directory.DirEntry.TheOpen.{DirEntry-F, PathElements-F}
@@ -95,6 +96,9 @@ directory_by d ps keys held =
       within = λ n le deep.
           let D : Pairs → Type 0 = λ rs. pairs_depth rs ≤ n in
           subst D (sym e) (all.within n le deep);
+      few = λ n le.
+          let D : Pairs → Type 0 = λ rs. most (map rs) ≤ n + 16 in
+          subst D (sym e) (all.few n le);
     }
 
 -- What a directory holds, where the directories in it are known.
@@ -136,6 +140,9 @@ path_by p ps keys held =
       within = λ n le deep.
           let D : Pairs → Type 0 = λ rs. pairs_depth rs ≤ n in
           subst D (sym e) (all.within n le deep);
+      few = λ n le.
+          let D : Pairs → Type 0 = λ rs. most (map rs) ≤ n + 16 in
+          subst D (sym e) (all.few n le);
     }
 
 -- By what is read, from the outside in.

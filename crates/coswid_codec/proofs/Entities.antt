@@ -56,6 +56,7 @@ told e ps is =
       };
       proper = all.proper;
       within = λ n le deep. all.within n le deep;
+      few = all.few;
     }
 
 abbrev fields : Entity → Entity

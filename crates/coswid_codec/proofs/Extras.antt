@@ -86,6 +86,8 @@ PairAgain p = pair_again (pair_view p) ≡ p
 abbrev PairsAgain : held.Pairs → Type 0
 PairsAgain p = pairs_again (pairs_view p) ≡ p
 
+-- each with that fact
+
 abbrev TheItem : Type 0
 TheItem = (x : Item) × Again x
 

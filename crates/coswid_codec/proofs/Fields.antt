@@ -1,5 +1,5 @@
 -- The pairs of a map that is written: the extras, with the fields put in one by one.
-use Rattle.std.proofs.Common.{◌≡◌, ◌≤◌, ◌<◌, ◌==◌, ◌^◌, ℕ, max, Bool, true, false, pos, negsuc, inl, inr, List, length, Option, Some, None, if◌then◌else◌, refl, sym, ap, ◌∙◌, subst, arith}
+use Rattle.std.proofs.Common.{◌≡◌, ◌⊎◌, ◌≤◌, ◌<◌, ◌==◌, ◌^◌, ℕ, max, Bool, true, false, pos, negsuc, inl, inr, List, length, Option, Some, None, if◌then◌else◌, refl, sym, ap, ◌∙◌, subst, arith}
 use Rattle.std.proofs.lemmas.Bool.{cond-true, cond-false, eqb-true, eq-eqb, or_from, or_parts, cases_Bool, both_ways}
 use Rattle.std.specs.Ordering.{match_ordering}
 use Rattle.std.specs.Str.{bytes_eq}
@@ -34,6 +34,11 @@ under_other k j v (pair l w ps) not = under_put_by (is_above (number j) l) k j v
 
 some_not_none : {A : Type 0} (t : Term) → Some t ≡ None → A
 some_not_none {A} t e = absurd cc
+
+-- What stands under a key stands in the first pair or behind it.
+pub found_by : (b : Bool) (k : ℕ) (w t : Term) (o : Option Term) → (if b then Some w else o) ≡ Some t → (w ≡ t) ⊎ (o ≡ Some t)
+found_by true k w t o e = inl cc
+found_by false k w t o e = inr e
 
 -- Nothing stands under a key, so the first pair has another.
 none_first : (b : Bool) (w : Term) (o : Option Term) → (if b then Some w else o) ≡ None → (b ≡ false) × (o ≡ None)

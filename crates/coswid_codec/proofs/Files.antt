@@ -69,6 +69,7 @@ told f ps is =
       };
       proper = all.proper;
       within = λ n le deep. all.within n le deep;
+      few = all.few;
     }
 
 abbrev fields : FileEntry → FileEntry

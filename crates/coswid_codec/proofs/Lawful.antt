@@ -1,20 +1,23 @@
 -- What is proved of each form of values, and of each map: a reader and a writer of it agree.
-use Rattle.std.proofs.Common.{◌≡◌, ◌≤◌, ℕ, zero, suc, ◌-◌, max, Option, Some, None, Bool, true, false, refl, sym, arith}
+use Rattle.std.proofs.Common.{◌≡◌, ◌≤◌, ℕ, zero, suc, ◌+◌, ◌-◌, max, Option, Some, None, Bool, true, false, refl, sym, arith}
 use Rattle.std.proofs.lemmas.Option.{none-some}
-use Rattle.cbor_det.specs.Term.{Term, Pairs, depth, pairs_depth}
+use Rattle.cbor_det.specs.Term.{Term, Pairs, map, depth, pairs_depth}
 use Rattle.cbor_det.specs.Proper.{IsProper, IsProperMap}
+use Rattle.cbor_det.proofs.Counts.{most}
 use Rattle.coswid_res.specs.declared.fault.FormFault.{FormFault}
 use Rattle.coswid_res.specs.Schema.{Name, Field}
 use Rattle.coswid_res.specs.Fault.{field_fault, under, unless_wrong, wrong_form}
 use Rattle.coswid_res.specs.Reading.{keys_fault}
 use Rattle.coswid_codec.specs.Laws.{FormLaw}
 
--- of a value and an item from which it may be read; `least` is the depth that the written item may have in any case
+-- of a value and an item from which it may be read; `least` is the depth that the written item may have in any case, and no table has
+-- more than 16 lines, so that a written map has no more than so many pairs more
 pub record Told {A : Type 0} (field : Field) (Is : A → Term → Type 0) (item : A → Term) (least : ℕ) (v : A) (t : Term) : Type 0 where
   pub none : field_fault field t ≡ None
   pub again : Is v (item v)
   pub proper : IsProper t → IsProper (item v)
   pub within : (n : ℕ) → least ≤ n → depth t ≤ n → depth (item v) ≤ n
+  pub few : (n : ℕ) → most t ≤ n → most (item v) ≤ n + 16
 
 pub record Lawful {A : Type 0} (field : Field) (Is : A → Term → Type 0) (item : A → Term) (least : ℕ) : Type 0 where
   pub told : (v : A) (t : Term) → Is v t → Told field Is item least v t
@@ -27,6 +30,7 @@ pub record MapTold {A : Type 0} (name : Name) (Keys : A → Pairs → Type 0) (p
   pub again : Keys v (pairs v)
   pub proper : IsProperMap ps → IsProperMap (pairs v)
   pub within : (n : ℕ) → least ≤ n → pairs_depth ps ≤ n → pairs_depth (pairs v) ≤ n
+  pub few : (n : ℕ) → most (map ps) ≤ n → most (map (pairs v)) ≤ n + 16
 
 pub record MapLawful {A : Type 0} (name : Name) (Keys : A → Pairs → Type 0) (pairs : A → Pairs) (least : ℕ) : Type 0 where
   pub told : (v : A) (ps : Pairs) → Keys v ps → MapTold name Keys pairs least v ps

@@ -9,9 +9,11 @@ pub mod Fields
 pub mod Files
 pub mod Later
 pub mod Lawful
+pub mod Lengths
 pub mod Lines
 pub mod Links
 pub mod Metas
+pub mod Outcomes
 pub mod Payloads
 pub mod Plain
 pub mod Processes

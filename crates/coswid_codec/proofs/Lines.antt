@@ -94,6 +94,7 @@ pairs_told name Keys pairs least v ps it = record {
   within = λ n le deep.
       let l : pairs_depth (pairs v) ≤ n - 1 = it.within (n - 1) (next_less least n le) (omega (arith, deep)) in
       omega (arith, l, deep);
+  few = λ n le. it.few n le;
 }
 
 module _ {A : Type 0} (name : Name) (Keys : A → Pairs → Type 0) (pairs : A → Pairs) (least : ℕ) (law : MapLawful name Keys pairs least) where

@@ -70,6 +70,7 @@ told l ps is =
       };
       proper = all.proper;
       within = λ n le deep. all.within n le deep;
+      few = all.few;
     }
 
 abbrev fields : LinkEntry → LinkEntry

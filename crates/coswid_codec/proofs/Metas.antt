@@ -109,6 +109,7 @@ told m ps is =
       };
       proper = all.proper;
       within = λ n le deep. all.within n le deep;
+      few = all.few;
     }
 
 abbrev fields : SoftwareMeta → SoftwareMeta

@@ -57,6 +57,7 @@ told p ps is =
       };
       proper = all.proper;
       within = λ n le deep. all.within n le deep;
+      few = all.few;
     }
 
 abbrev fields : Payload → Payload

@@ -21,7 +21,7 @@ as_read : {A : Type 0} (field : _) (Is : A → Term → Type 0) (item : A → Te
     → Told field Is item 0 v t
 as_read {A} field Is item v t again none is =
     let P : Term → Type 0 = λ u. Told field Is item 0 v u in
-    subst P (sym is) (record { none = none; again = again; proper = λ p. p; within = λ n le d. d })
+    subst P (sym is) (record { none = none; again = again; proper = λ p. p; within = λ n le d. d; few = λ n le. omega (arith, le) })
 
 -- texts
 
@@ -178,10 +178,10 @@ code_law = record {
 -- URIs
 
 bare : (s : List ℕ) → Told (one a_uri) Uri uri_item 2 s (text s)
-bare s = record { none = refl; again = inl refl; proper = λ p. (omega arith, p); within = λ n le d. le }
+bare s = record { none = refl; again = inl refl; proper = λ p. (omega arith, p); within = λ n le d. le; few = λ n le. omega (arith, le) }
 
 tagged_uri : (s : List ℕ) → Told (one a_uri) Uri uri_item 2 s (tagged 32 (text s))
-tagged_uri s = record { none = refl; again = inl refl; proper = λ p. p; within = λ n le d. d }
+tagged_uri s = record { none = refl; again = inl refl; proper = λ p. p; within = λ n le d. d; few = λ n le. omega (arith, le) }
 
 uri_told : (s : List ℕ) (t : Term) → Uri s t → Told (one a_uri) Uri uri_item 2 s t
 uri_told s t (inl is) = let P : Term → Type 0 = λ u. Told (one a_uri) Uri uri_item 2 s u in subst P (sym is) (tagged_uri s)
@@ -217,10 +217,10 @@ uri_law = record { told = uri_told; same = uri_same; some = uri_some }
 -- times
 
 bare_time : (z : ℤ) → Told (one a_time) Time time_item 2 z (integer z)
-bare_time z = record { none = refl; again = inl refl; proper = λ p. (omega arith, p); within = λ n le d. le }
+bare_time z = record { none = refl; again = inl refl; proper = λ p. (omega arith, p); within = λ n le d. le; few = λ n le. omega arith }
 
 tagged_time : (z : ℤ) → Told (one a_time) Time time_item 2 z (tagged 1 (integer z))
-tagged_time z = record { none = refl; again = inl refl; proper = λ p. p; within = λ n le d. d }
+tagged_time z = record { none = refl; again = inl refl; proper = λ p. p; within = λ n le d. d; few = λ n le. omega arith }
 
 time_told : (z : ℤ) (t : Term) → Time z t → Told (one a_time) Time time_item 2 z t
 time_told z t (inl is) = let P : Term → Type 0 = λ u. Told (one a_time) Time time_item 2 z u in subst P (sym is) (tagged_time z)

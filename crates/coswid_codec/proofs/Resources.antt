@@ -39,6 +39,7 @@ told r ps is =
       };
       proper = all.proper;
       within = λ n le deep. all.within n le deep;
+      few = all.few;
     }
 
 abbrev fields : ResourceEntry → ResourceEntry

@@ -1,8 +1,9 @@
 -- One or more values of a form, an array of them or one alone.
 use Rattle.std.proofs.Common.{◌≡◌, ◌≢◌, ◌≤◌, ℕ, ◌+◌, ◌-◌, List, [], ◌∷◌, map as map_list, Option, None, refl, sym, ap, ◌∙◌, arith}
-use Rattle.cbor_det.specs.Term.{Term, Terms, integer, octets, text, array, map, tagged, boolean, no_terms, term, depth, terms_depth}
+use Rattle.cbor_det.specs.Term.{Term, Terms, integer, octets, text, array, map, tagged, boolean, no_terms, term, count, depth, terms_depth}
 use Rattle.cbor_det.specs.View.{terms_of}
 use Rattle.cbor_det.specs.Proper.{AreProper}
+use Rattle.cbor_det.proofs.Counts.{most, terms_most}
 use Rattle.coswid_res.specs.declared.fault.FormFault.{FormFault}
 use Rattle.coswid_res.specs.Schema.{Form, one, one_or_more}
 use Rattle.coswid_res.specs.Fault.{field_fault, elements_fault, under, or_else}
@@ -66,6 +67,21 @@ module _ {A : Type 0} (form : Form) (Is : A → Term → Type 0) (item : A → T
   each_within [] (term t ts) n each le deep = absurd each
   each_within (v ∷ vs) no_terms n each le deep = absurd each
 
+  each_few : (vs : List A) (ts : Terms) (n : ℕ) → Each One vs ts → terms_most ts ≤ n → terms_most (terms_of (items vs)) ≤ n + 16
+  each_few [] no_terms n each le = omega arith
+  each_few (v ∷ vs) (term t ts) n each le =
+      let first : most (item v) ≤ n + 16 = each.0.few n (omega (arith, le)) in
+      let rest : terms_most (terms_of (items vs)) ≤ n + 16 = each_few vs ts n each.1 (omega (arith, le)) in
+      omega (arith, first, rest)
+  each_few [] (term t ts) n each le = absurd each
+  each_few (v ∷ vs) no_terms n each le = absurd each
+
+  each_count : (vs : List A) (ts : Terms) → Each One vs ts → count (terms_of (items vs)) ≡ count ts
+  each_count [] no_terms each = refl
+  each_count (v ∷ vs) (term t ts) each = ap (λ (n : ℕ). n + 1) (each_count vs ts each.1)
+  each_count [] (term t ts) each = absurd each
+  each_count (v ∷ vs) no_terms each = absurd each
+
   -- an array of values
   pub array_told : (vs : List A) (ts : Terms) → (vs ≢ []) → Each (λ (v : A) (t : Term). Told (one form) Is item least v t) vs ts
       → Told (one_or_more form) (OneOrMore Is) (λ us. row_item (map_list item us)) (next least) vs (array ts)
@@ -75,6 +91,7 @@ module _ {A : Type 0} (form : Form) (Is : A → Term → Type 0) (item : A → T
     again = alone Is v (item v) (plain v) each.0.again;
     proper = λ p. each.0.proper p.0;
     within = λ n le deep. each.0.within n (next_more least n le) (omega (arith, deep));
+    few = λ n le. each.0.few n (omega (arith, le));
   }
   array_told (v ∷ w ∷ vs) (term t ts) some each = record {
     none = each_none (v ∷ w ∷ vs) (term t ts) 0 each;
@@ -83,6 +100,10 @@ module _ {A : Type 0} (form : Form) (Is : A → Term → Type 0) (item : A → T
     within = λ n le deep.
         let l : terms_depth (terms_of (items (v ∷ w ∷ vs))) ≤ n - 1 = each_within (v ∷ w ∷ vs) (term t ts) (n - 1) each (next_less least n le) (omega (arith, deep)) in
         omega (arith, l, deep);
+    few = λ n le.
+        let c : count (terms_of (items (v ∷ w ∷ vs))) ≡ count (term t ts) = each_count (v ∷ w ∷ vs) (term t ts) each in
+        let l : terms_most (terms_of (items (v ∷ w ∷ vs))) ≤ n + 16 = each_few (v ∷ w ∷ vs) (term t ts) n each (omega (arith, le)) in
+        omega (arith, c, l, le);
   }
   array_told (v ∷ []) no_terms some each = absurd each
   array_told (v ∷ []) (term t (term u ts)) some each = absurd each.1
@@ -96,6 +117,7 @@ module _ {A : Type 0} (form : Form) (Is : A → Term → Type 0) (item : A → T
     again = alone Is v (item v) (plain v) told.again;
     proper = λ p. told.proper p;
     within = λ n le deep. told.within n le deep;
+    few = λ n le. told.few n le;
   }
 
 module _ {A : Type 0} (form : Form) (Is : A → Term → Type 0) (item : A → Term) (least : ℕ) (law : Lawful (one form) Is item least) (plain : (v : A) → IsAlone (item v)) where
@@ -112,7 +134,7 @@ module _ {A : Type 0} (form : Form) (Is : A → Term → Type 0) (item : A → T
       → Told (one_or_more form) (OneOrMore Is) (λ us. row_item (items_of us)) (next least) (v ∷ []) t
   lone v t alike is =
       let told = one_told form Is item least plain v t alike (law.told v t is) in
-      record { none = told.none; again = told.again; proper = told.proper; within = λ n le deep. told.within n (next_more least n le) deep }
+      record { none = told.none; again = told.again; proper = told.proper; within = λ n le deep. told.within n (next_more least n le) deep; few = told.few }
 
   each_same : (vs ws : List A) (ts : Terms) → Each Is vs ts → Each Is ws ts → vs ≡ ws
   each_same [] [] no_terms first second = refl

@@ -1,5 +1,5 @@
 -- A map by its table: what is known of each line, and what follows for the map that is written.
-use Rattle.std.proofs.Common.{◌≡◌, ◌≤◌, ◌<◌, ◌==◌, ◌^◌, ◌+◌, ◌⊎◌, ◌&&◌, ℕ, max, Bool, true, false, nat_le, nat_lt, List, [], ◌∷◌, Option, Some, None, if◌then◌else◌, refl, sym, ap, ◌∙◌, subst, arith, inl, inr}
+use Rattle.std.proofs.Common.{◌≡◌, ◌≤◌, ◌<◌, ◌==◌, ◌^◌, ◌+◌, ◌&&◌, ℕ, max, Bool, true, false, nat_le, nat_lt, List, [], ◌∷◌, length, Option, Some, None, if◌then◌else◌, refl, sym, ap, ◌∙◌, subst, arith, inl, inr}
 use Rattle.std.proofs.lemmas.Bool.{and_parts, leb-true, ltb-true, eqb-true, ne_eqb}
 use Rattle.std.specs.Option.{option_map}
 use Rattle.std.specs.Prelude.{IfSome}
@@ -8,7 +8,8 @@ use Rattle.cbor_det.specs.Adding.{put}
 use Rattle.cbor_det.specs.Lookup.{is_unsigned, value_under, is_one_of, other_than}
 use Rattle.cbor_det.specs.Proper.{IsProper, ArePairsProper, IsProperMap}
 use Rattle.cbor_det.specs.Spelling.{IsBelow, Rises}
-use Rattle.cbor_det.specs.Term.{Term, Pairs, integer, octets, text, array, map, tagged, boolean, no_pairs, pair, depth, pairs_depth}
+use Rattle.cbor_det.specs.Term.{Term, Pairs, integer, octets, text, array, map, tagged, boolean, no_pairs, pair, pair_count, depth, pairs_depth}
+use Rattle.cbor_det.proofs.Counts.{most, pairs_most}
 use Rattle.cbor_det.proofs.Order.{key_cmp, below_trans}
 use Rattle.coswid_res.specs.declared.fault.FormFault.{FormFault}
 use Rattle.coswid_res.specs.Fault.{or_else, under, absent, missing}
@@ -17,8 +18,9 @@ use Rattle.coswid_res.specs.Reading.{value_fault, line_fault, lines_fault, keys_
 use Rattle.coswid_res.specs.Schema.{Name, tag, entity, link, software_meta, payload, evidence, directory, path_elements, file, process, resource, table, Line, Field, required, optional, key_of, keys_of, required_keys}
 use Rattle.coswid_res.specs.Words.{Agree, Required, Optional}
 use Rattle.coswid_res.proofs.Maps.{or_none}
-use Rattle.coswid_codec.proofs.Fields.{number, under_other, under_this, others_put, others_again, others_none, put_proper, put_within}
+use Rattle.coswid_codec.proofs.Fields.{number, found_by, under_other, under_this, others_put, others_again, others_none, put_proper, put_within}
 use Rattle.coswid_codec.proofs.Lawful.{Told, Lawful}
+use Rattle.coswid_codec.proofs.Lengths.{under_most, others_count, others_most, put_count, put_most}
 
 -- A field: how it is put, and what stands under its key then.
 abbrev pub Entry : Type 0
@@ -44,6 +46,7 @@ pub record Fact (line : Line) (entry : Entry) (least : ℕ) (ps : Pairs) : Type 
   pub fills : (qs : Pairs) → entry.0 qs ≡ put_if (key_of line) entry.1 qs
   pub proper : ArePairsProper ps → IfSome entry.1 IsProper
   pub within : (n : ℕ) → least ≤ n → pairs_depth ps ≤ n → IfSome entry.1 (λ t. depth t ≤ n)
+  pub few : (n : ℕ) → pairs_most ps ≤ n → IfSome entry.1 (λ t. most t ≤ n + 16)
 
 abbrev pub Facts : ℕ → Pairs → List Line → List Entry → Type 0
 Facts least ps [] [] = Unit {0}
@@ -55,10 +58,6 @@ Facts least ps lines es = ⊥
 pub there : {A : Type 0} (Is : A → Term → Type 0) (v : A) (o : Option Term) → Agree Is (Some v) o → (t : Term) × (o ≡ Some t) × Is v t
 there Is v (Some t) is = (t, refl, is)
 there Is v None is = absurd is
-
-found_by : (b : Bool) (k : ℕ) (w t : Term) (o : Option Term) → (if b then Some w else o) ≡ Some t → (w ≡ t) ⊎ (o ≡ Some t)
-found_by true k w t o e = inl cc
-found_by false k w t o e = inr e
 
 pub under_proper : (k : ℕ) (ps : Pairs) (t : Term) → value_under k ps ≡ Some t → ArePairsProper ps → IsProper t
 under_proper k no_pairs t e proper = absurd cc
@@ -87,6 +86,7 @@ required_fact {field} {Is} {item} {most} least k v ps law le is =
       fills = λ qs. refl;
       proper = λ p. told.proper (under_proper k ps at.0 e p);
       within = λ n less deep. told.within n (omega (arith, le, less)) (under_within k ps at.0 n e deep);
+      few = λ n less. told.few n (under_most k ps at.0 n e less);
     }
 
 told_by : {A : Type 0} (field : Field) (Is : A → Term → Type 0) (item : A → Term) (most least k : ℕ) (x : Option A) (o : Option Term) (ps : Pairs) → most ≤ least → value_under k ps ≡ o
@@ -96,12 +96,14 @@ told_by field Is item most least k None None ps le e told = record {
   fills = λ qs. refl;
   proper = λ p. tt;
   within = λ n less deep. tt;
+  few = λ n less. tt;
 }
 told_by field Is item most least k (Some v) (Some t) ps le e told = record {
   none = ap (λ (o : Option Term). value_fault k field o) e ∙ ap (λ (o : Option FormFault). under k o) told.none;
   fills = λ qs. refl;
   proper = λ p. told.proper (under_proper k ps t e p);
   within = λ n less deep. told.within n (omega (arith, le, less)) (under_within k ps t n e deep);
+  few = λ n less. told.few n (under_most k ps t n e less);
 }
 told_by field Is item most least k None (Some t) ps le e told = absurd told
 told_by field Is item most least k (Some v) None ps le e told = absurd told
@@ -356,6 +358,51 @@ others_within ns (pair l w ps) n deep =
     let d : max (depth l) (max (depth w) (pairs_depth ps)) ≤ n = deep in
     others_within_by (is_one_of ns l) ns l w ps n deep (others_within ns ps n (omega (arith, d)))
 
+-- No part of it has many more.
+
+if_most : (n k : ℕ) (o : Option Term) (qs : Pairs) → IfSome o (λ t. most t ≤ n) → pairs_most qs ≤ n → pairs_most (put_if k o qs) ≤ n
+if_most n k None qs value le = le
+if_most n k (Some t) qs value le = put_most n (number k) t qs (omega arith) value le
+
+placed_most : (least : ℕ) (ps : Pairs) (n : ℕ) (lines : List Line) (es : List Entry) (qs : Pairs) → Facts least ps lines es → pairs_most ps ≤ n → pairs_most qs ≤ n + 16
+    → pairs_most (placed lines es qs) ≤ n + 16
+placed_most least ps n [] [] qs facts read le = le
+placed_most least ps n (line ∷ lines) (e ∷ es) qs facts read le =
+    placed_most least ps n lines es (put_if (key_of line) e.1 qs) facts.1 read (if_most (n + 16) (key_of line) e.1 qs (facts.0.few n read) le)
+placed_most least ps n [] (e ∷ es) qs facts read le = absurd facts
+placed_most least ps n (line ∷ lines) [] qs facts read le = absurd facts
+
+if_count : (k : ℕ) (o : Option Term) (qs : Pairs) → pair_count (put_if k o qs) ≤ pair_count qs + 1
+if_count k None qs = omega arith
+if_count k (Some t) qs = omega (arith, put_count (number k) t qs)
+
+placed_count : (lines : List Line) (es : List Entry) (qs : Pairs) → pair_count (placed lines es qs) ≤ pair_count qs + length lines
+placed_count [] es qs = omega arith
+placed_count (line ∷ lines) [] qs = omega arith
+placed_count (line ∷ lines) (e ∷ es) qs =
+    let l = placed_count lines es (put_if (key_of line) e.1 qs) in let m = if_count (key_of line) e.1 qs in omega (arith, l, m)
+
+table_short : (name : Name) → length (table name) ≤ 16
+table_short tag = omega arith
+table_short entity = omega arith
+table_short link = omega arith
+table_short software_meta = omega arith
+table_short payload = omega arith
+table_short evidence = omega arith
+table_short directory = omega arith
+table_short path_elements = omega arith
+table_short file = omega arith
+table_short process = omega arith
+table_short resource = omega arith
+
+placed_few : (least : ℕ) (ps : Pairs) (name : Name) (es : List Entry) (n : ℕ) → Facts least ps (table name) es → most (map ps) ≤ n → (qs : Pairs) → pair_count qs ≤ n → pairs_most qs ≤ n
+    → most (map (placed (table name) es qs)) ≤ n + 16
+placed_few least ps name es n facts read qs count le =
+    let d : max (pair_count ps) (pairs_most ps) ≤ n = read in
+    let l = placed_count (table name) es qs in
+    let m : pairs_most (placed (table name) es qs) ≤ n + 16 = placed_most least ps n (table name) es qs facts (omega (arith, d)) (omega (arith, le)) in
+    omega (arith, l, m, count, table_short name)
+
 -- what follows for the map that is written
 pub record Made (name : Name) (es : List Entry) (xs : Pairs) (least : ℕ) (ps : Pairs) : Type 0 where
   pub none : keys_fault name ps ≡ None
@@ -363,6 +410,7 @@ pub record Made (name : Name) (es : List Entry) (xs : Pairs) (least : ℕ) (ps :
   pub rest : xs ≡ other_than (keys_of (table name)) (put_all (fills es) xs)
   pub proper : IsProperMap ps → IsProperMap (put_all (fills es) xs)
   pub within : (n : ℕ) → least ≤ n → pairs_depth ps ≤ n → pairs_depth (put_all (fills es) xs) ≤ n
+  pub few : (n : ℕ) → most (map ps) ≤ n → most (map (put_all (fills es) xs)) ≤ n + 16
 
 pub made : (name : Name) (es : List Entry) (xs : Pairs) (least : ℕ) (ps : Pairs) → Facts least ps (table name) es → xs ≡ other_than (keys_of (table name)) ps → Made name es xs least ps
 made name es xs least ps facts is =
@@ -380,4 +428,10 @@ made name es xs least ps facts is =
       within = λ n le deep.
           let D : Pairs → Type 0 = λ qs. pairs_depth qs ≤ n in
           subst D (sym e) (placed_within least ps n (table name) es xs facts le deep (subst D (sym is) (others_within ns ps n deep)));
+      few = λ n read.
+          let d : max (pair_count ps) (pairs_most ps) ≤ n = read in
+          let D : Pairs → Type 0 = λ qs. most (map qs) ≤ n + 16 in
+          let Q : Pairs → Type 0 = λ qs. (pair_count qs ≤ n) × (pairs_most qs ≤ n) in
+          let others : Q xs = subst Q (sym is) (omega (arith, d, others_count ns ps), others_most ns ps n (omega (arith, d))) in
+          subst D (sym e) (placed_few least ps name es n facts read xs others.0 others.1);
     }

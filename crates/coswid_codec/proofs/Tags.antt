@@ -113,6 +113,7 @@ told g ps is =
       };
       proper = all.proper;
       within = λ n le deep. all.within n le deep;
+      few = all.few;
     }
 
 abbrev fields : Tag → Tag

@@ -1,11 +1,12 @@
 -- Items that are tags: what is read, what is written, and what is read again.
-use Rattle.std.proofs.Common.{◌≡◌, ◌≤◌, ◌<◌, ◌==◌, ◌+◌, ◌&&◌, ℕ, Bool, true, false, not, nat_le, List, [], Option, Some, None, is_some, if◌then◌else◌, refl, sym, ap, ◌∙◌, subst, arith}
+use Rattle.std.proofs.Common.{◌≡◌, ◌≤◌, ◌<◌, ◌==◌, ◌+◌, ◌^◌, ◌&&◌, ℕ, Bool, true, false, not, nat_le, List, [], length, take, Option, Some, None, is_some, if◌then◌else◌, refl, sym, ap, ◌∙◌, subst, arith, length-take}
 use Rattle.std.proofs.lemmas.Bool.{cond-false, leb-false}
 use Rattle.cbor_det.specs.Canonical.{canon}
 use Rattle.cbor_det.specs.Lookup.{value_under}
 use Rattle.cbor_det.specs.Proper.{IsProper}
 use Rattle.cbor_det.specs.Term.{Term, integer, octets, text, array, map, tagged, boolean, depth}
-use Rattle.cbor_det.proofs.Written.{spelled_proper, written_begins, canon_same}
+use Rattle.cbor_det.proofs.Counts.{most, spelled_most}
+use Rattle.cbor_det.proofs.Written.{few_same, spelled_proper, written_begins}
 use Rattle.coswid_res.specs.Fault.{field_fault, fault}
 use Rattle.coswid_res.specs.Schema.{one, a_map}
 use Rattle.coswid_res.specs.Schema as schema
@@ -15,8 +16,8 @@ use Rattle.coswid_tag.specs.declared.tag.Tag.{Tag}
 use Rattle.coswid_codec.specs.Answers.{limits, BeginsTag}
 use Rattle.coswid_codec.specs.Forms.{TagKeys, TagForm}
 use Rattle.coswid_codec.specs.Items.{tag_pairs, tag_item}
-use Rattle.coswid_codec.specs.HasItem.{IsItemOf}
-use Rattle.coswid_codec.specs.Laws.{NoFaultOrNoTag, OneTag, HasItemAsWritten, ReadHasItem, WrittenIsRead, ReadIsWritten, OneTagOneSpelling}
+use Rattle.coswid_codec.specs.HasItem.{IsItemOf, HasItem}
+use Rattle.coswid_codec.specs.Laws.{NoFaultOrNoTag, OneTag, HasItemWhereSome, ReadHasItem, WrittenIsRead, ReadIsWritten, OneTagOneSpelling}
 use Rattle.coswid_codec.specs.Marked.{coswid, content, has_both, is_deep}
 use Rattle.coswid_codec.specs.TagFault.{tag_fault}
 use Rattle.coswid_codec.proofs.Lawful.{Lawful}
@@ -105,39 +106,59 @@ written_form g t form =
     let again = (law.told g (content t) form.keys).again in
     record { keys = again; one_of_them = both_of g (map (tag_pairs g)) again ∙ sym (both_of g (content t) form.keys) ∙ form.one_of_them; shallow = refl }
 
-written_item : (g : Tag) (t : Term) → IsItemOf g t → IsItemOf g (tag_item g)
+written_item : (g : Tag) (t : Term) → IsItemOf g t → HasItem g
 written_item g t is = record {
   proper = written_proper g t is.proper is.form;
   shallow = written_depth g t is.shallow is.form;
   form = written_form g t is.form;
 }
 
-pub has_item_as_written : HasItemAsWritten
-has_item_as_written g = (λ found. written_item g found.0 found.1, λ is. (tag_item g, is))
+pub has_item_where_some : HasItemWhereSome
+has_item_where_some g = (λ found. written_item g found.0 found.1, λ is. (tag_item g, is))
 
 pub read_has_item : ReadHasItem
-read_has_item g n input is = (is.item, record { proper = spelled_proper is.item _ is.begins.spelled; shallow = is.begins.shallow; form = is.form })
+read_has_item g n input is = written_item g is.item (record { proper = spelled_proper is.item _ is.begins.spelled; shallow = is.begins.shallow; form = is.form })
 
 pub written_is_read : WrittenIsRead
-written_is_read g tail found room =
-    let is : IsItemOf g (tag_item g) = written_item g found.0 found.1 in
-    record {
-      item = tag_item g;
-      begins = written_begins limits (tag_item g) tail is.proper (omega (arith, room)) room is.shallow;
-      form = is.form;
-    }
+written_is_read g tail is room = record {
+  item = tag_item g;
+  begins = written_begins limits (tag_item g) tail is.proper (omega (arith, room)) room is.shallow;
+  form = is.form;
+}
 
 pub read_is_written : ReadIsWritten
 read_is_written g n input tail is room = written_is_read g tail (read_has_item g n input is) room
 
-read_proper : (g : Tag) (n : ℕ) (input : List ℕ) → BeginsTag input g n → IsProper (tag_item g)
-read_proper g n input is = let found = read_has_item g n input is in (written_item g found.0 found.1).proper
+-- No part of what is written has 2 ^ 64 octets, elements or pairs.
+
+content_by : (b : Bool) (n : ℕ) (t : Term) → most (if b then t else tagged n t) ≤ most t
+content_by true n t = omega arith
+content_by false n t = omega arith
+
+content_most : (t : Term) → most (content t) ≤ most t
+content_most (tagged n t) = content_by (n == coswid) n t
+content_most (integer z) = omega arith
+content_most (octets s) = omega arith
+content_most (text s) = omega arith
+content_most (array ts) = omega arith
+content_most (map ps) = omega arith
+content_most (boolean b) = omega arith
+
+written_few : (g : Tag) (n : ℕ) (input : List ℕ) → BeginsTag input g n → most (tag_item g) < 2 ^ 64
+written_few g n input is =
+    let read : most is.item ≤ length (take n input) = spelled_most is.item (take n input) is.begins.spelled in
+    let short : n ≤ 8388608 = is.begins.short in
+    let all : most (map (tag_pairs g)) ≤ 8388608 + 16 =
+    (law.told g (content is.item) is.form.keys).few 8388608 (omega (arith, content_most is.item, read, short, length-take n input)) in
+    omega (arith, all)
 
 pub one_tag_one_spelling : OneTagOneSpelling
-one_tag_one_spelling g h n m input other first second small = (
+one_tag_one_spelling g h n m input other first second = (
   (λ e.
-      let one : tag_item g ≡ tag_item h = canon_same (tag_item g) (tag_item h) (read_proper g n input first) (read_proper h m other second) small e in
+      let item : HasItem g = read_has_item g n input first in
+      let another : HasItem h = read_has_item h m other second in
+      let one : tag_item g ≡ tag_item h = few_same (tag_item g) (tag_item h) item.proper another.proper (written_few g n input first) (written_few h m other second) e in
       let P : Term → Type 0 = λ t. TagForm h t in
-      one_tag g h (tag_item g) (written_form g first.item first.form) (subst P (sym one) (written_form h second.item second.form))),
+      one_tag g h (tag_item g) item.form (subst P (sym one) another.form)),
   (λ same. ap (λ (k : Tag). canon (tag_item k)) same),
 )

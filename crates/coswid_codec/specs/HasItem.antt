@@ -1,10 +1,13 @@
--- Which tags have an item: RFC 9393, section 2. A value that was made by hand need not have one: an empty list, a payload
--- beside evidence, or a key of the table among the extras has no place in an item.
+-- Which tags have an item: RFC 9393, section 2. A value that was made by hand need not have one. These have none: a value with an empty
+-- list of what is one or more; with a payload beside evidence; with extras, of any of its maps, in which a key of that map's table
+-- stands; with extras in which one key stands twice, on whatever level; with a size of a file above 2^63 - 1; and one whose item would
+-- be deeper than 64.
 use Rattle.std.specs.Prelude.{◌≤◌}
 use Rattle.cbor_det.specs.Proper.{IsProper}
 use Rattle.cbor_det.specs.Term.{Term, depth}
 use Rattle.coswid_tag.specs.declared.tag.Tag.{Tag}
 use Rattle.coswid_codec.specs.Forms.{TagForm}
+use Rattle.coswid_codec.specs.Items.{tag_item}
 
 -- The item may be spelled, is no deeper than what is looked at, and the tag may be read from it.
 pub record IsItemOf (g : Tag) (t : Term) : Type 0 where
@@ -12,5 +15,6 @@ pub record IsItemOf (g : Tag) (t : Term) : Type 0 where
   pub shallow : depth t ≤ 64
   pub form : TagForm g t
 
+-- What the tag is written as is an item of it.
 abbrev pub HasItem : Tag → Type 0
-HasItem g = (t : Term) × IsItemOf g t
+HasItem g = IsItemOf g (tag_item g)

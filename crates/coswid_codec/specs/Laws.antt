@@ -1,5 +1,6 @@
 -- Laws of tags, and of payload and evidence by themselves: what is read, what is wrong, and what is written.
-use Rattle.std.specs.Prelude.{◌≡◌, ◌<◌, ◌≤◌, ◌↔◌, ℕ, ◌^◌, max, List, ◌++◌, length, None}
+use Rattle.std.specs.Prelude.{◌≡◌, ◌≢◌, ◌≤◌, ◌⊎◌, ◌↔◌, ℕ, max, List, ◌++◌, length, None}
+use Rattle.wire_base.specs.Layout.{AreOctets}
 use Rattle.cbor_det.specs.Canonical.{canon}
 use Rattle.cbor_det.specs.Proper.{IsProper}
 use Rattle.cbor_det.specs.Term.{Term, depth}
@@ -8,7 +9,9 @@ use Rattle.coswid_res.specs.ResourceItems.{payload_item, evidence_item}
 use Rattle.coswid_res.specs.Resources.{PayloadMap, EvidenceMap}
 use Rattle.coswid_res.specs.Schema.{Field, one, a_map, payload, evidence}
 use Rattle.coswid_tag.specs.declared.tag.Tag.{Tag}
-use Rattle.coswid_codec.specs.Answers.{limits, BeginsTag}
+use Rattle.coswid_codec.specs.declared.read.TagRefused.{TagRefused}
+use Rattle.coswid_codec.specs.declared.read.TagRefused.TheVariants as refused
+use Rattle.coswid_codec.specs.Answers.{limits, BeginsTag, IsRefusal}
 use Rattle.coswid_codec.specs.Forms.{TagForm}
 use Rattle.coswid_codec.specs.HasItem.{IsItemOf, HasItem}
 use Rattle.coswid_codec.specs.Items.{tag_item}
@@ -22,9 +25,9 @@ NoFaultOrNoTag = (t : Term) → (tag_fault t ≡ None) ↔ ((g : Tag) × TagForm
 abbrev pub OneTag : Type 0
 OneTag = (g h : Tag) (t : Term) → TagForm g t → TagForm h t → g ≡ h
 
--- A tag has an item exactly where what it is written as is one.
-abbrev pub HasItemAsWritten : Type 0
-HasItemAsWritten = (g : Tag) → HasItem g ↔ IsItemOf g (tag_item g)
+-- Some item is one of a tag exactly where what the tag is written as is one.
+abbrev pub HasItemWhereSome : Type 0
+HasItemWhereSome = (g : Tag) → ((t : Term) × IsItemOf g t) ↔ HasItem g
 
 -- What is read has an item.
 abbrev pub ReadHasItem : Type 0
@@ -45,8 +48,26 @@ ReadIsWritten =
 -- Two inputs are read as one tag exactly where what is read of them is written as the same octets.
 abbrev pub OneTagOneSpelling : Type 0
 OneTagOneSpelling =
-    (g h : Tag) (n m : ℕ) (input other : List ℕ) → BeginsTag input g n → BeginsTag other h m → length (canon (tag_item g)) < 2 ^ 64
-    → (canon (tag_item g) ≡ canon (tag_item h)) ↔ (g ≡ h)
+    (g h : Tag) (n m : ℕ) (input other : List ℕ) → BeginsTag input g n → BeginsTag other h m → (canon (tag_item g) ≡ canon (tag_item h)) ↔ (g ≡ h)
+
+-- Octets begin with one tag at most, of so many octets.
+abbrev pub BeginsOneTag : Type 0
+BeginsOneTag = (input : List ℕ) (g h : Tag) (n m : ℕ) → BeginsTag input g n → BeginsTag input h m → (g ≡ h) × (n ≡ m)
+
+-- Octets have a fault, of CBOR or of form. Want of memory is none.
+abbrev pub HasFault : List ℕ → TagRefused → Type 0
+HasFault input why = (why ≢ refused.Memory) × IsRefusal input why
+
+-- They have one fault at most, and none where they begin with a tag.
+abbrev pub HasOneFault : Type 0
+HasOneFault = (input : List ℕ) (why other : TagRefused) → HasFault input why → HasFault input other → why ≡ other
+
+abbrev pub NotBoth : Type 0
+NotBoth = (input : List ℕ) (g : Tag) (n : ℕ) (why : TagRefused) → BeginsTag input g n → ¬ HasFault input why
+
+-- And one of both is there.
+abbrev pub TagOrFault : Type 0
+TagOrFault = (input : List ℕ) → AreOctets input → ((g : Tag) × (n : ℕ) × BeginsTag input g n) ⊎ ((why : TagRefused) × HasFault input why)
 
 -- What holds of the values of a form: some value is read exactly where there is no fault, from one item one value is read, and from the
 -- item that it is written as it is read again. That is proper where what was read is, and no deeper than that or so many levels.

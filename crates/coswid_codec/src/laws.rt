@@ -1,6 +1,6 @@
 //! Laws of tags, and of payload and evidence by themselves. The functions do nothing: their contracts are the laws.
 
-ghost use Rattle.coswid_codec.specs.Laws.{NoFaultOrNoTag, OneTag, HasItemAsWritten, ReadHasItem, WrittenIsRead, ReadIsWritten, OneTagOneSpelling, PayloadLaw, EvidenceLaw};
+ghost use Rattle.coswid_codec.specs.Laws.{NoFaultOrNoTag, OneTag, HasItemWhereSome, ReadHasItem, WrittenIsRead, ReadIsWritten, OneTagOneSpelling, BeginsOneTag, HasOneFault, NotBoth, TagOrFault, PayloadLaw, EvidenceLaw};
 
 /// An item has no form fault exactly where some tag is read from it.
 pub fn no_fault_where_some_tag()
@@ -12,9 +12,9 @@ pub fn item_is_one_tag()
     ensures one { OneTag }
 {}
 
-/// A tag has an item exactly where what it is written as is one.
-pub fn has_item_as_written()
-    ensures item { HasItemAsWritten }
+/// Some item is one of a tag exactly where what the tag is written as is one.
+pub fn has_item_where_some()
+    ensures item { HasItemWhereSome }
 {}
 
 /// What is read has an item.
@@ -35,6 +35,14 @@ pub fn read_is_written()
 /// Two spellings are read as one tag exactly where their canonical octets are equal.
 pub fn one_tag_has_one_spelling()
     ensures one { OneTagOneSpelling }
+{}
+
+/// Octets begin with one tag, of so many octets, or have one fault, of CBOR or of form, and not both.
+pub fn octets_have_one_answer()
+    ensures tag { BeginsOneTag }
+    ensures fault { HasOneFault }
+    ensures both { NotBoth }
+    ensures some { TagOrFault }
 {}
 
 /// An item has no form fault exactly where some payload is read from it; it is read as one payload at most, which is written and

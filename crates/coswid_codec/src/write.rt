@@ -18,8 +18,8 @@ pub(crate) const COSWID: u64 = 1398229316;
 
 /// The canonical spelling of the tag's item, under the tag of CoSWID tags; `Memory` where there is no room, and where the size of a
 /// file is above 2^63 - 1, since no item holds it. What has an item is read from that spelling (`written_is_read` of `laws`). A value
-/// that was made by hand and has none, as one with an empty list, with both a payload and evidence, or with a listed key among its
-/// extras, is written all the same, and is never what is read from that.
+/// that was made by hand and has none is written all the same, and is never what is read from that: one with an empty list, with both
+/// a payload and evidence, or with extras in which a key of the map's table stands, or one key twice.
 pub fn write_tag(alloc: Global, tag: &Tag) -> Result<Octets, Memory>
     requires depth { depth (tag_item tag.now) ≤ 64 }
     ensures canonical { IfOk result (λ written. written ≡ canon (tag_item tag.now)) }

@@ -14,7 +14,7 @@ use Rattle.coswid_res.specs.Schema.{Name, tag, entity, link, software_meta, payl
 use Rattle.coswid_res.specs.Fault.{or_else, under, absent, missing, look_up, field_fault, pairs_fault}
 use Rattle.coswid_res.specs.Reading.{value_fault, lines_fault, LineByLine}
 use Rattle.coswid_res.proofs.Keys.{numbers_in_order}
-use Rattle.coswid_res.proofs.Maps.{behind, or_none}
+use Rattle.coswid_res.proofs.Maps.{behind, or_none, map_told}
 
 -- the first fault of what stands under the keys, missing keys left out
 abbrev pub values_fault : List Line → Pairs → Option FormFault
@@ -191,3 +191,4 @@ pub line_by_line : LineByLine
 line_by_line name ps rise =
     behind (missing (required_keys (table name)) ps) (pairs_fault (table name) ps) (lines_fault (table name) ps)
     (λ none. pair_by_pair (table name) ps (table_rises name) rise ∙ sym (filled (table name) ps none))
+    ∙ sym (map_told name ps)

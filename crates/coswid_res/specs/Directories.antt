@@ -22,24 +22,29 @@ pub record PathKeys (p : PathElements-F DirEntry PathElements) (ps : Pairs) : Ty
   pub file : Optional 17 (OneOrMore FileMap) p.file ps
   pub extras : Rest schema.path_elements p.extras ps
 
+-- Each level has the lines above and one more, under whose key the next level stands.
 mutual
+  -- The lines of a directory, and 'optional 26, path-elements: what it holds'.
   pub data DirectoryPairs : DirEntry → Pairs → Type 0 where
     directory : (d : DirEntry) (ps : Pairs) → DirectoryKeys (out-DirEntry d) ps → PathUnder (out-DirEntry d).path_elements (value_under 26 ps) → DirectoryPairs d ps
 
-  -- what stands under key 26
+  -- what stands under key 26, which is optional: neither a value nor an item, or one map of what the directory holds
   pub data PathUnder : Option PathElements → Option Term → Type 0 where
     no_path : PathUnder None None
     path : (p : PathElements) (ps : Pairs) → PathPairs p ps → PathUnder (Some p) (Some (map ps))
 
+  -- The lines of what a directory holds, and 'optional 16, directory: one or more directories'.
   pub data PathPairs : PathElements → Pairs → Type 0 where
     path_elements : (p : PathElements) (ps : Pairs) → PathKeys (out-PathElements p) ps → DirectoriesUnder (out-PathElements p).directory (value_under 16 ps) → PathPairs p ps
 
-  -- what stands under key 16: one directory, or an array that is not empty
+  -- what stands under key 16, which is optional: neither a value nor an item, or one or more directories, one alone as a map (`alone`)
+  -- or an array of maps that is not empty (`several`)
   pub data DirectoriesUnder : Option (List DirEntry) → Option Term → Type 0 where
     no_directories : DirectoriesUnder None None
     alone : (d : DirEntry) (ps : Pairs) → DirectoryPairs d ps → DirectoriesUnder (Some (d ∷ [])) (Some (map ps))
     several : (ds : List DirEntry) (ts : Terms) → ds ≢ [] → EachDirectory ds ts → DirectoriesUnder (Some ds) (Some (array ts))
 
+  -- each directory with the map at its place in that array
   pub data EachDirectory : List DirEntry → Terms → Type 0 where
     no_more : EachDirectory [] no_terms
     one_more : (d : DirEntry) (ds : List DirEntry) (ps : Pairs) (ts : Terms) → DirectoryPairs d ps → EachDirectory ds ts → EachDirectory (d ∷ ds) (term (map ps) ts)

@@ -1,12 +1,12 @@
 -- What a reader of a value, and of the pairs of a map, promises: line by line of a table.
 use Rattle.std.specs.Prelude.{◌≡◌, ℕ, List, [], ◌∷◌, Option, Some, None, Result, Ok, Err}
-use Rattle.cbor_det.specs.Term.{Term, Pairs}
+use Rattle.cbor_det.specs.Term.{Term, Pairs, map}
 use Rattle.cbor_det.specs.Lookup.{value_under}
 use Rattle.cbor_det.specs.Spelling.{Rises}
 use Rattle.coswid_res.specs.declared.fault.FormFault.{FormFault}
 use Rattle.coswid_res.specs.declared.fault.FormRefused.{FormRefused}
 use Rattle.coswid_res.specs.declared.fault.FormRefused.TheVariants as refused
-use Rattle.coswid_res.specs.Schema.{Name, Field, Line, table, required, optional, required_keys}
+use Rattle.coswid_res.specs.Schema.{Name, Field, Line, one, a_map, table, required, optional, required_keys}
 use Rattle.coswid_res.specs.Fault.{or_else, absent, missing, under, field_fault, pairs_fault}
 
 -- A refusal tells this fault, unless memory ran out.
@@ -36,8 +36,8 @@ lines_fault (line ∷ lines) ps = or_else (line_fault line ps) (lines_fault line
 abbrev pub keys_fault : Name → Pairs → Option FormFault
 keys_fault name ps = or_else (missing (required_keys (table name)) ps) (lines_fault (table name) ps)
 
--- Line by line and pair by pair the first fault is the same.
+-- The first fault of a map, where its pairs stand in key order, is that of its missing keys, and then that of its pairs as they stand.
 abbrev pub LineByLine : Type 0
 LineByLine =
     (name : Name) (ps : Pairs) → Rises ps
-    → or_else (missing (required_keys (table name)) ps) (pairs_fault (table name) ps) ≡ keys_fault name ps
+    → or_else (missing (required_keys (table name)) ps) (pairs_fault (table name) ps) ≡ field_fault (one (a_map name)) (map ps)

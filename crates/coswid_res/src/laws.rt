@@ -3,7 +3,7 @@
 ghost use Rattle.coswid_res.specs.Reading.{LineByLine};
 ghost use Rattle.coswid_res.specs.Verify.{ToldVerdicts};
 
-/// Where the pairs of a map stand in key order, its first fault is told line by line of its table as it is told pair by pair.
+/// Where the pairs of a map stand in key order, its first fault is that of a missing key, and then that of the pairs as they stand.
 pub fn faults_are_told_line_by_line()
     ensures same { LineByLine }
 {}

@@ -25,12 +25,12 @@ pub struct ListedFile {
     pub hash: Option<HashEntry>,
 }
 
-/// How many octets all paths of a payload may take together.
+/// How many octets all paths of a payload may take together, those of its directories too.
 const PATH_ROOM: usize = 67_108_864;
 
 /// All files of a payload, files before directories, depth first. `Memory` where there is no room for them, or where the
-/// paths would take more than 67108864 octets: the name of a directory stands in the path of each file in it, so the
-/// paths can be far longer than the payload.
+/// paths of all files and directories together would take more than 67108864 octets: the name of a directory stands in the
+/// path of each file in it, so the paths can be far longer than the payload.
 pub fn listed_files(alloc: Global, payload: &Payload) -> Result<List<ListedFile>, Memory>
     ensures listed { IfOk result (λ files. files ≡ listed payload.now) }
 {
