@@ -14,30 +14,13 @@ COUNT tags, and the shapes are
     apart     one identity with another content in each tag
 """
 
+import os
 import sys
 
+sys.dont_write_bytecode = True
+sys.path.insert(0, os.path.join(os.path.dirname(os.path.abspath(__file__)), os.pardir, "examples"))
 
-def head(major, argument):
-    """The shortest head of an argument below 65536."""
-    if argument < 24:
-        return bytes([major << 5 | argument])
-    if argument < 256:
-        return bytes([major << 5 | 24, argument])
-    return bytes([major << 5 | 25]) + argument.to_bytes(2, "big")
-
-
-def item(value):
-    """The canonical spelling of an item; maps are told in key order."""
-    if isinstance(value, bool):
-        return b"\xf5" if value else b"\xf4"
-    if isinstance(value, int):
-        return head(0, value)
-    if isinstance(value, str):
-        octets = value.encode()
-        return head(3, len(octets)) + octets
-    if isinstance(value, list):
-        return head(4, len(value)) + b"".join(map(item, value))
-    return head(5, len(value)) + b"".join(item(key) + item(under) for key, under in value.items())
+from cbor import spelled
 
 
 def tag(tag_id, links=(), patch=False, name="software"):
@@ -48,7 +31,7 @@ def tag(tag_id, links=(), patch=False, name="software"):
     if patch:
         told[9] = True
     told[12] = 0
-    return item(told)
+    return spelled(told)
 
 
 def scattered(index, count):

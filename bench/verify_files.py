@@ -7,23 +7,14 @@ COUNT files of SIZE octets in FOLDER, which is made, and a tag with their names,
 """
 
 import hashlib
+import os
 import pathlib
 import sys
 
+sys.dont_write_bytecode = True
+sys.path.insert(0, os.path.join(os.path.dirname(os.path.abspath(__file__)), os.pardir, "examples"))
 
-def head(major, argument):
-    """The shortest head of an argument below 2 ** 32."""
-    for information, width in ((24, 1), (25, 2), (26, 4)):
-        if argument < 24:
-            return bytes([major << 5 | argument])
-        if argument < 1 << 8 * width:
-            return bytes([major << 5 | information]) + argument.to_bytes(width, "big")
-    raise ValueError(argument)
-
-
-def text(value):
-    """A text."""
-    return head(3, len(value)) + value.encode()
+from cbor import spelled
 
 
 def octets_of(index, size):
@@ -34,9 +25,7 @@ def octets_of(index, size):
 
 def file_entry(name, content):
     """The entry of a file: 7 hash (1 for SHA-256), 20 size, 24 fs-name."""
-    digest = hashlib.sha256(content).digest()
-    return (head(5, 3) + head(0, 7) + head(4, 2) + head(0, 1) + head(2, 32) + digest
-            + head(0, 20) + head(0, len(content)) + head(0, 24) + text(name))
+    return {7: [1, hashlib.sha256(content).digest()], 20: len(content), 24: name}
 
 
 def main():
@@ -49,10 +38,8 @@ def main():
         (folder / name).write_bytes(content)
         entries.append(file_entry(name, content))
     # 0 tag-id, 1 software-name, 2 entity, 6 payload, 12 tag-version, 13 software-version
-    entity = head(5, 2) + head(0, 31) + text("maker") + head(0, 33) + head(0, 1)
-    payload = head(5, 1) + head(0, 17) + head(4, count) + b"".join(entries)
-    tag.write_bytes(head(5, 6) + head(0, 0) + text("files") + head(0, 1) + text("files") + head(0, 2) + entity
-                    + head(0, 6) + payload + head(0, 12) + head(0, 0) + head(0, 13) + text("1"))
+    told = {0: "files", 1: "files", 2: {31: "maker", 33: 1}, 6: {17: entries}, 12: 0, 13: "1"}
+    tag.write_bytes(spelled(told))
 
 
 main()

@@ -9,6 +9,7 @@ pub mod FirstLaws
 pub mod Answered
 pub mod Telling
 pub mod TagTelling
+pub mod TagReading
 pub mod Reading
 pub mod LinksTelling
 pub mod OneText

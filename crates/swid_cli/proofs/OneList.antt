@@ -1,37 +1,34 @@
 -- Octets are one list of tags, so `links` prints one text of them.
-use Rattle.std.proofs.Common.{◌≡◌, ◌≢◌, ℕ, zero, suc, ◌+◌, ◌<◌, ◌≤◌, ◌⊎◌, inl, inr, Bool, true, false, List, [], ◌∷◌, ◌++◌, length, take, drop, Option, Some, None, refl, sym, ap, subst, ◌∙◌, arith, length-append}
+use Rattle.std.proofs.Common.{◌≡◌, ◌≢◌, ℕ, zero, suc, ◌+◌, ◌<◌, ◌≤◌, inl, inr, Bool, List, [], ◌∷◌, ◌++◌, length, take, drop, Option, Some, None, refl, sym, ap, subst, ◌∙◌, arith, length-append}
 use Rattle.std.proofs.lemmas.Bool.{cases_lt}
 use Rattle.std.proofs.lemmas.List.{take-append-drop}
 use Rattle.std.specs.Prelude.{◌&&◌, if◌then◌else◌, nat_lt}
 use Rattle.wire_base.specs.Layout.{AreOctets}
 use Rattle.wire_base.proofs.Spelled.{AreOctets-rest, AreOctets-take}
-use Rattle.cbor_det.specs.Answers.{IsRefusal}
 use Rattle.cbor_det.specs.Faults.{Begins}
 use Rattle.cbor_det.specs.Laws.{SomeOutcome}
 use Rattle.cbor_det.specs.Term.{Term}
-use Rattle.cbor_det.specs.declared.fault.CborFault.{CborFault}
-use Rattle.cbor_det.specs.declared.fault.CborRefused.TheVariants as refused
 use Rattle.cbor_det.proofs.Outcome.{Same, item_runs}
 use Rattle.cbor_det.proofs.Outcomes.{some_outcome}
 use Rattle.cbor_det.specs.Machine.{State, due, whole}
 use Rattle.cbor_det.specs.Faults.{top}
 use Rattle.coswid_res.specs.declared.fault.FormFault.{FormFault}
 use Rattle.coswid_tag.specs.declared.tag.Tag.{Tag}
-use Rattle.coswid_codec.specs.Answers.{limits, BeginsTag, BeginsFaulty}
+use Rattle.coswid_codec.specs.Answers.{limits, BeginsTag}
 use Rattle.coswid_codec.specs.TagFault.{tag_fault}
-use Rattle.coswid_codec.proofs.Whole.{no_fault_or_no_tag, one_tag}
+use Rattle.coswid_codec.proofs.Outcomes.{begins_one_tag, fault_same, form_same, item_not_refused, tag_not_faulty}
+use Rattle.coswid_codec.proofs.Whole.{no_fault_or_no_tag}
 use Rattle.swid_cli.specs.declared.answer.Answer.{Answer}
 use Rattle.swid_cli.specs.declared.step.Ending.{Ending}
 use Rattle.swid_cli.specs.declared.tag_list.Behind.{Behind}
 use Rattle.swid_cli.specs.declared.tag_list.Behind.TheVariants as behind
 use Rattle.swid_cli.specs.declared.tag_list.TagList.{TagList}
 use Rattle.swid_cli.specs.Answer.{limit_answer, refusal_answer}
-use Rattle.swid_cli.specs.Links.{LIST_OCTETS, LinksTells, answer_behind, at_tag, is_cut, list_answer}
+use Rattle.swid_cli.specs.Links.{LIST_OCTETS, answer_behind, at_tag, is_cut, list_answer}
 use Rattle.swid_cli.specs.LinksLaws.{OneLinksText, SomeLinksText}
 use Rattle.swid_cli.specs.TagList.{BeginsTags, IsTagList, LIST_TAGS, StandsBehind, no_tags, one_more}
 use Rattle.swid_cli.specs.Tagging.{form_line}
 use Rattle.swid_cli.specs.Text.{fault_line}
-use Rattle.swid_cli.proofs.OneText.{fault_same, form_of, form_same, length_same, no_tag_and_tag, not_both}
 
 -- ---- two lists of tags that one input begins with
 
@@ -41,10 +38,6 @@ nothing_begins t n begins = never t (drop n []) (item_runs limits [] t n begins)
   where
     never : (t : Term) (rest : List ℕ) → Same (due top, []) (whole t, rest) → ⊥
     never t rest e = let same : due top ≡ whole t = ap (λ (p : State × List ℕ). p.0) e in absurd cc
-
--- Two tags that one input begins with are one.
-tag_same : (octets : List ℕ) (g h : Tag) (n m : ℕ) → BeginsTag octets g n → BeginsTag octets h m → g ≡ h
-tag_same octets g h n m a b = one_tag g h a.item a.form (form_of octets g h n m a b)
 
 count_of : (gs : List Tag) (g : Tag) → length (gs ++ g ∷ []) ≡ length gs + 1
 count_of gs g = length-append gs (g ∷ [])
@@ -57,7 +50,7 @@ rest_same octets gs hs r s (one_more fs o g n a x) no_tags same = absurd (omega 
 rest_same octets gs hs r s (one_more fs o g n a x) (one_more is q h m b y) same =
     let fewer : o ≡ q = rest_same octets fs is o q a b (omega (arith, same, count_of fs g, count_of is h)) in
     let also : BeginsTag o h m = subst (λ (p : List ℕ). BeginsTag p h m) (sym fewer) y in
-    ap (λ (k : ℕ). drop k o) (length_same o g h n m x also) ∙ ap (λ (p : List ℕ). drop m p) fewer
+    ap (λ (k : ℕ). drop k o) (begins_one_tag o g h n m x also).1 ∙ ap (λ (p : List ℕ). drop m p) fewer
 
 -- So are as many tags.
 tags_same : (octets : List ℕ) (gs hs : List Tag) (r s : List ℕ) → BeginsTags octets gs r → BeginsTags octets hs s → length gs ≡ length hs → gs ≡ hs
@@ -68,7 +61,7 @@ tags_same octets gs hs r s (one_more fs o g n a x) (one_more is q h m b y) same 
     let count : length fs ≡ length is = omega (arith, same, count_of fs g, count_of is h) in
     let fewer : o ≡ q = rest_same octets fs is o q a b count in
     let also : BeginsTag o h m = subst (λ (p : List ℕ). BeginsTag p h m) (sym fewer) y in
-    ap (λ (ks : List Tag). ks ++ g ∷ []) (tags_same octets fs is o q a b count) ∙ ap (λ (k : Tag). is ++ k ∷ []) (tag_same o g h n m x also)
+    ap (λ (ks : List Tag). ks ++ g ∷ []) (tags_same octets fs is o q a b count) ∙ ap (λ (k : Tag). is ++ k ∷ []) (begins_one_tag o g h n m x also).0
 
 -- Of more tags each begins where those before it end.
 record NextTag (octets : List ℕ) (count : ℕ) : Type 0 where
@@ -91,8 +84,8 @@ next_tag octets hs s count (one_more is o h m b y) less = elim (cases_lt count (
 no_other : (count : ℕ) (rest : List ℕ) (b : Behind) (g : Tag) (len : ℕ) → StandsBehind count rest b → count < LIST_TAGS → BeginsTag rest g len → ⊥
 no_other count rest behind.Nothing g len is less tag = nothing_begins tag.item len (subst (λ (o : List ℕ). Begins limits o tag.item len) is.1 tag.begins)
 no_other count rest behind.More g len is less tag = omega (arith, less, is.0)
-no_other count rest (behind.NoItem fault) g len is less tag = not_both rest fault tag.item len is.2 tag.begins
-no_other count rest (behind.NoTag fault) g len is less tag = no_tag_and_tag rest fault g len is.1 tag
+no_other count rest (behind.NoItem fault) g len is less tag = item_not_refused rest fault tag.item len is.2 tag.begins
+no_other count rest (behind.NoTag fault) g len is less tag = tag_not_faulty rest fault g len is.1 tag
 
 at_most : (count : ℕ) (rest : List ℕ) (b : Behind) → StandsBehind count rest b → count ≤ LIST_TAGS
 at_most count rest behind.Nothing is = is.0
@@ -136,10 +129,10 @@ answers_same gs goes_on rest (behind.NoItem f) behind.More a b = absurd (omega (
 answers_same gs goes_on rest (behind.NoItem f) (behind.NoItem e) a b =
     let same = fault_same rest f e a.2 b.2 in
     ap (λ (k : ℕ). fault_answer (length gs) goes_on k f.at) same.0 ∙ ap (λ (n : ℕ). fault_answer (length gs) goes_on e.kind n) same.1
-answers_same gs goes_on rest (behind.NoItem f) (behind.NoTag e) a b = absurd (not_both rest f b.1.item b.1.len a.2 b.1.begins)
+answers_same gs goes_on rest (behind.NoItem f) (behind.NoTag e) a b = absurd (item_not_refused rest f b.1.item b.1.len a.2 b.1.begins)
 answers_same gs goes_on rest (behind.NoTag f) behind.Nothing a b = absurd (nothing_begins a.1.item a.1.len (subst (λ (o : List ℕ). Begins limits o a.1.item a.1.len) b.1 a.1.begins))
 answers_same gs goes_on rest (behind.NoTag f) behind.More a b = absurd (omega (arith, a.0, b.0))
-answers_same gs goes_on rest (behind.NoTag f) (behind.NoItem e) a b = absurd (not_both rest e a.1.item a.1.len b.2 a.1.begins)
+answers_same gs goes_on rest (behind.NoTag f) (behind.NoItem e) a b = absurd (item_not_refused rest e a.1.item a.1.len b.2 a.1.begins)
 answers_same gs goes_on rest (behind.NoTag f) (behind.NoTag e) a b = ap (λ (d : FormFault). refusal_answer (at_tag (length gs + 1) (form_line d))) (form_same rest f e a.1 b.1)
 
 lists_same : (octets : List ℕ) (l k : TagList) (goes_on : Bool) → IsTagList octets l → IsTagList octets k → list_answer l goes_on ≡ list_answer k goes_on

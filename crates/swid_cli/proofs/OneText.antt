@@ -1,18 +1,16 @@
 -- An input is spelled in one way only, if any, so `tag` prints one text of it.
-use Rattle.std.proofs.Common.{◌≡◌, ℕ, ◌<◌, ◌≤◌, Bool, true, false, List, [], ◌∷◌, ◌++◌, map as map_list, length, ◌⊎◌, inl, inr, Option, Some, None, refl, sym, ap, subst, ◌∙◌, arith}
+use Rattle.std.proofs.Common.{◌≡◌, ℕ, ◌≤◌, Bool, true, false, List, [], ◌∷◌, map as map_list, length, inl, inr, Option, Some, None, refl, sym, ap, subst, ◌∙◌, arith}
 use Rattle.std.specs.Prelude.{codes}
 use Rattle.std.proofs.lemmas.Bool.{cases_lt}
-use Rattle.std.proofs.lemmas.Option.{none-some}
 use Rattle.wire_base.specs.Layout.{AreOctets}
 use Rattle.wire_base.specs.NamedFile.{content_of}
 use Rattle.wire_base.specs.declared.files.NamedFile.{NamedFile}
 use Rattle.cbor_det.specs.Answers.{IsRefusal}
-use Rattle.cbor_det.specs.Faults.{Begins, IsFault, IsCut}
+use Rattle.cbor_det.specs.Faults.{Begins}
 use Rattle.cbor_det.specs.Laws.{SomeOutcome}
 use Rattle.cbor_det.specs.Term.{Term}
 use Rattle.cbor_det.specs.declared.fault.CborFault.{CborFault}
 use Rattle.cbor_det.specs.declared.fault.CborRefused.TheVariants as refused
-use Rattle.cbor_det.proofs.Outcome.{item_unique, fault_unique, item_no_fault}
 use Rattle.cbor_det.proofs.Outcomes.{some_outcome}
 use Rattle.coswid_res.specs.declared.fault.FormFault.{FormFault}
 use Rattle.coswid_res.specs.Listing.{listed}
@@ -22,67 +20,36 @@ use Rattle.coswid_res.specs.declared.payload.Payload.{Payload}
 use Rattle.coswid_res.specs.declared.verdict.Verdict.{Verdict}
 use Rattle.coswid_tag.specs.Findings.{findings}
 use Rattle.coswid_tag.specs.declared.tag.Tag.{Tag}
-use Rattle.coswid_codec.specs.Answers.{limits, BeginsTag, BeginsFaulty}
+use Rattle.coswid_codec.specs.Answers.{limits, BeginsTag}
 use Rattle.coswid_codec.specs.Forms.{TagForm}
-use Rattle.coswid_codec.specs.Items.{tag_item}
 use Rattle.coswid_codec.specs.TagFault.{tag_fault}
-use Rattle.coswid_codec.proofs.Whole.{no_fault_or_no_tag, one_tag, written_form}
+use Rattle.coswid_codec.proofs.Outcomes.{begins_one_tag, fault_same, form_same, item_not_refused, tag_not_faulty}
+use Rattle.coswid_codec.proofs.Whole.{no_fault_or_no_tag, one_tag_one_spelling}
 use Rattle.swid_cli.specs.declared.step.Ending.{Ending}
-use Rattle.swid_cli.specs.declared.step.Ending.TheVariants as ending
 use Rattle.swid_cli.specs.Checking.{PayloadVerdicts, TagVerdicts, checked_ending, checked_text}
 use Rattle.swid_cli.specs.Tagging.{TAG_OCTETS, TagTells, long_input, more_follows, no_item, no_tag, form_line, whole_tag}
 use Rattle.swid_cli.specs.TagLaws.{OneTagText, OneText, OneVerifiedText, SomeTagText, ToldAlike}
 use Rattle.swid_cli.specs.Text.{fault_line, refusal}
 
--- ---- two outcomes of one input
-
-pub fault_same : (octets : List ℕ) (f e : CborFault) → IsRefusal limits octets (refused.Fault f) → IsRefusal limits octets (refused.Fault e) → (f.kind ≡ e.kind) × (f.at ≡ e.at)
-fault_same octets f e (inl a) (inl b) = fault_unique limits octets f.kind f.at e.kind e.at a b
-fault_same octets f e (inr a) (inr b) = (a.0 ∙ sym b.0, a.1 ∙ sym b.1)
-fault_same octets f e (inl a) (inr b) = absurd (b.2.no_fault f.kind f.at a)
-fault_same octets f e (inr a) (inl b) = absurd (a.2.no_fault e.kind e.at b)
+-- ---- one line of a fault
 
 pub line_same : (octets : List ℕ) (f e : CborFault) → IsRefusal limits octets (refused.Fault f) → IsRefusal limits octets (refused.Fault e) → fault_line f.kind f.at ≡ fault_line e.kind e.at
 line_same octets f e a b =
     let s = fault_same octets f e a b in
     ap (λ (k : ℕ). fault_line k f.at) s.0 ∙ ap (λ (n : ℕ). fault_line e.kind n) s.1
 
-pub not_both : (octets : List ℕ) (f : CborFault) (t : Term) (n : ℕ) → IsRefusal limits octets (refused.Fault f) → Begins limits octets t n → ⊥
-not_both octets f t n (inl a) begins = item_no_fault limits octets t n f.kind f.at begins a
-not_both octets f t n (inr a) begins = a.2.no_item t n begins
-
-some_same : (f e : FormFault) → Some f ≡ Some e → f ≡ e
-some_same f e is = cc
-
-pub form_same : (octets : List ℕ) (f e : FormFault) → BeginsFaulty octets f → BeginsFaulty octets e → f ≡ e
-form_same octets f e a b =
-    let items = (item_unique limits octets a.item b.item a.len b.len a.begins b.begins).0 in
-    some_same f e (sym a.fault ∙ ap tag_fault items ∙ b.fault)
-
-pub length_same : (octets : List ℕ) (g h : Tag) (n m : ℕ) → BeginsTag octets g n → BeginsTag octets h m → n ≡ m
-length_same octets g h n m a b = (item_unique limits octets a.item b.item n m a.begins b.begins).1
-
-pub form_of : (octets : List ℕ) (g h : Tag) (n m : ℕ) (a : BeginsTag octets g n) (b : BeginsTag octets h m) → TagForm h a.item
-form_of octets g h n m a b = subst (λ (t : Term). TagForm h t) (sym (item_unique limits octets a.item b.item n m a.begins b.begins).0) b.form
-
-pub no_tag_and_tag : (octets : List ℕ) (f : FormFault) (g : Tag) (n : ℕ) → BeginsFaulty octets f → BeginsTag octets g n → ⊥
-no_tag_and_tag octets f g n a b =
-    let items = (item_unique limits octets a.item b.item a.len n a.begins b.begins).0 in
-    none-some f (sym ((no_fault_or_no_tag b.item).1 (g, b.form)) ∙ ap tag_fault (sym items) ∙ a.fault)
-
 -- ---- verdicts
 
 module _ (looked_at : Bool) (files : Option (List NamedFile)) where
-  -- Of tags that are read from one item the verdicts are the same.
+  -- Of one tag the verdicts are the same.
   abbrev pub OneVerdicts : Type 0
-  OneVerdicts = (g h : Tag) (t : Term) (vs ws : List (List ℕ × Verdict)) → TagForm g t → TagForm h t → TagVerdicts looked_at files g vs → TagVerdicts looked_at files h ws → vs ≡ ws
+  OneVerdicts = (g h : Tag) (vs ws : List (List ℕ × Verdict)) → g ≡ h → TagVerdicts looked_at files g vs → TagVerdicts looked_at files h ws → vs ≡ ws
 
   text_same : OneVerdicts → (octets : List ℕ) (g h : Tag) (vs ws : List (List ℕ × Verdict)) → BeginsTag octets g (length octets) → BeginsTag octets h (length octets)
       → TagVerdicts looked_at files g vs → TagVerdicts looked_at files h ws → (checked_text g vs ≡ checked_text h ws) × (checked_ending (findings g) vs ≡ checked_ending (findings h) ws)
   text_same one octets g h vs ws a b is are =
-      let form = form_of octets g h (length octets) (length octets) a b in
-      let tags = one_tag g h a.item a.form form in
-      let verdicts = one g h a.item vs ws a.form form is are in (
+      let tags = (begins_one_tag octets g h (length octets) (length octets) a b).0 in
+      let verdicts = one g h vs ws tags is are in (
         ap (λ (k : Tag). checked_text k vs) tags ∙ ap (λ (xs : List (List ℕ × Verdict)). checked_text h xs) verdicts,
         ap (λ (k : Tag). checked_ending (findings k) vs) tags ∙ ap (λ (xs : List (List ℕ × Verdict)). checked_ending (findings h) xs) verdicts,
       )
@@ -95,27 +62,27 @@ module _ (looked_at : Bool) (files : Option (List NamedFile)) where
   one_text one octets text other how also (long_input _ over) (whole_tag _ h ws b are) = absurd (omega (arith, over, b.begins.short))
   one_text one octets text other how also (no_item _ f within _) (long_input _ over) = absurd (omega (arith, over, within))
   one_text one octets text other how also (no_item _ f _ a) (no_item _ e _ b) = (line_same octets f e a b, refl)
-  one_text one octets text other how also (no_item _ f _ a) (no_tag _ e _ b) = absurd (not_both octets f b.item b.len a b.begins)
-  one_text one octets text other how also (no_item _ f _ a) (more_follows _ h m _ b _) = absurd (not_both octets f b.item m a b.begins)
-  one_text one octets text other how also (no_item _ f _ a) (whole_tag _ h ws b are) = absurd (not_both octets f b.item (length octets) a b.begins)
+  one_text one octets text other how also (no_item _ f _ a) (no_tag _ e _ b) = absurd (item_not_refused octets f b.item b.len a b.begins)
+  one_text one octets text other how also (no_item _ f _ a) (more_follows _ h m _ b _) = absurd (item_not_refused octets f b.item m a b.begins)
+  one_text one octets text other how also (no_item _ f _ a) (whole_tag _ h ws b are) = absurd (item_not_refused octets f b.item (length octets) a b.begins)
   one_text one octets text other how also (no_tag _ f within _) (long_input _ over) = absurd (omega (arith, over, within))
-  one_text one octets text other how also (no_tag _ f _ a) (no_item _ e _ b) = absurd (not_both octets e a.item a.len b a.begins)
+  one_text one octets text other how also (no_tag _ f _ a) (no_item _ e _ b) = absurd (item_not_refused octets e a.item a.len b a.begins)
   one_text one octets text other how also (no_tag _ f _ a) (no_tag _ e _ b) = (ap form_line (form_same octets f e a b), refl)
-  one_text one octets text other how also (no_tag _ f _ a) (more_follows _ h m _ b _) = absurd (no_tag_and_tag octets f h m a b)
-  one_text one octets text other how also (no_tag _ f _ a) (whole_tag _ h ws b are) = absurd (no_tag_and_tag octets f h (length octets) a b)
+  one_text one octets text other how also (no_tag _ f _ a) (more_follows _ h m _ b _) = absurd (tag_not_faulty octets f h m a b)
+  one_text one octets text other how also (no_tag _ f _ a) (whole_tag _ h ws b are) = absurd (tag_not_faulty octets f h (length octets) a b)
   one_text one octets text other how also (more_follows _ g n within _ _) (long_input _ over) = absurd (omega (arith, over, within))
-  one_text one octets text other how also (more_follows _ g n _ a _) (no_item _ e _ b) = absurd (not_both octets e a.item n b a.begins)
-  one_text one octets text other how also (more_follows _ g n _ a _) (no_tag _ e _ b) = absurd (no_tag_and_tag octets e g n b a)
-  one_text one octets text other how also (more_follows _ g n _ a _) (more_follows _ h m _ b _) = (ap (λ (k : ℕ). refusal (codes "trailing") k) (length_same octets g h n m a b), refl)
-  one_text one octets text other how also (more_follows _ g n _ a less) (whole_tag _ h ws b are) = absurd (omega (arith, less, length_same octets g h n (length octets) a b))
+  one_text one octets text other how also (more_follows _ g n _ a _) (no_item _ e _ b) = absurd (item_not_refused octets e a.item n b a.begins)
+  one_text one octets text other how also (more_follows _ g n _ a _) (no_tag _ e _ b) = absurd (tag_not_faulty octets e g n b a)
+  one_text one octets text other how also (more_follows _ g n _ a _) (more_follows _ h m _ b _) = (ap (λ (k : ℕ). refusal (codes "trailing") k) (begins_one_tag octets g h n m a b).1, refl)
+  one_text one octets text other how also (more_follows _ g n _ a less) (whole_tag _ h ws b are) = absurd (omega (arith, less, (begins_one_tag octets g h n (length octets) a b).1))
   one_text one octets text other how also (whole_tag _ g vs a is) (long_input _ over) = absurd (omega (arith, over, a.begins.short))
-  one_text one octets text other how also (whole_tag _ g vs a is) (no_item _ e _ b) = absurd (not_both octets e a.item (length octets) b a.begins)
-  one_text one octets text other how also (whole_tag _ g vs a is) (no_tag _ e _ b) = absurd (no_tag_and_tag octets e g (length octets) b a)
-  one_text one octets text other how also (whole_tag _ g vs a is) (more_follows _ h m _ b less) = absurd (omega (arith, less, length_same octets h g m (length octets) b a))
+  one_text one octets text other how also (whole_tag _ g vs a is) (no_item _ e _ b) = absurd (item_not_refused octets e a.item (length octets) b a.begins)
+  one_text one octets text other how also (whole_tag _ g vs a is) (no_tag _ e _ b) = absurd (tag_not_faulty octets e g (length octets) b a)
+  one_text one octets text other how also (whole_tag _ g vs a is) (more_follows _ h m _ b less) = absurd (omega (arith, less, (begins_one_tag octets h g m (length octets) b a).1))
   one_text one octets text other how also (whole_tag _ g vs a is) (whole_tag _ h ws b are) = text_same one octets g h vs ws a b is are
 
 pub one_tag_text : OneTagText
-one_tag_text files = one_text false files (λ g h t vs ws a b is are. is ∙ sym are)
+one_tag_text files = one_text false files (λ g h vs ws same is are. is ∙ sym are)
 
 -- A file has one verdict where it is told what it holds.
 
@@ -143,7 +110,7 @@ tag_told : (all : List NamedFile) (g h : Tag) (vs ws : List (List ℕ × Verdict
 tag_told all g h vs ws same is are = payload_told all g.payload vs ws is (subst (λ (k : Tag). PayloadVerdicts (Some all) k.payload ws) (sym same) are)
 
 pub one_verified_text : OneVerifiedText
-one_verified_text all = one_text true (Some all) (λ g h t vs ws a b is are. tag_told all g h vs ws (one_tag g h t a b) is are)
+one_verified_text all = one_text true (Some all) (tag_told all)
 
 -- Some verdicts there are, whatever is told.
 
@@ -208,9 +175,7 @@ module _ (looked_at : Bool) (files : Option (List NamedFile)) where
 pub some_tag_text : SomeTagText
 some_tag_text looked_at files octets are = some_text looked_at files octets are
 
--- ---- tags that are written as one
+-- ---- tags that are written as the same octets
 
 pub told_alike : ToldAlike
-told_alike g h n m input other verdicts a b same =
-    let again : TagForm h (tag_item g) = subst (λ (t : Term). TagForm h t) (sym same) (written_form h b.item b.form) in
-    ap (λ (k : Tag). checked_text k verdicts) (one_tag g h (tag_item g) (written_form g a.item a.form) again)
+told_alike g h n m input other verdicts a b same = ap (λ (k : Tag). checked_text k verdicts) ((one_tag_one_spelling g h n m input other a b).0 same)

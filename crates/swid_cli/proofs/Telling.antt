@@ -32,7 +32,7 @@ module _ (most : ℕ) (Tells : List ℕ → List ℕ → Ending → Type 0) wher
   same_front octets held rest parts count = sym (take-append-le most held rest (omega (arith, count))) ∙ ap (λ (o : List ℕ). take most o) (sym parts)
 
   -- What was read tells what is printed of all, and what is left.
-  told_of : IsWide → (octets : List ℕ) (left : Option (List ℕ)) (held text : List ℕ) (how : Ending) (read : HasRead (most + 1) octets left held) → Tells held text how
+  pub told_of : IsWide → (octets : List ℕ) (left : Option (List ℕ)) (held text : List ℕ) (how : Ending) (read : HasRead (most + 1) octets left held) → Tells held text how
       → Tells octets text how × (left ≡ Some (drop (most + 1) octets))
   told_of wide octets left held text how read tells =
       let size : length octets ≡ length held + length read.rest = ap (λ (o : List ℕ). length o) read.parts ∙ length-append held read.rest in
@@ -51,7 +51,7 @@ module _ (most : ℕ) (Tells : List ℕ → List ℕ → Ending → Type 0) wher
       ]
 
   -- The octets that were left, of which nothing was held before.
-  read_of : (want : ℕ) (octets none held : List ℕ) (left : Option (List ℕ)) → want ≡ most + 1 → none ≡ [] → Fills want (Some octets) left none held → HasRead (most + 1) octets left held
+  pub read_of : (want : ℕ) (octets none held : List ℕ) (left : Option (List ℕ)) → want ≡ most + 1 → none ≡ [] → Fills want (Some octets) left none held → HasRead (most + 1) octets left held
   read_of want octets none held left is empty fills = first_read (most + 1) want octets none held (Some octets) left is empty refl fills
 
   -- A text that was printed whole.

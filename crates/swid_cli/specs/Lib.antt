@@ -12,6 +12,7 @@ pub mod Answer
 pub mod Telling
 pub mod Checking
 pub mod Tagging
+pub mod TagReads
 pub mod TagLaws
 pub mod TagList
 pub mod Links

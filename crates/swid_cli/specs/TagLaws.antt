@@ -1,7 +1,8 @@
--- What `tag` prints of each input is one text, and of tags that are written as one.
+-- What `tag` prints of each input is one text, and of tags that are written as the same octets.
 use Rattle.std.specs.Prelude.{◌≡◌, ℕ, Bool, true, false, List, Option, Some}
 use Rattle.wire_base.specs.Layout.{AreOctets}
 use Rattle.wire_base.specs.declared.files.NamedFile.{NamedFile}
+use Rattle.cbor_det.specs.Canonical.{canon}
 use Rattle.coswid_res.specs.declared.verdict.Verdict.{Verdict}
 use Rattle.coswid_tag.specs.declared.tag.Tag.{Tag}
 use Rattle.coswid_codec.specs.Answers.{BeginsTag}
@@ -25,6 +26,6 @@ OneVerifiedText = (all : List NamedFile) → OneText true (Some all)
 abbrev pub SomeTagText : Type 0
 SomeTagText = (looked_at : Bool) (files : Option (List NamedFile)) (octets : List ℕ) → AreOctets octets → (text : List ℕ) × (how : Ending) × TagTells looked_at files octets text how
 
--- Tags that are written as one item are told alike with the same verdicts, in whatever spellings they came.
+-- Tags that are written as the same octets are told alike with the same verdicts, in whatever spellings they came.
 abbrev pub ToldAlike : Type 0
-ToldAlike = (g h : Tag) (n m : ℕ) (input other : List ℕ) (verdicts : List (List ℕ × Verdict)) → BeginsTag input g n → BeginsTag other h m → tag_item g ≡ tag_item h → checked_text g verdicts ≡ checked_text h verdicts
+ToldAlike = (g h : Tag) (n m : ℕ) (input other : List ℕ) (verdicts : List (List ℕ × Verdict)) → BeginsTag input g n → BeginsTag other h m → canon (tag_item g) ≡ canon (tag_item h) → checked_text g verdicts ≡ checked_text h verdicts

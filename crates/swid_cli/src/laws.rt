@@ -59,7 +59,7 @@ pub fn some_tag_text()
     ensures law { SomeTagText }
 {}
 
-/// Tags that are written as one item have one text with the same verdicts, in whatever spellings they came.
+/// Tags that are written as the same octets have one text with the same verdicts, in whatever spellings they came.
 pub fn tags_are_told_alike()
     ensures law { ToldAlike }
 {}

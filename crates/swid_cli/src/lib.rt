@@ -5,7 +5,8 @@
 //! of `run_plain`: status 2 exactly where the words are no command line; else status 3 exactly where a count of faults rose; else what
 //! is printed, the status and what is left of the input are, of an input that tells its octets, for `mirror` `stream_text` of them
 //! (`specs/Stream.antt`), for `tag` and `tag verify` by `TagTells` (`specs/Tagging.antt`), and for `links` by `LinksTells`
-//! (`specs/Links.antt`). The functions of `laws` say what the definitions mean.
+//! (`specs/Links.antt`); and the files that `tag verify` reads are, of files that tell their reads, those of `TagReads`
+//! (`specs/TagReads.antt`). The functions of `laws` say what the definitions mean.
 #![tactic(auto)]
 
 mod answer;

@@ -56,7 +56,7 @@ fn answer_to(alloc: Global, octets: &[u8]) -> Result<Answer, Memory>
 }
 
 /// What is printed of the tags that are read of an input, which has more octets than may be looked at where `goes_on`.
-fn answer_to_list(alloc: Global, list: &TagList, goes_on: bool) -> Result<Answer, Memory>
+pub(crate) fn answer_to_list(alloc: Global, list: &TagList, goes_on: bool) -> Result<Answer, Memory>
     requires shallow { All (λ g. depth (tag_item g) ≤ 64) list.now.tags }
     requires within { length list.now.tags ≤ LIST_TAGS }
     ensures answer { IfOk result (λ made. made ≡ list_answer list.now goes_on) }

@@ -1,6 +1,9 @@
 //! Worked examples of the command `links`.
 
 use super::*;
+use crate::links::answer_to_list;
+use crate::step::Ending;
+use crate::tag_list::read_tags;
 use crate::tests::run;
 use std::alloc::Global;
 use std::process::Abort;
@@ -172,6 +175,61 @@ fn takes_no_more_tags(rt: HostRuntime) -> Result<(), Fail> {
         assert_eq!(rt; written.as_slice(), b"limit 10000\n".as_slice());
         assert_eq!(rt; status, 1, "{more}");
     }
+    Ok(())
+}
+
+/// The hexadecimal digits of the first 67108864 octets of an input that has more, and what is printed of it.
+const FRONTS: [(&str, &str); 6] = [
+    // The last tag ends with them.
+    ("a400616101616202a2181f61631821010c00", "limit 67108864\n"),
+    // They cut a tag short: behind its first octet, and behind 17 octets of one that stands behind another.
+    ("a4", "limit 67108864\n"),
+    (
+        "a400616101616202a2181f61631821010c00 a400616101616202a2181f61631821010c",
+        "limit 67108864\n",
+    ),
+    // A tag shows its fault within them: a break, a float, and a map without an entity.
+    (
+        "a400616101616202a2181f61631821010c00 ff",
+        "at-tag 2 fault 2 0\n",
+    ),
+    (
+        "a400616101616202a2181f61631821010cf90000",
+        "at-tag 1 fault 3 17\n",
+    ),
+    ("a30061610161620c00", "at-tag 1 form 1 2\n"),
+];
+
+fn expect_front(rt: &impl Abort, alloc: Global, front: &[u8], output: &str) -> Result<(), Fail> {
+    let list = read_tags(alloc, front)?;
+    let made = answer_to_list(alloc, &list, true)?;
+    assert_eq!(rt; made.text.as_slice(), output.as_bytes());
+    assert_eq!(rt; made.ending, Ending::Refused, "{output}");
+    Ok(())
+}
+
+#[test]
+fn tells_what_goes_on(rt: HostRuntime) -> Result<(), Fail> {
+    let alloc = rt.alloc();
+    for (front, output) in FRONTS {
+        expect_front(&rt, alloc, octets(alloc, front)?.as_slice(), output)?;
+    }
+    // The 10000th tag ends with them, and one more octet stands within them.
+    let mut front = repeated(alloc, 10000)?;
+    expect_front(&rt, alloc, front.as_slice(), "limit 67108864\n")?;
+    front.push(0xff)?;
+    expect_front(&rt, alloc, front.as_slice(), "limit 10000\n")
+}
+
+/// An input of 67108865 octets, of which the first is a break.
+#[test]
+fn reads_more_than_64_mib(rt: HostRuntime) -> Result<(), Fail> {
+    let alloc = rt.alloc();
+    let mut input = octets(alloc, "ff")?;
+    input.resize(67_108_865, 0)?;
+    let (status, written) = run(alloc, &["links"], &input, &[], &[])?;
+    assert_eq!(rt; written.as_slice(), b"at-tag 1 fault 2 0\n".as_slice());
+    assert_eq!(rt; status, 1);
     Ok(())
 }
 

@@ -1,17 +1,20 @@
 //! The top call.
 
-ghost use Rattle.std.specs.Prelude.{◌≡◌, ◌≢◌, ◌≤◌, ◌⊎◌, ◌↔◌, true, false, List, ℕ, IfSome, map};
+ghost use Rattle.std.specs.Prelude.{◌≡◌, ◌≢◌, ◌≤◌, ◌⊎◌, ◌↔◌, true, false, List, ℕ, Result, IfSome, map};
 ghost use Rattle.swid_cli.specs.Answering.{AllAnswer, PrintsRight};
 ghost use Rattle.swid_cli.specs.Run.{Prints, status_of, usage};
 ghost use Rattle.swid_cli.specs.Links.{LIST_OCTETS, LinksTells};
 ghost use Rattle.swid_cli.specs.Stream.{Printed, stream_text};
+ghost use Rattle.swid_cli.specs.TagReads.{TagReads};
 ghost use Rattle.swid_cli.specs.Tagging.{TAG_OCTETS, TagTells};
 ghost use Rattle.swid_cli.specs.Telling.{IsTold, PrintsFront};
 ghost use Rattle.swid_cli.specs.Words.{IsCommandLine, IsLinks, IsMirror, IsTag, IsTagVerify};
+ghost use Rattle.swid_cli.specs.declared.step.Ending.{Ending as Ended};
 ghost use Rattle.swima_model.specs.History.{History, IsHonest};
 ghost use Rattle.swima_model.specs.declared.report.Kind.{Kind as KindValue};
 ghost use Rattle.wire_base.specs.Outside.{Adds, Rose};
 ghost use Rattle.wire_base.specs.Passing.{AddsFront};
+ghost use Rattle.wire_base.specs.declared.passing.Stopped.{Stopped as Stop};
 
 use crate::command::{Command, command_of};
 use crate::links::links;
@@ -114,6 +117,10 @@ pub fn run_plain<S: Source, K: Sink, F: Files>(
     // Files are left as they are, and nothing but `tag verify` looks at them.
     ensures contents { F.contents files.new ≡ F.contents files.old }
     ensures files { ¬ IsTagVerify (map (λ word. word.now) words.now) → files.new ≡ files.old }
+    // It reads those of the tag that the input is, each for the verdict on it, and none where the input is no tag.
+    ensures reads { IsTagVerify (map (λ word. word.now) words.now)
+        → IfSome (S.left input.old) (λ octets. (ended : Result Ended Stop) × (result ≡ status_of ended)
+        × TagReads octets ended (F.reads files.old) (F.reads files.new)) }
 {
     match command_of(words) {
         None => {

@@ -8,6 +8,7 @@ ghost use Rattle.coswid_codec.specs.Items.{tag_item};
 ghost use Rattle.coswid_tag.specs.Findings.{findings};
 ghost use Rattle.swid_cli.specs.Causes.{HasFilesCauses};
 ghost use Rattle.swid_cli.specs.Checking.{TagVerdicts, checked_ending, checked_text};
+ghost use Rattle.swid_cli.specs.TagReads.{PayloadReads, TagReads};
 ghost use Rattle.swid_cli.specs.Tagging.{TAG_OCTETS, TagTells};
 ghost use Rattle.swid_cli.specs.Telling.{RanTelling};
 ghost use Rattle.wire_base.specs.Outside.{HasCause};
@@ -43,6 +44,8 @@ pub fn tag<S: Source, K: Sink, F: Files>(
         (K.faults output.old) (K.faults output.new) (F.faults files.old) (F.faults files.new) result }
     ensures contents { F.contents files.new ≡ F.contents files.old }
     ensures files { looks_at_files ≡ false → files.new ≡ files.old }
+    ensures reads { looks_at_files ≡ true → IfSome (S.left input.old) (λ octets.
+        TagReads octets result (F.reads files.old) (F.reads files.new)) }
 {
     let mut held = List::new(alloc);
     fill(input, &mut held, MOST_TAG_OCTETS + 1)?;
@@ -61,6 +64,7 @@ fn answer_to<F: Files>(
     ensures told { IfOk result (λ made. TagTells looks_at_files (F.contents files.old) octets.now made.text made.ending) }
     ensures contents { F.contents files.new ≡ F.contents files.old }
     ensures files { looks_at_files ≡ false → files.new ≡ files.old }
+    ensures reads { looks_at_files ≡ true → TagReads octets.now result (F.reads files.old) (F.reads files.new) }
     ensures cause { HasCause (F.faults files.old) (F.faults files.new) (is_fault result) }
     ensures looked { OnTrue (is_fault result) (looks_at_files ≡ true) }
 {
@@ -92,6 +96,7 @@ fn answer_to_tag<F: Files>(
     ensures told { IfOk result (λ made. TagTells looks_at_files (F.contents files.old) octets.now made.text made.ending) }
     ensures contents { F.contents files.new ≡ F.contents files.old }
     ensures files { looks_at_files ≡ false → files.new ≡ files.old }
+    ensures reads { looks_at_files ≡ true → TagReads octets.now result (F.reads files.old) (F.reads files.new) }
     ensures cause { HasCause (F.faults files.old) (F.faults files.new) (is_fault result) }
     ensures looked { OnTrue (is_fault result) (looks_at_files ≡ true) }
 {
@@ -112,6 +117,7 @@ fn verdicts_on<F: Files>(
     ensures verdicts { IfOk result (TagVerdicts looks_at_files (F.contents files.old) tag.now) }
     ensures contents { F.contents files.new ≡ F.contents files.old }
     ensures files { looks_at_files ≡ false → files.new ≡ files.old }
+    ensures reads { looks_at_files ≡ true → PayloadReads tag.now.payload result (F.reads files.old) (F.reads files.new) }
     ensures cause { HasCause (F.faults files.old) (F.faults files.new) (is_fault result) }
     ensures looked { OnTrue (is_fault result) (looks_at_files ≡ true) }
 {

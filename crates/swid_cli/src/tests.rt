@@ -421,6 +421,21 @@ fn refuses_other_words(rt: HostRuntime) -> Result<(), Fail> {
     Ok(())
 }
 
+#[test]
+fn skips_an_attribute_of_16777216_octets(rt: HostRuntime) -> Result<(), Fail> {
+    let alloc = rt.alloc();
+    let mut octets = Vec::new(alloc);
+    octets.extend_from_slice(b"\0\0\0\0\0\0\0\x14\x01\0\0\0")?;
+    octets.resize(16_777_216, 0)?;
+    let (status, written) = run(alloc, &["mirror", "ids"], &octets, &[], &[])?;
+    assert_eq!(rt;
+        written.as_slice(),
+        b"skipped 0 20\nmirror none\n".as_slice()
+    );
+    assert_eq!(rt; status, 0);
+    Ok(())
+}
+
 /// Puts the octets of an inventory of the records 1 to `count`, each without identifier and locator, behind `octets`.
 fn push_inventory(octets: &mut Vec<u8>, eid: u8, count: u32) -> Result<(), Fail> {
     let length = count.wrapping_mul(14).wrapping_add(28);

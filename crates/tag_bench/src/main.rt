@@ -29,15 +29,17 @@ enum Task {
 
 /// Why nothing is printed.
 #[derive(Clone, Copy)]
-enum Trouble {
+pub(crate) enum Trouble {
     /// The word asks for no task.
     Word,
     /// The input could not be read.
     Input,
     /// The input is longer than is read.
     Long,
-    /// The octets are no tags one after another, or memory is wanting.
+    /// The octets are no tags one after another.
     Tag,
+    /// Memory is wanting.
+    Memory,
 }
 
 impl fmt::Display for Trouble {
@@ -46,7 +48,8 @@ impl fmt::Display for Trouble {
             Trouble::Word => f.write_str("the word is read, write or both"),
             Trouble::Input => f.write_str("standard input could not be read"),
             Trouble::Long => write!(f, "standard input has more than {MOST} octets"),
-            Trouble::Tag => f.write_str("a tag was refused, or memory is wanting"),
+            Trouble::Tag => f.write_str("a tag was refused"),
+            Trouble::Memory => f.write_str("memory is wanting"),
         }
     }
 }
@@ -72,7 +75,7 @@ fn run(rt: &HostRuntime) -> Result<String, Trouble> {
     if octets.len() > MOST {
         return Err(Trouble::Long);
     }
-    text(alloc, task, octets.as_slice()).ok_or(Trouble::Tag)
+    text(alloc, task, octets.as_slice())
 }
 
 /// What the first word asks for; `None` where it is no such word.
@@ -94,19 +97,21 @@ fn all_input(rt: &HostRuntime) -> Option<Octets> {
     Some(held)
 }
 
-/// The numbers that are asked for; `None` where a tag was refused, or memory is wanting.
-fn text(alloc: Global, task: Task, octets: &[u8]) -> Option<String> {
+/// The numbers that are asked for.
+fn text(alloc: Global, task: Task, octets: &[u8]) -> Result<String, Trouble> {
     match task {
         Task::Read => number_text(alloc, tags_read(alloc, octets)?),
         Task::Write => number_text(alloc, octets_written(alloc, octets)?),
         Task::Both => {
             let tags = tags_read(alloc, octets)?;
             let written = octets_written(alloc, octets)?;
-            format!(in alloc; "{tags} {written}").ok()
+            format!(in alloc; "{tags} {written}")
+                .ok()
+                .ok_or(Trouble::Memory)
         }
     }
 }
 
-fn number_text(alloc: Global, number: u64) -> Option<String> {
-    format!(in alloc; "{number}").ok()
+fn number_text(alloc: Global, number: u64) -> Result<String, Trouble> {
+    format!(in alloc; "{number}").ok().ok_or(Trouble::Memory)
 }

@@ -4,6 +4,7 @@ use Rattle.swid_cli.proofs.Running.{one_kind, written_or, prints}
 use Rattle.swid_cli.specs.Links.{LIST_OCTETS, LinksTells}
 use Rattle.swid_cli.specs.Tagging.{TAG_OCTETS}
 use Rattle.swid_cli.proofs.LinksTelling.{links_sound}
+use Rattle.swid_cli.proofs.TagReading.{ran_reads}
 use Rattle.swid_cli.proofs.TagTelling.{says_tag, says_verify, tag_fault, tag_said, tag_sound}
 use Rattle.swid_cli.proofs.Telling.{ran_prints, ran_prints_front}
 use Rattle.swid_cli.proofs.run.run_plain.Goals as goal
@@ -48,6 +49,11 @@ returns-in-Some-Tag-clause-fault g c = λ fault.
 
 pub returns-in-Some-Tag-clause-files : goal.returns-in-Some-Tag-clause-files
 returns-in-Some-Tag-clause-files g c = λ no. c.tag.ensures.files (tag_said c.in-Some-Tag.looks_at_files _ (rw c.in-Some-Tag.field-0-is at c.in-Some-Tag.ensures.said) no)
+
+pub returns-in-Some-Tag-clause-reads : goal.returns-in-Some-Tag-clause-reads
+returns-in-Some-Tag-clause-reads g c = λ words.
+    ran_reads _ _ _ c.tag.result c.status-in-Some-Tag.result c.status-in-Some-Tag.ensures.status
+    (c.tag.ensures.reads (says_verify c.in-Some-Tag.looks_at_files _ (rw c.in-Some-Tag.field-0-is at c.in-Some-Tag.ensures.said) words))
 
 pub returns-in-Some-Links-clause-links : goal.returns-in-Some-Links-clause-links
 returns-in-Some-Links-clause-links g c = λ fault memory words.
