@@ -251,6 +251,26 @@ fn a_message_is_read(rt: HostRuntime) {
     assert!(rt; second.attr.value.is_empty());
 }
 
+/// The header of an attribute of type 14 with 4000 octets as its value.
+const LONG: [u8; 12] = [0, 0, 0, 0, 0, 0, 0, 14, 0, 0, 0x0f, 0xac];
+
+#[test]
+fn a_long_attribute_is_read(rt: HostRuntime) -> Result<(), Fail> {
+    let value = [7; 4000];
+    let mut octets = message_of(rt.alloc(), &LONG, &value)?;
+    octets.extend(&GOOD)?;
+    assert!(rt; octets.len() <= 4096);
+    let PaRead::Ok { attrs, .. } = read_message(rt.alloc(), octets.as_slice(), &SUPPORTED) else {
+        panic!(rt; "the octets are a message")
+    };
+    let first = attrs
+        .get(0)
+        .map(|first| (first.at, first.attr.value.as_slice()));
+    assert_eq!(rt; first, Some((20, value.as_slice())));
+    assert_eq!(rt; attrs.get(1).map(|second| second.at), Some(4032));
+    Ok(())
+}
+
 #[test]
 fn a_message_is_written(rt: HostRuntime) -> Result<(), Fail> {
     let alloc = rt.alloc();
