@@ -27,13 +27,14 @@ use Rattle.cbor_det.specs.Held.{members_view, due_key}
 use Rattle.cbor_det.specs.Initial.{initial_of}
 use Rattle.cbor_det.specs.Faults.{Place, top, at_chunk, at_element, at_key, at_value, at_content, height}
 use Rattle.cbor_det.specs.Machine.{State, due, faulty, give, begun, item_begun, opened, broken, string_head, string_ended}
-use Rattle.cbor_det.specs.Frames.{inside, map_place, within, place, chunk_kind, low_kind, end_state, state_of, ArgumentFits, BeginFits, InitialFits}
-use Rattle.cbor_det.proofs.Told.{Tells, tells, Long, one_more, two_more, four_more, eight_more}
+use Rattle.cbor_det.specs.Standing.{inside, map_place, within, place, BeginsHead, one_more, two_more, four_more, eight_more}
+use Rattle.cbor_det.specs.Frames.{chunk_kind, low_kind, end_state, state_of, ArgumentFits, BeginFits, InitialFits}
+use Rattle.cbor_det.proofs.Told.{Tells, tells}
 use Rattle.cbor_det.proofs.Views.{view_array, view_map}
 use Rattle.cbor_det.proofs.Gives.{pushed_due}
 use Rattle.cbor_det.proofs.Strings.{pushed_place, no_chunk}
 
-long_fits : (m : Major) (left b : ℕ) → Long m left b → (1 ≤ left) × (left ≤ 8)
+long_fits : (m : Major) (left b : ℕ) → BeginsHead m left b → (1 ≤ left) × (left ≤ 8)
 long_fits m left b one_more = (omega arith, omega arith)
 long_fits m left b two_more = (omega arith, omega arith)
 long_fits m left b four_more = (omega arith, omega arith)

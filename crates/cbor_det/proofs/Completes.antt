@@ -18,7 +18,8 @@ use Rattle.cbor_det.specs.Term.{Term, Terms, Pairs, integer, octets, text, array
 use Rattle.cbor_det.specs.Spelling.{IsHead, stop, opening, major_of, IsPart, string, Chunks, no_chunks, chunk, Rises, PutsIn, Spelling, Series, PairSeries, unsigned, negative, definite_string, indefinite_string, definite_array, indefinite_array, definite_map, indefinite_map, under_tag, is_false, is_true, no_items, item, no_members, member}
 use Rattle.cbor_det.specs.Faults.{Place, top, at_chunk, at_element, at_key, at_value, at_content, IsChunkPlace, Admits}
 use Rattle.cbor_det.specs.Machine.{State, due, content, give, filled_array, filled_map, is_part, string_given, string_ended, string_begun, argued, opened, broken, begun, step, run}
-use Rattle.cbor_det.proofs.Initials.{AdmitsHead, begun_opens}
+use Rattle.cbor_det.specs.Standing.{AdmitsHead}
+use Rattle.cbor_det.proofs.Initials.{begun_opens}
 use Rattle.cbor_det.proofs.Heads.{head_reads}
 use Rattle.cbor_det.proofs.Order.{rises_less, insert_is, not_held, count_puts, depth_puts}
 use Rattle.cbor_det.proofs.Lengths.{count_plus, depth_plus, not_full}

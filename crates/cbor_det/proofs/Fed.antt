@@ -1,6 +1,6 @@
 -- What came of a piece, from the run of the machine over it.
 use Rattle.std.proofs.Common.{◌≡◌, ℕ, zero, suc, ◌+◌, ◌-◌, ◌<◌, ◌≤◌, List, [], ◌∷◌, ◌++◌, length, take, drop, refl, sym, ap, ◌∙◌, arith, subst, false, append_assoc, length-append, length-take, length-drop, inl, inr}
-use Rattle.std.proofs.lemmas.List.{take-append-drop, take_all, take-append-le}
+use Rattle.std.proofs.lemmas.List.{append-nil, take-append-drop, take_all, take-append-le}
 use Rattle.std.proofs.lemmas.Bool.{cond-true, cond-false, cases_Bool}
 use Rattle.wire_base.specs.Layout.{AreOctets}
 use Rattle.wire_base.proofs.Spelled.{AreOctets-take}
@@ -11,8 +11,10 @@ use Rattle.cbor_det.specs.declared.frame.Phase.TheVariants as phase
 use Rattle.cbor_det.specs.Term.{Term}
 use Rattle.cbor_det.specs.Faults.{Place, top, Begins, IsFault, IsCut, Shows, start}
 use Rattle.cbor_det.specs.Machine.{State, due, whole, faulty, step, run, is_over}
-use Rattle.cbor_det.specs.Frames.{place, phase_state}
-use Rattle.cbor_det.specs.Pieces.{Stands}
+use Rattle.cbor_det.specs.Standing.{place, IsAt, Stands}
+use Rattle.cbor_det.specs.Frames.{phase_state}
+use Rattle.cbor_det.proofs.Standing.{stands_run, at_of}
+use Rattle.cbor_det.proofs.Sound.{Holds}
 use Rattle.cbor_det.proofs.Steps.{Ran, run_holds}
 use Rattle.cbor_det.proofs.Outcome.{Same, whole_begins, faulty_is, limit_is, cut_is}
 
@@ -67,7 +69,7 @@ module _ (limits : Limits) (fs : List Frame) (f : Phase) (taken : ℕ) (before p
 
   runs_on : (τ : State) (rest : List ℕ) → run limits taken (phase_state (place fs) f) front ≡ (τ, rest) → run limits 0 (due top) looked ≡ (τ, rest)
   runs_on τ rest e =
-      run_append limits before front 0 (due top) (phase_state (place fs) f) stands.came
+      run_append limits before front 0 (due top) (phase_state (place fs) f) (stands_run limits fs f taken before stands)
       ∙ (let g : 0 + length before ≡ taken = (let t = stands.taken_is in omega (arith, t)) in ap (λ (k : ℕ). run limits k (phase_state (place fs) f) front) g)
       ∙ e
 
@@ -94,6 +96,15 @@ module _ (limits : Limits) (fs : List Frame) (f : Phase) (taken : ℕ) (before p
       let Q : List ℕ → Type 0 = λ x. Same (run limits 0 (due top) looked) (σ, x) in
       subst Q (w.all going) (runs_on σ rest e)
 
+  reader_at : (fs2 : List Frame) (g : Phase) (rest : List ℕ) → run limits taken (phase_state (place fs) f) front ≡ (phase_state (place fs2) g, rest) → IsAt limits (place fs2) g looked
+  reader_at fs2 g rest e =
+      let P : State × List ℕ → Type 0 = λ x. Ran limits [] looked x in
+      let w : Ran limits [] looked (phase_state (place fs2) g, rest) = subst P (runs_on (phase_state (place fs2) g) rest e) (run_holds limits looked (due top) [] 0 refl looked_octets start) in
+      let none : rest ≡ [] = w.all (phase_goes (place fs2) g) in
+      let whole : w.front ≡ looked = sym (w.parts ∙ ap (λ (x : List ℕ). w.front ++ x) none ∙ append-nil w.front) in
+      let Q : List ℕ → Type 0 = λ x. Holds limits x (phase_state (place fs2) g) in
+      at_of limits (place fs2) g looked (subst Q whole w.holds)
+
   pub came_limit : (fs2 : List Frame) (g : Phase) (rest : List ℕ) → run limits taken (phase_state (place fs) f) front ≡ (phase_state (place fs2) g, rest) → taken + length front ≡ limits.octets
       → IsFault limits (before ++ piece) 9 limits.octets
   came_limit fs2 g rest e full =
@@ -117,7 +128,7 @@ module _ (limits : Limits) (fs : List Frame) (f : Phase) (taken : ℕ) (before p
       let ran = all_read (phase_state (place fs2) g) rest going e in
       let P : List ℕ → Type 0 = λ x. IsCut limits x in
       let Q : List ℕ → Type 0 = λ x. Stands limits fs2 g (taken + length front) x in (
-        subst Q whole (record { are = looked_octets; short = looked_short; taken_is = omega (arith, l, t); came = ran }),
+        subst Q whole (record { are = looked_octets; short = looked_short; taken_is = omega (arith, l, t); reads = reader_at fs2 g rest e }),
         subst P whole (cut_is limits looked (phase_state (place fs2) g) going less ran),
       )
 

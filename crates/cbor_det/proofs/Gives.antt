@@ -15,8 +15,8 @@ use Rattle.cbor_det.specs.Term.{Term, Terms, Pairs, array, map as map_term, tagg
 use Rattle.cbor_det.specs.Canonical.{canon}
 use Rattle.cbor_det.specs.View.{view, terms_of, pairs_view}
 use Rattle.cbor_det.specs.Faults.{Place, top, at_chunk, at_element, at_key, at_value, at_content}
-use Rattle.cbor_det.specs.Machine.{State, due, whole, faulty, give, is_full, is_held, insert}
-use Rattle.cbor_det.specs.Frames.{inside, within, place, map_place}
+use Rattle.cbor_det.specs.Machine.{State, due, whole, faulty, give, is_full, is_held}
+use Rattle.cbor_det.specs.Standing.{inside, within, place, map_place}
 use Rattle.cbor_det.specs.Open.{IsTaken, is_whole}
 use Rattle.cbor_det.proofs.Views.{view_array, view_map, view_tag, count_items}
 

@@ -14,9 +14,10 @@ use Rattle.cbor_det.specs.Canonical.{Form, direct, one, two, four, eight, bound,
 use Rattle.cbor_det.specs.Spelling.{IsHead}
 use Rattle.cbor_det.specs.Faults.{Place}
 use Rattle.cbor_det.specs.Machine.{State, due, argument, argued, opened, begun, step, run}
-use Rattle.cbor_det.proofs.Initials.{AdmitsHead, head_opens, direct_initial, one_initial, two_initial, four_initial, eight_initial}
+use Rattle.cbor_det.specs.Standing.{AdmitsHead}
+use Rattle.cbor_det.proofs.Initials.{head_opens, direct_initial, one_initial, two_initial, four_initial, eight_initial}
 
-abbrev joined : ℕ → List ℕ → ℕ
+abbrev pub joined : ℕ → List ℕ → ℕ
 joined acc bs = fold (λ number octet. 256 * number + octet) acc bs
 
 module _ (limits : Limits) where

@@ -12,6 +12,7 @@ use Rattle.cbor_det.specs.declared.initial.Initial.{Initial}
 use Rattle.cbor_det.specs.declared.initial.Initial.TheVariants.{Item}
 use Rattle.cbor_det.specs.Initial.{number_of_major, headed, headed_or, of_type, initial_of}
 use Rattle.cbor_det.specs.Faults.{Place, top, at_chunk, at_element, at_key, at_value, at_content, height, IsChunkPlace, Admits}
+use Rattle.cbor_det.specs.Standing.{AdmitsHead}
 use Rattle.cbor_det.specs.Machine.{begun, item_begun, opened, same_kind, string_head}
 
 pub headed_direct : (m : Major) (n : ℕ) → n < 24 → headed m n ≡ Item (Argued m n)
@@ -74,11 +75,6 @@ eight_initial (String TextString) = refl
 eight_initial Array = refl
 eight_initial Map = refl
 eight_initial Tag = refl
-
--- A head of this type may stand here: as a chunk of its own kind, or as an item.
-abbrev pub AdmitsHead : Limits → Place → Major → Type 0
-AdmitsHead limits (at_chunk at kind s p) m = m ≡ String kind
-AdmitsHead limits p m = Admits limits p 1
 
 -- what begins with a head of this type
 abbrev pub IsHeadOf : Major → Beginning → Type 0

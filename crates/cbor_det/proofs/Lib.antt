@@ -19,6 +19,7 @@ pub mod Strings
 pub mod Begins
 pub mod Runs
 pub mod Refusals
+pub mod Standing
 pub mod Fed
 pub mod Outcomes
 pub mod Adds

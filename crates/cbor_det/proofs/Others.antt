@@ -7,7 +7,7 @@ use Rattle.cbor_det.specs.declared.item.Item.TheViews.{roll-Pairs}
 use Rattle.cbor_det.specs.declared.item.Pairs as code
 use Rattle.cbor_det.specs.declared.item.Pairs.{out-Pairs}
 use Rattle.cbor_det.specs.Lookup.{is_one_of, other_than}
-use Rattle.cbor_det.specs.Term.{Term, Pairs, pair}
+use Rattle.cbor_det.specs.Term.{Pairs, pair}
 use Rattle.cbor_det.specs.View.{view, pairs_view, listed}
 use Rattle.cbor_det.proofs.Adds.{key_of, listed_cons}
 use Rattle.cbor_det.proofs.Entries.{made_pairs}

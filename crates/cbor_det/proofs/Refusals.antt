@@ -15,7 +15,7 @@ use Rattle.cbor_det.specs.View.{view}
 use Rattle.cbor_det.specs.Faults.{top, Begins, IsFault, IsCut, start}
 use Rattle.cbor_det.specs.Machine.{State, due, whole, faulty, run, is_over}
 use Rattle.cbor_det.specs.declared.frame.Frame.{Frame}
-use Rattle.cbor_det.specs.Frames.{place}
+use Rattle.cbor_det.specs.Standing.{place}
 use Rattle.cbor_det.specs.Answers.{IsRefusal, GivesItem, GivesFault}
 use Rattle.cbor_det.proofs.Steps.{Ran, run_holds}
 use Rattle.cbor_det.proofs.Outcome.{Same, item_unique, item_no_fault, fault_unique, whole_begins, faulty_is, limit_is, cut_is}

@@ -1,5 +1,5 @@
 -- Pairs that are read in rising order of their keys.
-use Rattle.std.proofs.Common.{◌≡◌, ℕ, ◌+◌, ◌<◌, List, [], ◌∷◌, ◌++◌, length, get_or, take, map, ◌-◌, refl, sym, ap, ◌∙◌, subst, arith, Bool, true, false, not, Option, None, Some}
+use Rattle.std.proofs.Common.{◌≡◌, ℕ, ◌+◌, ◌<◌, List, [], ◌∷◌, ◌++◌, length, get_or, map, ◌-◌, refl, sym, ap, ◌∙◌, subst, arith, Bool, true, false, not, Option, None, Some}
 use Rattle.std.specs.Prelude.{Result, Ok, Err}
 use Rattle.std.specs.Result.{OnOk, OnErr}
 use Rattle.std.specs.Option.{option_map, is_some}
@@ -11,7 +11,7 @@ use Rattle.std.specs.declared.cmp.Ordering.{Ordering}
 use Rattle.std.specs.declared.cmp.Ordering.TheVariants.{Less, Equal, Greater}
 use Rattle.cbor_det.specs.declared.item.Item.{Item}
 use Rattle.cbor_det.specs.declared.item.Item.TheViews.{roll-Pair}
-use Rattle.cbor_det.specs.declared.item.Pair.{Pair, out-Pair}
+use Rattle.cbor_det.specs.declared.item.Pair.{Pair}
 use Rattle.cbor_det.specs.Term.{Term, Pairs, no_pairs, pair, pair_count}
 use Rattle.cbor_det.specs.Canonical.{canon}
 use Rattle.cbor_det.specs.Spelling.{Rises}

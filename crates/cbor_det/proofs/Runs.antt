@@ -69,7 +69,7 @@ argue_next left n b f small ne =
 
 -- strings
 
-content_part : (limits : Limits) (p : Place) (at : ℕ) (kind : Kind) (left i : ℕ) (came front rest : List ℕ) → length front < left
+pub content_part : (limits : Limits) (p : Place) (at : ℕ) (kind : Kind) (left i : ℕ) (came front rest : List ℕ) → length front < left
     → run limits i (content p at kind left came) (front ++ rest) ≡ run limits (i + length front) (content p at kind (left - length front) (came ++ front)) rest
 unfolding step
 content_part limits p at kind left i came [] rest lt =

@@ -19,8 +19,9 @@ use Rattle.cbor_det.specs.Canonical.{canon}
 use Rattle.cbor_det.specs.Spelling.{IsHead, stop, opening, major_of}
 use Rattle.cbor_det.specs.Faults.{Place, top, at_chunk, at_element, at_key, at_value, at_content, height, IsChunkPlace, Admits, AdmitsString, Opens, counted, until_break, MoreAreDue, Upto, start, chunk_due, element_due, key_due, value_due, content_due, IsReserved, IsNeverOpen, IsNoChunk, TakesBreak, IsMalformed, IsFloat, IsSimple, HasNoItem, Shows, malformed, float, simple, range, too_deep, not_utf8, doubled, long_string, past_limit, information, major}
 use Rattle.cbor_det.specs.Machine.{State, due, whole, faulty, give, filled_array, filled_map, string_ended, string_begun, argued, opened, broken, begun, item_begun, chunk_begun, string_head, same_kind, run}
-use Rattle.cbor_det.proofs.Initials.{AdmitsHead, begun_item}
-use Rattle.cbor_det.proofs.Told.{Tells, tells, Long, one_more, two_more, four_more, eight_more}
+use Rattle.cbor_det.specs.Standing.{AdmitsHead, BeginsHead, one_more, two_more, four_more, eight_more}
+use Rattle.cbor_det.proofs.Initials.{begun_item}
+use Rattle.cbor_det.proofs.Told.{Tells, tells}
 use Rattle.cbor_det.proofs.Heads.{head_reads}
 use Rattle.cbor_det.proofs.Order.{is_held_of, free_of}
 use Rattle.cbor_det.proofs.Lengths.{not_full}
@@ -61,13 +62,13 @@ other_argued (String other) n b kind t is =
     other_kind kind other (λ e. not_both b (major_of kind) n (t.0 ∙ ap (λ (k : ℕ). 32 * k + n) e) (let lt = t.1 in omega (arith, lt)) is)
 
 -- what a long head tells
-pub long_tells : (m : Major) (left b : ℕ) → Long m left b → (n : ℕ) × (b ≡ 32 * number_of_major m + n) × (n < 28) × (24 ≤ n)
+pub long_tells : (m : Major) (left b : ℕ) → BeginsHead m left b → (n : ℕ) × (b ≡ 32 * number_of_major m + n) × (n < 28) × (24 ≤ n)
 long_tells m left b one_more = (24, refl, omega arith, omega arith)
 long_tells m left b two_more = (25, refl, omega arith, omega arith)
 long_tells m left b four_more = (26, refl, omega arith, omega arith)
 long_tells m left b eight_more = (27, refl, omega arith, omega arith)
 
-other_argument : (m : Major) (left b : ℕ) (kind : Kind) → Long m left b → (major b ≢ major_of kind) ⊎ (28 ≤ information b)
+other_argument : (m : Major) (left b : ℕ) (kind : Kind) → BeginsHead m left b → (major b ≢ major_of kind) ⊎ (28 ≤ information b)
     → string_head kind (Item (beginning.Argument m left)) ≡ false
 other_argument Unsigned left b kind t is = refl
 other_argument Negative left b kind t is = refl
@@ -365,7 +366,7 @@ module _ (limits : Limits) where
   unfolding argued
   too_long i at n p kind long = cond-true _ _ _ (lt-ltb limits.octets (i + n) long)
 
-  not_long : (i at n : ℕ) (p : Place) (kind : Kind) → i + n ≤ limits.octets → argued limits i p at (String kind) n ≡ string_begun p at kind n
+  pub not_long : (i at n : ℕ) (p : Place) (kind : Kind) → i + n ≤ limits.octets → argued limits i p at (String kind) n ≡ string_begun p at kind n
   unfolding argued
   not_long i at n p kind fits = cond-false _ _ _ (le-ltb limits.octets (i + n) fits)
 

@@ -23,8 +23,8 @@ use Rattle.cbor_det.specs.Canonical.{canon, direct, one, two, four, eight}
 use Rattle.cbor_det.specs.Spelling.{IsHead, stop, opening, major_of, IsPart, string, no_chunks, chunk, Rises, PutsIn, Spelling, Series, PairSeries, unsigned, negative, definite_string, definite_array, indefinite_array, definite_map, indefinite_map, under_tag, is_false, is_true, no_items, item, no_members, member}
 use Rattle.cbor_det.specs.Faults.{Place, top, at_chunk, at_element, at_key, at_value, at_content, height, IsChunkPlace, Admits, AdmitsString, Opens, counted, until_break, MoreAreDue, Upto, start, chunk_due, element_due, key_due, value_due, content_due, IsReserved, IsNeverOpen, TakesBreak, IsMalformed, Shows, malformed, float, simple, range, too_deep, not_utf8, doubled, long_string}
 use Rattle.cbor_det.specs.Machine.{State, due, argument, content, whole, faulty, give, is_full, is_held, insert, filled_array, filled_map, is_part, string_given, string_ended, string_begun, argued, opened, broken, item_begun}
-use Rattle.cbor_det.proofs.Initials.{AdmitsHead}
-use Rattle.cbor_det.proofs.Told.{Tells, Long, one_more, two_more, four_more, eight_more}
+use Rattle.cbor_det.specs.Standing.{AdmitsHead, InArgument, InContent, BeginsHead, one_more, two_more, four_more, eight_more}
+use Rattle.cbor_det.proofs.Told.{Tells}
 use Rattle.cbor_det.proofs.Order.{insert_puts, rises_insert, count_puts, depth_puts, held_is, held_not, free_of}
 use Rattle.cbor_det.proofs.Lengths.{count_plus, depth_plus}
 use Rattle.cbor_det.proofs.Completes.{string_depth, string_item, admits_head}
@@ -38,7 +38,7 @@ are_push (x ∷ xs) b are small zero = are 0
 are_push (x ∷ xs) b are small (suc i) = are_push xs b (λ j. are (suc j)) small i
 
 -- the head that some octets of argument make
-pub long_head : (m : Major) (size lead : ℕ) (bs : List ℕ) → Long m size lead → length bs ≡ size → AreOctets bs → IsHead (number_of_major m) (number_of bs) (lead ∷ bs)
+pub long_head : (m : Major) (size lead : ℕ) (bs : List ℕ) → BeginsHead m size lead → length bs ≡ size → AreOctets bs → IsHead (number_of_major m) (number_of bs) (lead ∷ bs)
 long_head m size lead bs one_more len are =
     record { form = one; fits = number_of-below 1 bs len are; is = ap (λ (o : List ℕ). (32 * number_of_major m + 24) ∷ o) (sym (octets_of-number_of 1 bs len are)) }
 long_head m size lead bs two_more len are =
@@ -59,44 +59,17 @@ no_stop b beginning.Members t e = omega (arith, t, e)
 no_stop b (beginning.Bool false) t e = omega (arith, t, e)
 no_stop b (beginning.Bool true) t e = omega (arith, t, e)
 
-long_some : (m : Major) (left b : ℕ) → Long m left b → 1 ≤ left
+long_some : (m : Major) (left b : ℕ) → BeginsHead m left b → 1 ≤ left
 long_some m left b one_more = omega arith
 long_some m left b two_more = omega arith
 long_some m left b four_more = omega arith
 long_some m left b eight_more = omega arith
 
 module _ (limits : Limits) where
-  pub record InArgument (o : List ℕ) (p : Place) (at : ℕ) (m : Major) (left n : ℕ) : Type 0 where
-    pub before : List ℕ
-    pub lead : ℕ
-    pub came : List ℕ
-    pub size : ℕ
-    pub upto : Upto limits p before
-    pub ready : AdmitsHead limits p m
-    pub long : Long m size lead
-    pub parts : o ≡ before ++ (lead ∷ came)
-    pub at_is : at ≡ length before
-    pub len : length came + left ≡ size
-    pub some : 1 ≤ left
-    pub number : n ≡ number_of came
-    pub are : AreOctets came
-
-  pub record InContent (o : List ℕ) (p : Place) (at : ℕ) (kind : Kind) (left : ℕ) (s : List ℕ) : Type 0 where
-    pub before : List ℕ
-    pub h : List ℕ
-    pub all : ℕ
-    pub upto : Upto limits p before
-    pub ready : AdmitsHead limits p (String kind)
-    pub is : IsHead (major_of kind) all h
-    pub parts : o ≡ before ++ (h ++ s)
-    pub at_is : at ≡ length before
-    pub len : length s + left ≡ all
-    pub some : 1 ≤ left
-
   abbrev pub Holds : List ℕ → State → Type 0
   Holds o (due p) = Upto limits p o
-  Holds o (argument p at m left n) = InArgument o p at m left n
-  Holds o (content p at kind left s) = InContent o p at kind left s
+  Holds o (argument p at m left n) = InArgument limits o p at m left n
+  Holds o (content p at kind left s) = InContent limits o p at kind left s
   Holds o (whole t) = Spelling t o × (depth t ≤ limits.depth)
   Holds o (faulty k a) = Shows limits o k a
 
@@ -242,11 +215,11 @@ module _ (limits : Limits) where
       (λ bad. let P : ℕ → Type 0 = λ a. Shows limits (q ++ (h ++ s)) 7 a in subst P (sym e) (bad_part kind p q s h upto ready is bad))
 
   begun_string : (p : Place) (q : List ℕ) (kind : Kind) (n : ℕ) (h : List ℕ) → Upto limits p q → AdmitsHead limits p (String kind) → IsHead (major_of kind) n h
-      → Holds (q ++ h) (string_begun p (length q) kind n)
-  begun_string p q kind zero h upto ready is =
+      → length q + length h + n ≤ limits.octets → Holds (q ++ h) (string_begun p (length q) kind n)
+  begun_string p q kind zero h upto ready is room =
       moved (string_ended p (length q) kind []) (q ++ h) (q ++ (h ++ [])) (ap (λ (z : List ℕ). q ++ z) (sym (append-nil h))) (ended_holds p q kind [] h (length q) upto ready is refl)
-  begun_string p q kind (suc n) h upto ready is =
-      record { before = q; h = h; all = suc n; upto = upto; ready = ready; is = is; parts = ap (λ (z : List ℕ). q ++ z) (sym (append-nil h)); at_is = refl; len = omega arith; some = omega arith }
+  begun_string p q kind (suc n) h upto ready is room =
+      record { before = q; h = h; all = suc n; upto = upto; ready = ready; is = is; room = room; parts = ap (λ (z : List ℕ). q ++ z) (sym (append-nil h)); at_is = refl; len = omega arith; some = omega arith }
 
   -- heads
 
@@ -289,7 +262,7 @@ module _ (limits : Limits) where
   argued_holds p q h (String kind) n upto ready is =
       cond_both (nat_lt limits.octets (length q + length h + n)) _ _ (Holds (q ++ h))
       (λ e. long_string p q h kind n upto (head_admits p kind ready) is (ltb-true limits.octets (length q + length h + n) e))
-      (λ e. begun_string p q kind n h upto ready is)
+      (λ e. begun_string p q kind n h upto ready is (ltb-false limits.octets (length q + length h + n) e))
   argued_holds p q h Array n upto ready is =
       let one = no_string p Array array_not ready in
       moved (filled_array p (length q) (Some n) no_terms) (q ++ h) (q ++ (h ++ [])) (ap (λ (z : List ℕ). q ++ z) (sym (append-nil h)))
@@ -304,9 +277,9 @@ module _ (limits : Limits) where
   pub direct_head : (m : Major) (n b : ℕ) → (b ≡ 32 * number_of_major m + n) × (n < 24) → IsHead (number_of_major m) n (b ∷ [])
   direct_head m n b t = record { form = direct; fits = t.1; is = ap (λ (x : ℕ). x ∷ []) t.0 }
 
-  pub starts_argument : (p : Place) (q : List ℕ) (b : ℕ) (m : Major) (left : ℕ) → Upto limits p q → AdmitsHead limits p m → Long m left b → InArgument (q ++ b ∷ []) p (length q) m left 0
+  pub starts_argument : (p : Place) (q : List ℕ) (b : ℕ) (m : Major) (left : ℕ) → Upto limits p q → AdmitsHead limits p m → BeginsHead m left b → InArgument limits (q ++ b ∷ []) p (length q) m left 0
   starts_argument p q b m left upto ready long =
-      record { before = q; lead = b; came = []; size = left; upto = upto; ready = ready; long = long; parts = refl; at_is = refl; len = omega arith; some = long_some m left b long; number = refl; are = λ i. omega arith }
+      record { before = q; lead = b; came = []; size = left; upto = upto; ready = ready; begins = long; parts = refl; at_is = refl; len = omega arith; some = long_some m left b long; stand_for = refl; are = λ i. omega arith }
 
   opened_holds : (p : Place) (q : List ℕ) (b : ℕ) (x : Beginning) → Upto limits p q → Admits limits p 1 → Tells b (Item x) → Holds (q ++ b ∷ []) (opened limits (length q) p x)
   unfolding opened

@@ -20,7 +20,8 @@ use Rattle.cbor_det.specs.Machine.{State, due, argument, content, whole, faulty,
 use Rattle.cbor_det.proofs.Told.{Tells, tells}
 use Rattle.cbor_det.proofs.Shown.{long_tells}
 use Rattle.cbor_det.proofs.Completes.{string_depth, chunks_part, string_item, string_ends}
-use Rattle.cbor_det.proofs.Sound.{are_push, long_head, no_stop, InArgument, InContent, Holds, moved, give_holds, argued_holds, ended_holds, direct_head, starts_argument, item_holds}
+use Rattle.cbor_det.specs.Standing.{InArgument, InContent}
+use Rattle.cbor_det.proofs.Sound.{are_push, long_head, no_stop, Holds, moved, give_holds, argued_holds, ended_holds, direct_head, starts_argument, item_holds}
 
 same_is : (kind other : Kind) → same_kind kind other ≡ true → other ≡ kind
 same_is ByteString ByteString e = refl
@@ -145,11 +146,11 @@ module _ (limits : Limits) where
       let lp = length-append w.before (w.lead ∷ w.came) in
       let i : length w.before + length (w.lead ∷ (w.came ++ b ∷ [])) ≡ length o + 1 = omega (arith, l, lo, lp) in
       let held = argued_holds limits p w.before (w.lead ∷ (w.came ++ b ∷ [])) m (number_of (w.came ++ b ∷ [])) w.upto w.ready
-      (long_head m w.size w.lead (w.came ++ b ∷ []) w.long (let len = w.len in omega (arith, l, len)) (are_push w.came b w.are small)) in
+      (long_head m w.size w.lead (w.came ++ b ∷ []) w.begins (let len = w.len in omega (arith, l, len)) (are_push w.came b w.are small)) in
       let P : ℕ → Type 0 = λ k. Holds limits (o ++ b ∷ []) (argued limits k p (length w.before) m (number_of (w.came ++ b ∷ []))) in
       let Q : ℕ → Type 0 = λ a. Holds limits (o ++ b ∷ []) (argued limits (length o + 1) p a m (number_of (w.came ++ b ∷ []))) in
       let R : ℕ → Type 0 = λ k. Holds limits (o ++ b ∷ []) (argued limits (length o + 1) p at m k) in
-      subst R (sym (number_more w.came b n w.number)) (subst Q (sym w.at_is) (subst P i
+      subst R (sym (number_more w.came b n w.stand_for)) (subst Q (sym w.at_is) (subst P i
       (moved limits (argued limits (length w.before + length (w.lead ∷ (w.came ++ b ∷ []))) p (length w.before) m (number_of (w.came ++ b ∷ []))) (o ++ b ∷ []) (w.before ++ (w.lead ∷ (w.came ++ b ∷ []))) e held)))
 
   argument_goes : (o : List ℕ) (b : ℕ) (p : Place) (at : ℕ) (m : Major) (left n : ℕ) → b < 256 → InArgument limits o p at m (suc (suc left)) n
@@ -163,12 +164,12 @@ module _ (limits : Limits) where
         size = w.size;
         upto = w.upto;
         ready = w.ready;
-        long = w.long;
+        begins = w.begins;
         parts = ap (λ (z : List ℕ). z ++ b ∷ []) w.parts ∙ append_assoc w.before (w.lead ∷ w.came) (b ∷ []);
         at_is = w.at_is;
         len = (let len = w.len in omega (arith, l, len));
         some = omega arith;
-        number = number_more w.came b n w.number;
+        stand_for = number_more w.came b n w.stand_for;
         are = are_push w.came b w.are small;
       }
 
@@ -191,6 +192,7 @@ module _ (limits : Limits) where
         upto = w.upto;
         ready = w.ready;
         is = w.is;
+        room = w.room;
         parts = ap (λ (z : List ℕ). z ++ b ∷ []) w.parts ∙ append_assoc w.before (w.h ++ s) (b ∷ []) ∙ ap (λ (z : List ℕ). w.before ++ z) (append_assoc w.h s (b ∷ []));
         at_is = w.at_is;
         len = (let len = w.len in omega (arith, l, len));

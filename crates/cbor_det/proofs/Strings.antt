@@ -26,7 +26,8 @@ use Rattle.cbor_det.specs.Spelling.{string}
 use Rattle.cbor_det.specs.Held.{members_view, due_key}
 use Rattle.cbor_det.specs.Faults.{Place, top, at_chunk, at_element, at_key, at_value, at_content}
 use Rattle.cbor_det.specs.Machine.{State, due, faulty, give, is_part, string_given, string_ended, argued, filled_array, filled_map}
-use Rattle.cbor_det.specs.Frames.{inside, map_place, place, chunk_kind, chunk_joined}
+use Rattle.cbor_det.specs.Standing.{inside, map_place, place}
+use Rattle.cbor_det.specs.Frames.{chunk_kind, chunk_joined}
 use Rattle.cbor_det.proofs.Gives.{within_last, pushed_due, round, last_there, last_put}
 
 view_bytes : (s : List ℕ) → view (code.Bytes s) ≡ octets s

@@ -11,18 +11,12 @@ use Rattle.cbor_det.specs.declared.initial.Initial.{Initial}
 use Rattle.cbor_det.specs.declared.initial.Initial.TheVariants.{Item, Break, Float, Simple, Malformed}
 use Rattle.cbor_det.specs.Initial.{number_of_major, headed, headed_or, simple_or_float, of_type, initial_of}
 use Rattle.cbor_det.specs.Spelling.{stop, opening, major_of}
+use Rattle.cbor_det.specs.Standing.{BeginsHead, one_more, two_more, four_more, eight_more}
 use Rattle.cbor_det.specs.Faults.{IsReserved, IsNeverOpen, IsFloat, IsSimple, information}
-
--- the initial byte of a head whose argument has so many octets
-pub data Long (m : Major) : ℕ → ℕ → Type 0 where
-  one_more : Long m 1 (32 * number_of_major m + 24)
-  two_more : Long m 2 (32 * number_of_major m + 25)
-  four_more : Long m 4 (32 * number_of_major m + 26)
-  eight_more : Long m 8 (32 * number_of_major m + 27)
 
 abbrev pub Tells : ℕ → Initial → Type 0
 Tells b (Item (Argued m n)) = (b ≡ 32 * number_of_major m + n) × (n < 24)
-Tells b (Item (Argument m left)) = Long m left b
+Tells b (Item (Argument m left)) = BeginsHead m left b
 Tells b (Item (Chunks kind)) = b ≡ opening (major_of kind)
 Tells b (Item Elements) = b ≡ opening 4
 Tells b (Item Members) = b ≡ opening 5
@@ -33,8 +27,8 @@ Tells b Float = IsFloat b
 Tells b Simple = IsSimple b × (information b < 25)
 Tells b Malformed = IsReserved b ⊎ IsNeverOpen b ⊎ (256 ≤ b)
 
-long_at : (m : Major) (b n size k : ℕ) → b ≡ 32 * number_of_major m + n → n ≡ k → Long m size (32 * number_of_major m + k) → Long m size b
-long_at m b n size k is e long = let P : ℕ → Type 0 = λ x. Long m size x in subst P (sym (is ∙ ap (λ (x : ℕ). 32 * number_of_major m + x) e)) long
+long_at : (m : Major) (b n size k : ℕ) → b ≡ 32 * number_of_major m + n → n ≡ k → BeginsHead m size (32 * number_of_major m + k) → BeginsHead m size b
+long_at m b n size k is e long = let P : ℕ → Type 0 = λ x. BeginsHead m size x in subst P (sym (is ∙ ap (λ (x : ℕ). 32 * number_of_major m + x) e)) long
 
 rest_tells : (m : Major) (b n : ℕ) → b ≡ 32 * number_of_major m + n → n < 32 → (n < 31) ⊎ IsNeverOpen b → 24 ≤ n → (n ≡ 24 → ⊥) → (n ≡ 25 → ⊥) → (n ≡ 26 → ⊥) → (n ≡ 27 → ⊥)
     → IsReserved b ⊎ IsNeverOpen b ⊎ (256 ≤ b)

@@ -1,5 +1,5 @@
 -- The canonical spelling is a spelling, of one item alone.
-use Rattle.std.proofs.Common.{◌≡◌, ℕ, ◌+◌, ◌^◌, ◌<◌, ◌≤◌, List, [], ◌∷◌, ◌++◌, length, max, refl, sym, ap, ◌∙◌, arith, subst, true, false, append_assoc, length-append, pos, negsuc}
+use Rattle.std.proofs.Common.{◌≡◌, ℕ, ◌+◌, ◌^◌, ◌<◌, ◌≤◌, List, [], ◌++◌, length, max, refl, sym, ap, ◌∙◌, arith, subst, true, false, append_assoc, length-append, pos, negsuc}
 use Rattle.std.specs.Prelude.{nat_lt}
 use Rattle.std.proofs.lemmas.List.{append-nil, take_at}
 use Rattle.std.proofs.lemmas.Bool.{cond_both, ltb-true}
@@ -7,8 +7,8 @@ use Rattle.cbor_det.specs.declared.kind.Kind.{Kind}
 use Rattle.cbor_det.specs.declared.kind.Kind.TheVariants.{ByteString, TextString}
 use Rattle.cbor_det.specs.declared.limits.Limits.{Limits}
 use Rattle.cbor_det.specs.Term.{Term, Terms, Pairs, integer, octets, text, array, map, tagged, boolean, no_terms, term, no_pairs, pair, count, pair_count, plus, depth}
-use Rattle.cbor_det.specs.Canonical.{Form, direct, one, two, four, eight, bound, head, shortest, short_head, canon, canon_terms, canon_pairs}
-use Rattle.cbor_det.specs.Spelling.{IsHead, stop, major_of, IsPart, string, Chunks, no_chunks, chunk, PutsIn, here, later, Spelling, Series, PairSeries, unsigned, negative, definite_string, indefinite_string, definite_array, indefinite_array, definite_map, indefinite_map, under_tag, is_false, is_true, no_items, item, no_members, member}
+use Rattle.cbor_det.specs.Canonical.{Form, direct, one, two, four, eight, bound, shortest, short_head, canon, canon_terms, canon_pairs}
+use Rattle.cbor_det.specs.Spelling.{IsHead, IsPart, string, PutsIn, here, later, Spelling, Series, PairSeries, unsigned, negative, definite_string, indefinite_string, definite_array, indefinite_array, definite_map, indefinite_map, under_tag, is_false, is_true, no_items, item, no_members, member}
 use Rattle.cbor_det.specs.Faults.{top, Begins}
 use Rattle.cbor_det.specs.Proper.{IsProper, AreProper, ArePairsProper}
 use Rattle.cbor_det.specs.Machine.{due, whole, give, run}

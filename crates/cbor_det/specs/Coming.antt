@@ -7,7 +7,7 @@ use Rattle.cbor_det.specs.declared.limits.Limits.{Limits}
 use Rattle.cbor_det.specs.View.{view}
 use Rattle.cbor_det.specs.Faults.{Begins, IsFault, IsCut}
 use Rattle.cbor_det.specs.Frames.{Fits}
-use Rattle.cbor_det.specs.Pieces.{Stands}
+use Rattle.cbor_det.specs.Standing.{Stands}
 
 abbrev pub IsCame : Limits → List ℕ → List ℕ → List Frame → Came → Type 0
 IsCame limits before piece fs (came.More phase taken) = Stands limits fs phase taken (before ++ piece) × IsCut limits (before ++ piece)

@@ -10,7 +10,7 @@ use Rattle.cbor_det.specs.declared.frame.Frame.{Frame}
 use Rattle.cbor_det.specs.declared.limits.Limits.{Limits}
 use Rattle.cbor_det.specs.View.{view}
 use Rattle.cbor_det.specs.Faults.{Begins, IsFault, IsCut}
-use Rattle.cbor_det.specs.Pieces.{Stands}
+use Rattle.cbor_det.specs.Standing.{Stands}
 
 abbrev pub limits_of : CborFeed → Limits
 limits_of feed = feed.limits

@@ -1,39 +1,18 @@
--- The state of the machine as the code has it: frames, of which the last is the innermost, and what is read there.
-use Rattle.std.specs.Prelude.{◌≡◌, ◌<◌, ◌≤◌, ◌-◌, ◌^◌, ℕ, List, [], ◌∷◌, ◌++◌, map, Option, Some, None}
-use Rattle.cbor_det.specs.declared.frame.Frame.{Frame}
-use Rattle.cbor_det.specs.declared.frame.Frame.TheVariants as frame
+-- The state of the machine as the code has it, at the place of its frames, and what fits the types of the code.
+use Rattle.std.specs.Prelude.{◌≡◌, ◌<◌, ◌≤◌, ◌-◌, ◌^◌, ℕ, List, ◌++◌, Option, Some, None}
+use Rattle.std.specs.Coded.{Unit-prop, le_prop}
 use Rattle.cbor_det.specs.declared.frame.Phase.{Phase}
 use Rattle.cbor_det.specs.declared.frame.Phase.TheVariants as phase
 use Rattle.cbor_det.specs.declared.frame.Stepped.{Stepped}
 use Rattle.cbor_det.specs.declared.frame.Stepped.TheVariants as stepped
 use Rattle.cbor_det.specs.declared.kind.Kind.{Kind}
-use Rattle.cbor_det.specs.Term.{Term, Pairs}
-use Rattle.cbor_det.specs.View.{view, terms_of}
-use Rattle.cbor_det.specs.Held.{members_view, due_key}
-use Rattle.cbor_det.specs.Faults.{Place, top, at_chunk, at_element, at_key, at_value, at_content}
+use Rattle.cbor_det.specs.View.{view}
+use Rattle.cbor_det.specs.Faults.{Place, at_chunk}
 use Rattle.cbor_det.specs.declared.initial.Beginning.{Beginning}
 use Rattle.cbor_det.specs.declared.initial.Beginning.TheVariants as beginning
 use Rattle.cbor_det.specs.declared.initial.Initial.{Initial}
 use Rattle.cbor_det.specs.declared.initial.Initial.TheVariants as initial
 use Rattle.cbor_det.specs.Machine.{State, due, argument, content, whole, faulty, string_ended, broken}
-
--- A key is due in a map, or the value of this one.
-abbrev pub map_place : ℕ → Option ℕ → Pairs → Option Term → Place → Place
-map_place at all ps None p = at_key at all ps p
-map_place at all ps (Some k) p = at_value at all ps k p
-
-abbrev pub inside : Place → Frame → Place
-inside p (frame.Chunks at kind joined) = at_chunk at kind joined p
-inside p (frame.Elements at all items) = at_element at all (terms_of (map view items)) p
-inside p (frame.Map at all members) = map_place at all (members_view members) (due_key members) p
-inside p (frame.Content at number) = at_content at number p
-
-abbrev pub within : Place → List Frame → Place
-within p [] = p
-within p (f ∷ fs) = within (inside p f) fs
-
-abbrev pub place : List Frame → Place
-place fs = within top fs
 
 abbrev pub phase_state : Place → Phase → State
 phase_state p phase.Due = due p
@@ -101,3 +80,10 @@ BeginFits b = Unit {0}
 abbrev pub InitialFits : Initial → Type 0
 InitialFits (initial.Item b) = BeginFits b
 InitialFits x = Unit {0}
+
+-- What fits is known in one way.
+pub fits_prop : (p : Phase) → IsProp (Fits p)
+fits_prop phase.Due = Unit-prop
+fits_prop (phase.Head head) =
+    λ a b i. record { some = le_prop a.some b.some i; most = le_prop a.most b.most i; fits = le_prop a.fits b.fits i }
+fits_prop (phase.String string) = le_prop

@@ -4,7 +4,7 @@ use Rattle.cbor_det.specs.declared.give.Taken.{Taken}
 use Rattle.cbor_det.specs.declared.give.Taken.TheVariants as taken
 use Rattle.cbor_det.specs.View.{view}
 use Rattle.cbor_det.specs.Faults.{Place}
-use Rattle.cbor_det.specs.Frames.{inside}
+use Rattle.cbor_det.specs.Standing.{inside}
 use Rattle.cbor_det.specs.Machine.{State, due, faulty, give}
 
 abbrev pub taken_state : Place → Frame → Taken → State

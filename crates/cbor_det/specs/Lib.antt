@@ -11,7 +11,7 @@ pub mod Held
 pub mod Frames
 pub mod Giving
 pub mod Answers
-pub mod Pieces
+pub mod Standing
 pub mod Coming
 pub mod Feeding
 pub mod Laws

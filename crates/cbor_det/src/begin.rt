@@ -2,7 +2,8 @@
 
 ghost use Rattle.std.specs.Prelude.{◌≡◌, ◌<◌, ℕ, IfOk};
 ghost use Rattle.cbor_det.specs.Faults.{Place};
-ghost use Rattle.cbor_det.specs.Frames.{inside, place, state_of, StepFits, chunk_kind, low_kind, end_state, BeginFits};
+ghost use Rattle.cbor_det.specs.Standing.{inside, place};
+ghost use Rattle.cbor_det.specs.Frames.{state_of, StepFits, chunk_kind, low_kind, end_state, BeginFits};
 ghost use Rattle.cbor_det.specs.Machine.{begun, due, opened, step, string_head};
 ghost use Rattle.cbor_det.specs.declared.initial.Initial.TheVariants as initial;
 ghost use Rattle.cbor_det.specs.declared.initial.Beginning.TheVariants as beginning;

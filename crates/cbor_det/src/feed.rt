@@ -2,7 +2,7 @@
 
 ghost use Rattle.std.specs.Prelude.{◌≡◌, ◌≤◌, ◌^◌, ℕ, List, []};
 ghost use Rattle.cbor_det.specs.Frames.{Fits};
-ghost use Rattle.cbor_det.specs.Pieces.{fits_prop};
+ghost use Rattle.cbor_det.specs.Frames.{fits_prop};
 ghost use Rattle.cbor_det.specs.declared.fault.CborFault.{CborFault};
 ghost use Rattle.cbor_det.specs.declared.feed.CborFed.TheVariants as fed;
 
@@ -57,7 +57,7 @@ pub struct CborFeed {
 }
 
 impl CborFeed {
-    ghost use Rattle.cbor_det.specs.Pieces.{Stands};
+    ghost use Rattle.cbor_det.specs.Standing.{Stands};
     ghost use Rattle.cbor_det.specs.Feeding.{HasFailed, HasTaken, IsFed, IsMemory, IsReleased, IsSpent, limits_of};
 
     /// A feed of items within the limits. It takes no memory.

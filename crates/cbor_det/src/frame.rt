@@ -2,7 +2,7 @@
 
 ghost use Rattle.std.specs.Prelude.{◌≡◌, []};
 ghost use Rattle.cbor_det.specs.Faults.{Place, at_chunk, at_element, at_key};
-ghost use Rattle.cbor_det.specs.Frames.{inside};
+ghost use Rattle.cbor_det.specs.Standing.{inside};
 ghost use Rattle.cbor_det.specs.Term.{no_terms, no_pairs};
 
 use crate::fault::CborFault;

@@ -2,7 +2,8 @@
 
 ghost use Rattle.std.specs.Prelude.{◌≡◌, ℕ, map, IfOk};
 ghost use Rattle.cbor_det.specs.Faults.{Place, at_element};
-ghost use Rattle.cbor_det.specs.Frames.{inside, map_place, place, state_of, StepFits};
+ghost use Rattle.cbor_det.specs.Standing.{inside, map_place, place};
+ghost use Rattle.cbor_det.specs.Frames.{state_of, StepFits};
 ghost use Rattle.cbor_det.specs.Giving.{taken_state};
 ghost use Rattle.cbor_det.specs.Machine.{due, give, is_full};
 ghost use Rattle.cbor_det.specs.Held.{due_key, members_view};

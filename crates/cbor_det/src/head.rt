@@ -1,7 +1,8 @@
 //! Heads with their arguments.
 
 ghost use Rattle.std.specs.Prelude.{◌≡◌, ◌≤◌, IfOk};
-ghost use Rattle.cbor_det.specs.Frames.{place, state_of, StepFits};
+ghost use Rattle.cbor_det.specs.Standing.{place};
+ghost use Rattle.cbor_det.specs.Frames.{state_of, StepFits};
 ghost use Rattle.cbor_det.specs.Machine.{argued, filled_array, filled_map};
 ghost use Rattle.cbor_det.specs.Term.{no_terms, no_pairs};
 ghost use Rattle.cbor_det.specs.declared.initial.Major.TheVariants as major;

@@ -8,9 +8,9 @@
 //! `proper`) are there for other callers.
 //!
 //! The words of these clauses are in `specs/`: `Term` and `View` (items), `Canonical`, `Spelling` and `Proper`, `Faults`, `Answers`
-//! (of a reader), `Feeding` (of a feed), `Lookup` and `Adding` (of pairs), `Laws`. The others are the private means of proof: where
-//! a feed stands (`Pieces`) is told by the machine of `Machine` and `Frames`, which the laws in `proofs/` tie to `Spelling` and
-//! `Faults`.
+//! (of a reader), `Standing` and `Feeding` (of a feed: where a reader stands, by the octets that were taken), `Lookup` and `Adding`
+//! (of pairs), `Laws`. The others are the private means of proof: the machine of `Machine` and `Frames`, which the code follows and
+//! the laws in `proofs/` tie to `Spelling`, `Faults` and `Standing` in both directions.
 #![tactic(auto)]
 
 mod begin;

@@ -2,7 +2,7 @@
 
 ghost use Rattle.std.specs.Prelude.{◌≡◌, ◌≤◌, ◌^◌, ℕ, List, IfOk};
 ghost use Rattle.cbor_det.specs.Frames.{Fits};
-ghost use Rattle.cbor_det.specs.Pieces.{Stands};
+ghost use Rattle.cbor_det.specs.Standing.{Stands};
 ghost use Rattle.cbor_det.specs.Coming.{IsCame, CameFits};
 
 use crate::fault::{CborFault, TOO_LONG};

@@ -2,7 +2,8 @@
 
 ghost use Rattle.std.specs.Prelude.{◌≡◌, ◌+◌, ◌++◌, ◌^◌, ◌<◌, ◌≤◌, ℕ, List, IfOk, drop, length};
 ghost use Rattle.cbor_det.specs.declared.limits.Limits.{Limits};
-ghost use Rattle.cbor_det.specs.Frames.{place, state_of, phase_state, ArgumentFits, Fits, StepFits, EndsBehindSome, Takes};
+ghost use Rattle.cbor_det.specs.Standing.{place};
+ghost use Rattle.cbor_det.specs.Frames.{state_of, phase_state, ArgumentFits, Fits, StepFits, EndsBehindSome, Takes};
 ghost use Rattle.cbor_det.specs.Machine.{argument, content, run, step};
 
 use crate::begin::begun;

@@ -3,7 +3,8 @@
 ghost use Rattle.std.specs.Prelude.{◌≡◌, ◌≢◌, IfOk, OnOk, MatchOption, false, true, None};
 ghost use Rattle.std.specs.Str.{is_utf8};
 ghost use Rattle.cbor_det.specs.Faults.{Place};
-ghost use Rattle.cbor_det.specs.Frames.{inside, place, state_of, StepFits, chunk_kind, chunk_joined};
+ghost use Rattle.cbor_det.specs.Standing.{inside, place};
+ghost use Rattle.cbor_det.specs.Frames.{state_of, StepFits, chunk_kind, chunk_joined};
 ghost use Rattle.cbor_det.specs.Machine.{string_ended, is_part};
 
 use crate::begin::chunk_due;

@@ -2,7 +2,8 @@
 use Rattle.std.proofs.Common.{ap, ◌∙◌, List, arith}
 use Rattle.std.proofs.lemmas.Result.{IfOk-weaker}
 use Rattle.cbor_det.specs.declared.frame.Frame.{Frame}
-use Rattle.cbor_det.specs.Frames.{place, chunk_kind}
+use Rattle.cbor_det.specs.Standing.{place}
+use Rattle.cbor_det.specs.Frames.{chunk_kind}
 use Rattle.cbor_det.proofs.Begins.{chunk_opens, chunk_stops, item_opens, item_deep}
 use Rattle.cbor_det.proofs.begin.begin.Goals as goal
 

@@ -1,7 +1,7 @@
 -- Each initial byte, as the machine takes it.
 use Rattle.std.proofs.Common.{refl, ◌∙◌}
 use Rattle.std.proofs.lemmas.Result.{IfOk-weaker}
-use Rattle.cbor_det.specs.Frames.{place}
+use Rattle.cbor_det.specs.Standing.{place}
 use Rattle.cbor_det.proofs.Begins.{break_is, float_begun, simple_begun, malformed_begun, fits_at}
 use Rattle.cbor_det.proofs.Runs.{due_begins}
 use Rattle.cbor_det.proofs.begin.begun.Goals as goal

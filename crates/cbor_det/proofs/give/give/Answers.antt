@@ -2,7 +2,7 @@
 use Rattle.std.proofs.Common.{List, ℕ, ◌-◌, ap, ◌∙◌, arith}
 use Rattle.std.proofs.lemmas.List.{nil_from_length}
 use Rattle.cbor_det.specs.declared.frame.Frame.{Frame}
-use Rattle.cbor_det.specs.Frames.{place}
+use Rattle.cbor_det.specs.Standing.{place}
 use Rattle.cbor_det.specs.Machine.{give}
 use Rattle.cbor_det.specs.View.{view}
 use Rattle.cbor_det.proofs.Gives.{popped, pushed_due, none_left, round, last_there, last_put, last_left}

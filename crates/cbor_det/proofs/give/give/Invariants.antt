@@ -2,7 +2,7 @@
 use Rattle.std.proofs.Common.{◌≡◌, length}
 use Rattle.cbor_det.specs.Machine.{give}
 use Rattle.cbor_det.specs.View.{view}
-use Rattle.cbor_det.specs.Frames.{place}
+use Rattle.cbor_det.specs.Standing.{place}
 use Rattle.cbor_det.proofs.give.give.Given as goal
 
 abbrev pub invariant-loop-frame : goal.invariant-loop-frame

@@ -1,7 +1,7 @@
 -- Each construct takes the item as the machine does.
 use Rattle.std.proofs.Common.{ap, sym, ◌∙◌}
 use Rattle.cbor_det.specs.declared.frame.Frame.{Frame}
-use Rattle.cbor_det.specs.Frames.{inside}
+use Rattle.cbor_det.specs.Standing.{inside}
 use Rattle.cbor_det.specs.Machine.{give}
 use Rattle.cbor_det.specs.View.{view}
 use Rattle.cbor_det.proofs.Gives.{chunk_refused, content_ends}

@@ -1,5 +1,4 @@
 -- Integers of one sign.
-use Rattle.std.proofs.Common.{arith}
 use Rattle.cbor_det.proofs.Integers.{above_from_zero, above_below_zero}
 use Rattle.cbor_det.proofs.key_order.is_number_above.Goals as goal
 

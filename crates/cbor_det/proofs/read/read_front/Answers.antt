@@ -1,6 +1,6 @@
 -- What the run over the front says of the octets.
 use Rattle.std.proofs.Common.{inl, arith}
-use Rattle.cbor_det.specs.Frames.{place}
+use Rattle.cbor_det.specs.Standing.{place}
 use Rattle.cbor_det.proofs.Fed.{phase_goes}
 use Rattle.cbor_det.proofs.Refusals.{found_at, fault_at, open_at}
 use Rattle.cbor_det.proofs.read.read_front.Goals as goal

@@ -3,7 +3,8 @@ use Rattle.std.proofs.Common.{ap, ◌∙◌, refl, get_or, ◌++◌}
 use Rattle.std.proofs.lemmas.Result.{IfOk-weaker}
 use Rattle.cbor_det.specs.declared.frame.Phase.{Phase}
 use Rattle.cbor_det.specs.Machine.{run}
-use Rattle.cbor_det.specs.Frames.{place, phase_state}
+use Rattle.cbor_det.specs.Standing.{place}
+use Rattle.cbor_det.specs.Frames.{phase_state}
 use Rattle.cbor_det.proofs.Runs.{due_step}
 use Rattle.cbor_det.proofs.step.advance.Goals as goal
 

@@ -1,7 +1,8 @@
 -- An octet of an argument.
 use Rattle.std.proofs.Common.{◌<◌, ◌-◌, arith, ap, ◌∙◌, ℕ, ◌+◌, ◌*◌, subst, sym}
 use Rattle.std.proofs.lemmas.Result.{IfOk-weaker}
-use Rattle.cbor_det.specs.Frames.{place, ArgumentFits}
+use Rattle.cbor_det.specs.Standing.{place}
+use Rattle.cbor_det.specs.Frames.{ArgumentFits}
 use Rattle.cbor_det.specs.Machine.{argued, argument}
 use Rattle.cbor_det.proofs.Runs.{argue_fits, argue_next, argue_ends, argue_goes}
 use Rattle.cbor_det.proofs.step.argue.Goals as goal

@@ -1,7 +1,8 @@
 -- What was read, and what is left of the piece, are the whole run.
 use Rattle.std.proofs.Common.{◌≡◌, ◌+◌, ◌-◌, ◌≤◌, length, drop}
 use Rattle.cbor_det.specs.Machine.{run}
-use Rattle.cbor_det.specs.Frames.{place, phase_state, Fits}
+use Rattle.cbor_det.specs.Standing.{place}
+use Rattle.cbor_det.specs.Frames.{phase_state, Fits}
 use Rattle.cbor_det.proofs.step.run_piece.Given as goal
 
 abbrev pub invariant-loop-used : goal.invariant-loop-used

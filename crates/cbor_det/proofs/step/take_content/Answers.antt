@@ -1,7 +1,7 @@
 -- A part of a string, or all that was left of it.
 use Rattle.std.proofs.Common.{◌≡◌, ◌<◌, length, arith}
 use Rattle.std.proofs.lemmas.Result.{IfOk-weaker}
-use Rattle.cbor_det.specs.Frames.{place}
+use Rattle.cbor_det.specs.Standing.{place}
 use Rattle.cbor_det.proofs.Runs.{string_stops, string_goes}
 use Rattle.cbor_det.proofs.step.take_content.Goals as goal
 

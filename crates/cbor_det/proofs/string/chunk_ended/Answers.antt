@@ -1,5 +1,5 @@
 -- A chunk by itself, and behind the others.
-use Rattle.cbor_det.specs.Frames.{place}
+use Rattle.cbor_det.specs.Standing.{place}
 use Rattle.cbor_det.proofs.Strings.{bad, chunk_put}
 use Rattle.cbor_det.proofs.string.chunk_ended.Goals as goal
 

@@ -1,5 +1,5 @@
 -- A string that is an item.
-use Rattle.cbor_det.specs.Frames.{place}
+use Rattle.cbor_det.specs.Standing.{place}
 use Rattle.std.proofs.lemmas.Result.{IfOk-weaker}
 use Rattle.cbor_det.proofs.Strings.{bytes_item, text_item, text_bad}
 use Rattle.cbor_det.proofs.string.string_item.Goals as goal
