@@ -53,7 +53,9 @@ attributes supported (suc room) at octets = one_more (attributes supported room)
 abbrev pub is_error : PlacedAttr → Bool
 is_error placed = (placed.attr.vendor == IETF) && (placed.attr.kind == ERROR)
 
--- The sender is told of a fault behind these attributes: none of them is a PA-TNC Error.
+-- Which faults are answered: no Error answers an Error (RFC 5792, section 4.2.8). The sender is told of a fault of the framing behind
+-- these attributes, and of one in a value where these are all that the message has, where none of them is a PA-TNC Error.
+-- A fault of the message's own header is always told.
 abbrev pub is_answered : List PlacedAttr → Bool
 is_answered attrs = not (list_any is_error attrs)
 

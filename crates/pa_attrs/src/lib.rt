@@ -29,7 +29,7 @@ pub use numbers::{
     SWIMA_SUBSCRIPTION_DENIED_ERROR, SWIMA_SUBSCRIPTION_FULFILLMENT_ERROR,
     SWIMA_SUBSCRIPTION_ID_REUSE_ERROR, UNSUPPORTED_ATTRIBUTE, VERSION_NOT_SUPPORTED,
 };
-pub use read::{PaRead, read_message};
+pub use read::{PaRead, is_value_fault_answered, read_message};
 pub use write::write_message;
 
 #[cfg(test)]

@@ -1,8 +1,9 @@
 //! Reading messages.
 
 ghost use Rattle.std.specs.Prelude.{◌≡◌, ◌==◌, ◌&&◌, not, ◌≤◌, ◌+◌, ◌∷◌, ◌++◌, ◌<◌, ◌^◌, [], drop, length, filter, OnOk, OnErr, IfOk};
+ghost use Rattle.std.specs.List.{list_any};
 ghost use Rattle.pa_attrs.specs.Header.{attr_of, header_of};
-ghost use Rattle.pa_attrs.specs.MessageReading.{Answers, Reads, attributes, attrs_of, fault_of, first_octets, first_told, is_error, message_of, placed, supports};
+ghost use Rattle.pa_attrs.specs.MessageReading.{Answers, Reads, attributes, attrs_of, fault_of, first_octets, first_told, is_answered, is_error, message_of, placed, supports};
 ghost use Rattle.pa_attrs.specs.Numbers.{ERROR as ERROR_TYPE, HEADER, IETF as IETF_VENDOR, MESSAGE_HEADER, MOST_OCTETS};
 
 use crate::attr::{Attr, PlacedAttr, PlacedAttrs};
@@ -139,6 +140,26 @@ fn is_still_answered(answer: bool, header: Header) -> bool
     ensures answer { result ≡ answer && not ((header.vendor == IETF_VENDOR) && (header.kind == ERROR_TYPE)) }
 {
     answer && !(header.vendor == IETF && header.kind == ERROR)
+}
+
+/// Whether the sender is told of a fault in the value of an attribute, where these are all attributes of its message: none of
+/// them is a PA-TNC Error, since no Error answers an Error (RFC 5792, section 4.2.8). It takes no memory.
+pub fn is_value_fault_answered(attrs: &[PlacedAttr]) -> bool
+    ensures answered { result ≡ is_answered attrs.now }
+{
+    !has_error(attrs)
+}
+
+/// Whether one of the attributes is a PA-TNC Error.
+fn has_error(attrs: &[PlacedAttr]) -> bool
+    ensures error { result ≡ list_any is_error attrs.now }
+{
+    for placed in attrs {
+        if placed.attr.vendor == IETF && placed.attr.kind == ERROR {
+            return true;
+        }
+    }
+    false
 }
 
 /// The fault of a message, of an attribute that begins with `rest` at `at`.

@@ -251,6 +251,34 @@ fn a_message_is_read(rt: HostRuntime) {
     assert!(rt; second.attr.value.is_empty());
 }
 
+/// Whether a fault in a value of the message that two pieces make is answered, where Errors are supported.
+fn is_told_of_values(alloc: Global, first: &[u8], second: &[u8]) -> Option<bool> {
+    let Ok(octets) = message_of(alloc, first, second) else {
+        return None;
+    };
+    if 4096 < octets.len() {
+        return None;
+    }
+    match read_message(alloc, octets.as_slice(), &[ERROR, 18]) {
+        PaRead::Ok { attrs, .. } => Some(is_value_fault_answered(attrs.as_slice())),
+        PaRead::Refused(_) => None,
+        PaRead::Memory => None,
+    }
+}
+
+/// An attribute of another vendor, with the number of a PA-TNC Error as its type.
+const OTHER: [u8; 12] = [0, 0, 0, 1, 0, 0, 0, 8, 0, 0, 0, 12];
+
+#[test]
+fn no_error_answers_an_error(rt: HostRuntime) {
+    let alloc = rt.alloc();
+    assert_eq!(rt; is_told_of_values(alloc, &[], &[]), Some(true));
+    assert_eq!(rt; is_told_of_values(alloc, &GOOD, &GOOD), Some(true));
+    assert_eq!(rt; is_told_of_values(alloc, &GOOD, &OTHER), Some(true));
+    assert_eq!(rt; is_told_of_values(alloc, &TOLD, &GOOD), Some(false));
+    assert_eq!(rt; is_told_of_values(alloc, &GOOD, &TOLD), Some(false));
+}
+
 /// The header of an attribute of type 14 with 4000 octets as its value.
 const LONG: [u8; 12] = [0, 0, 0, 0, 0, 0, 0, 14, 0, 0, 0x0f, 0xac];
 
