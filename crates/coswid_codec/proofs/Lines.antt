@@ -6,15 +6,15 @@ use Rattle.cbor_det.specs.Term.{Term, Pairs, integer, octets, text, array, map, 
 use Rattle.coswid_res.specs.Fault.{or_else, absent, missing, field_fault}
 use Rattle.coswid_res.specs.Reading.{value_fault, line_fault, lines_fault, keys_fault}
 use Rattle.coswid_res.specs.Schema.{Name, table, Line, Field, one, a_map, required, optional, required_keys}
-use Rattle.coswid_res.specs.Words.{Agree, Required, Optional, IsMap}
+use Rattle.coswid_res.specs.Words.{Agree, RequiredAt, OptionalAt, IsMap}
 use Rattle.coswid_res.proofs.Maps.{or_none, map_told}
 use Rattle.coswid_codec.proofs.Lawful.{Told, Lawful, MapTold, MapLawful, next, next_less, under_none, wrong}
 use Rattle.coswid_codec.proofs.Tables.{there, agree_told}
 
 -- read again from what is written
 
-pub required_again : {A : Type 0} {field : Field} {Is : A → Term → Type 0} {item : A → Term} {most : ℕ} (k : ℕ) (v : A) (ps qs : Pairs) → Lawful field Is item most → Required k Is v ps
-    → value_under k qs ≡ Some (item v) → Required k Is v qs
+pub required_again : {A : Type 0} {field : Field} {Is : A → Term → Type 0} {item : A → Term} {most : ℕ} (k : ℕ) (v : A) (ps qs : Pairs) → Lawful field Is item most → RequiredAt k Is v ps
+    → value_under k qs ≡ Some (item v) → RequiredAt k Is v qs
 required_again {field} {Is} {item} {most} k v ps qs law is e =
     let at = there Is v (value_under k ps) is in
     let P : Option Term → Type 0 = λ o. Agree Is (Some v) o in
@@ -28,8 +28,8 @@ again_by field Is item most (Some v) (Some t) told = told.again
 again_by field Is item most None (Some t) told = absurd told
 again_by field Is item most (Some v) None told = absurd told
 
-pub optional_again : {A : Type 0} {field : Field} {Is : A → Term → Type 0} {item : A → Term} {most : ℕ} (k : ℕ) (x : Option A) (ps qs : Pairs) → Lawful field Is item most → Optional k Is x ps
-    → value_under k qs ≡ option_map item x → Optional k Is x qs
+pub optional_again : {A : Type 0} {field : Field} {Is : A → Term → Type 0} {item : A → Term} {most : ℕ} (k : ℕ) (x : Option A) (ps qs : Pairs) → Lawful field Is item most → OptionalAt k Is x ps
+    → value_under k qs ≡ option_map item x → OptionalAt k Is x qs
 optional_again {field} {Is} {item} {most} k x ps qs law is e =
     let P : Option Term → Type 0 = λ o. Agree Is x o in
     subst P (sym e) (again_by field Is item most x (value_under k ps) (agree_told field Is item most x (value_under k ps) law is))
@@ -44,11 +44,11 @@ agree_same (Some v) y None law first second = absurd first
 agree_same None (Some w) None law first second = absurd second
 agree_same (Some v) None (Some t) law first second = absurd second
 
-pub required_same : {A : Type 0} {field : Field} {Is : A → Term → Type 0} {item : A → Term} {most : ℕ} (k : ℕ) (v w : A) (ps : Pairs) → Lawful field Is item most → Required k Is v ps → Required k Is w ps
+pub required_same : {A : Type 0} {field : Field} {Is : A → Term → Type 0} {item : A → Term} {most : ℕ} (k : ℕ) (v w : A) (ps : Pairs) → Lawful field Is item most → RequiredAt k Is v ps → RequiredAt k Is w ps
     → v ≡ w
 required_same k v w ps law first second = let e : Some v ≡ Some w = agree_same (Some v) (Some w) (value_under k ps) law first second in cc
 
-pub optional_same : {A : Type 0} {field : Field} {Is : A → Term → Type 0} {item : A → Term} {most : ℕ} (k : ℕ) (x y : Option A) (ps : Pairs) → Lawful field Is item most → Optional k Is x ps → Optional k Is y ps
+pub optional_same : {A : Type 0} {field : Field} {Is : A → Term → Type 0} {item : A → Term} {most : ℕ} (k : ℕ) (x y : Option A) (ps : Pairs) → Lawful field Is item most → OptionalAt k Is x ps → OptionalAt k Is y ps
     → x ≡ y
 optional_same k x y ps law first second = agree_same x y (value_under k ps) law first second
 
@@ -71,7 +71,7 @@ required_by field Is item most k (Some t) law none = law.some t (under_none k (f
 required_by field Is item most k None law none = absurd cc
 
 pub required_some : {A : Type 0} {field : Field} {Is : A → Term → Type 0} {item : A → Term} {most : ℕ} (k : ℕ) (ps : Pairs) → Lawful field Is item most → line_fault (required k field) ps ≡ None
-    → (v : A) × Required k Is v ps
+    → (v : A) × RequiredAt k Is v ps
 required_some {field} {Is} {item} {most} k ps law none = required_by field Is item most k (value_under k ps) law none
 
 some_by : {A : Type 0} (field : Field) (Is : A → Term → Type 0) (item : A → Term) (most k : ℕ) (o : Option Term) → Lawful field Is item most → value_fault k field o ≡ None
@@ -80,7 +80,7 @@ some_by field Is item most k None law none = (None, tt)
 some_by field Is item most k (Some t) law none = let found = law.some t (under_none k (field_fault field t) none) in (Some found.0, found.1)
 
 pub optional_some : {A : Type 0} {field : Field} {Is : A → Term → Type 0} {item : A → Term} {most : ℕ} (k : ℕ) (ps : Pairs) → Lawful field Is item most → line_fault (optional k field) ps ≡ None
-    → (x : Option A) × Optional k Is x ps
+    → (x : Option A) × OptionalAt k Is x ps
 optional_some {field} {Is} {item} {most} k ps law none = some_by field Is item most k (value_under k ps) law none
 
 -- A map is read and written by its pairs.

@@ -13,10 +13,10 @@ use Rattle.cbor_det.proofs.Counts.{most, pairs_most}
 use Rattle.cbor_det.proofs.Order.{key_cmp, below_trans}
 use Rattle.coswid_res.specs.declared.fault.FormFault.{FormFault}
 use Rattle.coswid_res.specs.Fault.{or_else, under, absent, missing}
-use Rattle.coswid_res.specs.Items.{required_pair, optional_pair, put_all}
+use Rattle.coswid_res.specs.Items.{required_pair_at, optional_pair_at, put_all}
 use Rattle.coswid_res.specs.Reading.{value_fault, line_fault, lines_fault, keys_fault}
 use Rattle.coswid_res.specs.Schema.{Name, tag, entity, link, software_meta, payload, evidence, directory, path_elements, file, process, resource, table, Line, Field, required, optional, key_of, keys_of, required_keys}
-use Rattle.coswid_res.specs.Words.{Agree, Required, Optional}
+use Rattle.coswid_res.specs.Words.{Agree, RequiredAt, OptionalAt}
 use Rattle.coswid_res.proofs.Maps.{or_none}
 use Rattle.coswid_codec.proofs.Fields.{number, found_by, under_other, under_this, others_put, others_again, others_none, put_proper, put_within}
 use Rattle.coswid_codec.proofs.Lawful.{Told, Lawful}
@@ -27,10 +27,10 @@ abbrev pub Entry : Type 0
 Entry = (Pairs → Pairs) × Option Term
 
 abbrev pub required_entry : {A : Type 0} → ℕ → (A → Term) → A → Entry
-required_entry k item v = (required_pair k item v, Some (item v))
+required_entry k item v = (required_pair_at k item v, Some (item v))
 
 abbrev pub optional_entry : {A : Type 0} → ℕ → (A → Term) → Option A → Entry
-optional_entry k item x = (optional_pair k item x, option_map item x)
+optional_entry k item x = (optional_pair_at k item x, option_map item x)
 
 abbrev pub fills : List Entry → List (Pairs → Pairs)
 fills [] = []
@@ -76,7 +76,7 @@ under_within k (pair l w ps) t n e deep =
     ]
 
 pub required_fact : {A : Type 0} {field : Field} {Is : A → Term → Type 0} {item : A → Term} {most : ℕ} (least k : ℕ) (v : A) (ps : Pairs) → Lawful field Is item most → most ≤ least
-    → Required k Is v ps → Fact (required k field) (required_entry k item v) least ps
+    → RequiredAt k Is v ps → Fact (required k field) (required_entry k item v) least ps
 required_fact {field} {Is} {item} {most} least k v ps law le is =
     let at = there Is v (value_under k ps) is in
     let told = law.told v at.0 at.2 in
@@ -121,7 +121,7 @@ agree_told field Is item most None (Some t) law is = absurd is
 agree_told field Is item most (Some v) None law is = absurd is
 
 pub optional_fact : {A : Type 0} {field : Field} {Is : A → Term → Type 0} {item : A → Term} {most : ℕ} (least k : ℕ) (x : Option A) (ps : Pairs) → Lawful field Is item most → most ≤ least
-    → Optional k Is x ps → Fact (optional k field) (optional_entry k item x) least ps
+    → OptionalAt k Is x ps → Fact (optional k field) (optional_entry k item x) least ps
 optional_fact {field} {Is} {item} {most} least k x ps law le is = told_fact field Is item most least k x ps le (agree_told field Is item most x (value_under k ps) law is)
 
 -- No line has a fault.

@@ -3,6 +3,7 @@ use Rattle.std.specs.Prelude.{List, [], ◌∷◌, map as map_list}
 use Rattle.cbor_det.specs.Term.{Term, Pairs, integer, octets, text, map, tagged, boolean}
 use Rattle.cbor_det.specs.View.{pairs_view}
 use Rattle.coswid_res.specs.Items.{uri_item, hash_item, row_item, required_pair, optional_pair, put_all}
+use Rattle.coswid_res.specs.Keys as keys
 use Rattle.coswid_res.specs.ResourceItems.{payload_item, evidence_item}
 use Rattle.coswid_tag.specs.declared.entity.Entity.{Entity}
 use Rattle.coswid_tag.specs.declared.link.LinkEntry.{LinkEntry}
@@ -28,10 +29,10 @@ codes_item cs = row_item (map_list code_item cs)
 abbrev pub entity_pairs : Entity → Pairs
 entity_pairs e =
     put_all (
-    required_pair 31 text e.entity_name
-    ∷ optional_pair 32 uri_item e.reg_id
-    ∷ required_pair 33 codes_item e.role
-    ∷ optional_pair 34 hash_item e.thumbprint
+    required_pair keys.entity_name text e.entity_name
+    ∷ optional_pair keys.reg_id uri_item e.reg_id
+    ∷ required_pair keys.role codes_item e.role
+    ∷ optional_pair keys.thumbprint hash_item e.thumbprint
     ∷ []) (pairs_view e.extras)
 
 abbrev pub entities_item : List Entity → Term
@@ -40,13 +41,13 @@ entities_item es = row_item (map_list (λ e. map (entity_pairs e)) es)
 abbrev pub link_pairs : LinkEntry → Pairs
 link_pairs l =
     put_all (
-    optional_pair 10 text l.media
-    ∷ optional_pair 37 text l.artifact
-    ∷ required_pair 38 uri_item l.href
-    ∷ optional_pair 39 code_item l.ownership
-    ∷ required_pair 40 code_item l.rel
-    ∷ optional_pair 41 text l.media_type
-    ∷ optional_pair 42 code_item l.link_use
+    optional_pair keys.media text l.media
+    ∷ optional_pair keys.artifact text l.artifact
+    ∷ required_pair keys.href uri_item l.href
+    ∷ optional_pair keys.ownership code_item l.ownership
+    ∷ required_pair keys.rel code_item l.rel
+    ∷ optional_pair keys.media_type text l.media_type
+    ∷ optional_pair keys.link_use code_item l.link_use
     ∷ []) (pairs_view l.extras)
 
 abbrev pub links_item : List LinkEntry → Term
@@ -55,21 +56,21 @@ links_item ls = row_item (map_list (λ l. map (link_pairs l)) ls)
 abbrev pub meta_pairs : SoftwareMeta → Pairs
 meta_pairs m =
     put_all (
-    optional_pair 43 text m.activation_status
-    ∷ optional_pair 44 text m.channel_type
-    ∷ optional_pair 45 text m.colloquial_version
-    ∷ optional_pair 46 text m.description
-    ∷ optional_pair 47 text m.edition
-    ∷ optional_pair 48 boolean m.entitlement_data_required
-    ∷ optional_pair 49 text m.entitlement_key
-    ∷ optional_pair 50 identifier_item m.generator
-    ∷ optional_pair 51 text m.persistent_id
-    ∷ optional_pair 52 text m.product
-    ∷ optional_pair 53 text m.product_family
-    ∷ optional_pair 54 text m.revision
-    ∷ optional_pair 55 text m.summary
-    ∷ optional_pair 56 text m.unspsc_code
-    ∷ optional_pair 57 text m.unspsc_version
+    optional_pair keys.activation_status text m.activation_status
+    ∷ optional_pair keys.channel_type text m.channel_type
+    ∷ optional_pair keys.colloquial_version text m.colloquial_version
+    ∷ optional_pair keys.description text m.description
+    ∷ optional_pair keys.edition text m.edition
+    ∷ optional_pair keys.entitlement_data_required boolean m.entitlement_data_required
+    ∷ optional_pair keys.entitlement_key text m.entitlement_key
+    ∷ optional_pair keys.generator identifier_item m.generator
+    ∷ optional_pair keys.persistent_id text m.persistent_id
+    ∷ optional_pair keys.product text m.product
+    ∷ optional_pair keys.product_family text m.product_family
+    ∷ optional_pair keys.revision text m.revision
+    ∷ optional_pair keys.summary text m.summary
+    ∷ optional_pair keys.unspsc_code text m.unspsc_code
+    ∷ optional_pair keys.unspsc_version text m.unspsc_version
     ∷ []) (pairs_view m.extras)
 
 abbrev pub metas_item : List SoftwareMeta → Term
@@ -78,21 +79,21 @@ metas_item ms = row_item (map_list (λ m. map (meta_pairs m)) ms)
 abbrev pub tag_pairs : Tag → Pairs
 tag_pairs g =
     put_all (
-    required_pair 0 identifier_item g.tag_id
-    ∷ required_pair 1 text g.software_name
-    ∷ required_pair 2 entities_item g.entity
-    ∷ optional_pair 3 evidence_item g.evidence
-    ∷ optional_pair 4 links_item g.link
-    ∷ optional_pair 5 metas_item g.software_meta
-    ∷ optional_pair 6 payload_item g.payload
-    ∷ optional_pair 8 boolean g.corpus
-    ∷ optional_pair 9 boolean g.patch
-    ∷ optional_pair 10 text g.media
-    ∷ optional_pair 11 boolean g.supplemental
-    ∷ required_pair 12 integer g.tag_version
-    ∷ optional_pair 13 text g.software_version
-    ∷ optional_pair 14 code_item g.version_scheme
-    ∷ optional_pair 15 text g.lang
+    required_pair keys.tag_id identifier_item g.tag_id
+    ∷ required_pair keys.software_name text g.software_name
+    ∷ required_pair keys.entity entities_item g.entity
+    ∷ optional_pair keys.evidence evidence_item g.evidence
+    ∷ optional_pair keys.link links_item g.link
+    ∷ optional_pair keys.software_meta metas_item g.software_meta
+    ∷ optional_pair keys.payload payload_item g.payload
+    ∷ optional_pair keys.corpus boolean g.corpus
+    ∷ optional_pair keys.patch boolean g.patch
+    ∷ optional_pair keys.media text g.media
+    ∷ optional_pair keys.supplemental boolean g.supplemental
+    ∷ required_pair keys.tag_version integer g.tag_version
+    ∷ optional_pair keys.software_version text g.software_version
+    ∷ optional_pair keys.version_scheme code_item g.version_scheme
+    ∷ optional_pair keys.lang text g.lang
     ∷ []) (pairs_view g.extras)
 
 abbrev pub tag_item : Tag → Term

@@ -3,6 +3,8 @@
 use Rattle.std.specs.Prelude.{ℕ, ◌==◌, Option, Some, None, Bool, false, not, ◌&&◌, is_some, nat_le, if◌then◌else◌}
 use Rattle.cbor_det.specs.Term.{Term, map, tagged, depth}
 use Rattle.cbor_det.specs.Lookup.{value_under}
+use Rattle.coswid_res.specs.Keys as keys
+use Rattle.coswid_res.specs.Keys.{number}
 
 abbrev pub coswid : ℕ
 coswid = 1398229316
@@ -22,7 +24,7 @@ is_deep t = not (is_marked t) && nat_le 64 (depth t)
 
 -- A map has both evidence and a payload: sections 2.9.3 and 2.9.4.
 abbrev pub has_both : Term → Bool
-has_both (map ps) = is_some (value_under 3 ps) && is_some (value_under 6 ps)
+has_both (map ps) = is_some (value_under (number keys.evidence) ps) && is_some (value_under (number keys.payload) ps)
 has_both t = false
 
 -- the depth of what is there

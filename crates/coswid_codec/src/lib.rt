@@ -5,7 +5,8 @@
 //! `shallow`, `refused`, `only`, `form`, `fault`, `cut`), on `canonical` of `write_tag`, on `text` of `tag_text`, on `lines` of
 //! `put_summary`, on `line` of `put_canonical`, and on `laws`. The words of these clauses are in `specs/`: `Answers` (what octets begin
 //! with, and what is answered), `Forms` and `LastKeys` (the items that a tag is read from), `Marked` and `TagFault` (the first form
-//! fault), `Items` (the item that is written), `HasItem` (which tags have one), `TagText` and `Laws`.
+//! fault), `Items` (the item that is written), `HasItem` (which tags have one), `TagText` and `Laws`. They cite each key by its name in
+//! `Keys` of `coswid_res`.
 #![tactic(auto)]
 
 mod deep;

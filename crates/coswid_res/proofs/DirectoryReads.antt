@@ -8,6 +8,8 @@ use Rattle.coswid_res.specs.declared.directory.DirEntry.TheOpen.{DirEntry-F, Pat
 use Rattle.coswid_res.specs.declared.directory.DirEntry.TheViews as views
 use Rattle.coswid_res.specs.declared.directory.DirEntry.TheViews.{roll-DirEntry, roll-PathElements}
 use Rattle.coswid_res.specs.Directories.{DirectoryKeys, PathKeys, DirectoryPairs, directory, PathUnder, no_path, path, PathPairs, path_elements, DirectoriesUnder, no_directories, alone, several, EachDirectory, no_more, one_more, DirectoryMap, PathMap}
+use Rattle.coswid_res.specs.Keys as keys
+use Rattle.coswid_res.specs.Keys.{number}
 use Rattle.coswid_res.specs.Words.{Agree, Each, OneOrMore, Optional}
 
 pub path_under : (x : Option PathElements) (o : Option Term) → Agree PathMap x o → PathUnder x o
@@ -59,14 +61,14 @@ directories_under (Some (d ∷ [])) (Some (boolean b)) is = absurd is
 directories_under (Some (d ∷ e ∷ ds)) (Some (boolean b)) is = absurd is
 
 -- A directory that is made of its fields, and what it holds, are read from these pairs.
-pub directory_made : (d : DirEntry-F DirEntry PathElements) (ps : Pairs) → DirectoryKeys d ps → Optional 26 PathMap d.path_elements ps → DirectoryPairs (roll-DirEntry d) ps
-directory_made d ps keys inside =
-    directory (roll-DirEntry d) ps (rw (views.out-roll-DirEntry d) keys) (rw (views.out-roll-DirEntry d) (path_under d.path_elements (value_under 26 ps) inside))
+pub directory_made : (d : DirEntry-F DirEntry PathElements) (ps : Pairs) → DirectoryKeys d ps → Optional keys.path_elements PathMap d.path_elements ps → DirectoryPairs (roll-DirEntry d) ps
+directory_made d ps lines inside =
+    directory (roll-DirEntry d) ps (rw (views.out-roll-DirEntry d) lines) (rw (views.out-roll-DirEntry d) (path_under d.path_elements (value_under (number keys.path_elements) ps) inside))
 
-pub path_made : (p : PathElements-F DirEntry PathElements) (ps : Pairs) → PathKeys p ps → Optional 16 (OneOrMore DirectoryMap) p.directory ps → PathPairs (roll-PathElements p) ps
-path_made p ps keys inside =
-    path_elements (roll-PathElements p) ps (rw (views.out-roll-PathElements p) keys)
-    (rw (views.out-roll-PathElements p) (directories_under p.directory (value_under 16 ps) inside))
+pub path_made : (p : PathElements-F DirEntry PathElements) (ps : Pairs) → PathKeys p ps → Optional keys.directory (OneOrMore DirectoryMap) p.directory ps → PathPairs (roll-PathElements p) ps
+path_made p ps lines inside =
+    path_elements (roll-PathElements p) ps (rw (views.out-roll-PathElements p) lines)
+    (rw (views.out-roll-PathElements p) (directories_under p.directory (value_under (number keys.directory) ps) inside))
 
 -- and back
 

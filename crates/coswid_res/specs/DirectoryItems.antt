@@ -7,24 +7,25 @@ use Rattle.coswid_res.specs.declared.directory.PathElements.{PathElements, fold-
 use Rattle.coswid_res.specs.declared.directory.DirEntry.TheOpen as layer
 use Rattle.coswid_res.specs.Files.{files_item}
 use Rattle.coswid_res.specs.Items.{row_item, required_pair, optional_pair, put_all}
+use Rattle.coswid_res.specs.Keys as keys
 
 -- A directory, whose parts stand as the pairs that they are written as.
 abbrev pub directory_step : layer.DirEntry-F Pairs Pairs → Pairs
 directory_step d =
     put_all (
-    optional_pair 22 boolean d.key
-    ∷ optional_pair 23 text d.location
-    ∷ required_pair 24 text d.fs_name
-    ∷ optional_pair 25 text d.root
-    ∷ optional_pair 26 map d.path_elements
+    optional_pair keys.key boolean d.key
+    ∷ optional_pair keys.location text d.location
+    ∷ required_pair keys.fs_name text d.fs_name
+    ∷ optional_pair keys.root text d.root
+    ∷ optional_pair keys.path_elements map d.path_elements
     ∷ []) (pairs_view d.extras)
 
 -- What a directory holds, likewise.
 abbrev pub path_step : layer.PathElements-F Pairs Pairs → Pairs
 path_step p =
     put_all (
-    optional_pair 16 (λ ds. row_item (map_list map ds)) p.directory
-    ∷ optional_pair 17 files_item p.file
+    optional_pair keys.directory (λ ds. row_item (map_list map ds)) p.directory
+    ∷ optional_pair keys.file files_item p.file
     ∷ []) (pairs_view p.extras)
 
 abbrev pub directory_pairs : DirEntry → Pairs

@@ -1,3 +1,5 @@
+pub mod Fields
+pub mod Keys
 pub mod Schema
 pub mod Fault
 pub mod Words

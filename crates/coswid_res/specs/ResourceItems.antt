@@ -9,12 +9,13 @@ use Rattle.coswid_res.specs.declared.resource.ResourceEntry.{ResourceEntry}
 use Rattle.coswid_res.specs.DirectoryItems.{directories_item}
 use Rattle.coswid_res.specs.Files.{files_item}
 use Rattle.coswid_res.specs.Items.{time_item, row_item, required_pair, optional_pair, put_all}
+use Rattle.coswid_res.specs.Keys as keys
 
 abbrev pub process_pairs : ProcessEntry → Pairs
 process_pairs p =
     put_all (
-    required_pair 27 text p.process_name
-    ∷ optional_pair 28 integer p.pid
+    required_pair keys.process_name text p.process_name
+    ∷ optional_pair keys.pid integer p.pid
     ∷ []) (pairs_view p.extras)
 
 abbrev pub processes_item : List ProcessEntry → Term
@@ -23,7 +24,7 @@ processes_item ps = row_item (map_list (λ p. map (process_pairs p)) ps)
 abbrev pub resource_pairs : ResourceEntry → Pairs
 resource_pairs r =
     put_all (
-    required_pair 29 text r.resource_type
+    required_pair keys.resource_type text r.resource_type
     ∷ []) (pairs_view r.extras)
 
 abbrev pub resources_item : List ResourceEntry → Term
@@ -32,10 +33,10 @@ resources_item rs = row_item (map_list (λ r. map (resource_pairs r)) rs)
 abbrev pub payload_pairs : Payload → Pairs
 payload_pairs p =
     put_all (
-    optional_pair 16 directories_item p.directory
-    ∷ optional_pair 17 files_item p.file
-    ∷ optional_pair 18 processes_item p.process
-    ∷ optional_pair 19 resources_item p.resource
+    optional_pair keys.directory directories_item p.directory
+    ∷ optional_pair keys.file files_item p.file
+    ∷ optional_pair keys.process processes_item p.process
+    ∷ optional_pair keys.resource resources_item p.resource
     ∷ []) (pairs_view p.extras)
 
 abbrev pub payload_item : Payload → Term
@@ -44,13 +45,13 @@ payload_item p = map (payload_pairs p)
 abbrev pub evidence_pairs : Evidence → Pairs
 evidence_pairs e =
     put_all (
-    optional_pair 16 directories_item e.directory
-    ∷ optional_pair 17 files_item e.file
-    ∷ optional_pair 18 processes_item e.process
-    ∷ optional_pair 19 resources_item e.resource
-    ∷ optional_pair 23 text e.location
-    ∷ optional_pair 35 time_item e.date
-    ∷ optional_pair 36 text e.device_id
+    optional_pair keys.directory directories_item e.directory
+    ∷ optional_pair keys.file files_item e.file
+    ∷ optional_pair keys.process processes_item e.process
+    ∷ optional_pair keys.resource resources_item e.resource
+    ∷ optional_pair keys.location text e.location
+    ∷ optional_pair keys.date time_item e.date
+    ∷ optional_pair keys.device_id text e.device_id
     ∷ []) (pairs_view e.extras)
 
 abbrev pub evidence_item : Evidence → Term

@@ -5,6 +5,7 @@ use Rattle.cbor_det.specs.Lookup.{value_under, other_than}
 use Rattle.cbor_det.specs.View.{pairs_view}
 use Rattle.cbor_det.specs.declared.item.Pairs as code
 use Rattle.coswid_res.specs.declared.hash.HashEntry.{HashEntry}
+use Rattle.coswid_res.specs.Keys.{Key, number}
 use Rattle.coswid_res.specs.Schema.{Name, table, keys_of}
 
 -- What a value may be read from.
@@ -52,13 +53,20 @@ Agree Is None None = Unit {0}
 Agree Is (Some v) (Some t) = Is v t
 Agree Is v t = ⊥
 
--- The key is there, and its value is this.
-abbrev pub Required : {A : Type 0} → ℕ → (A → Term → Type 0) → A → Pairs → Type 0
-Required k Is v ps = Agree Is (Some v) (value_under k ps)
+-- The key with this number is there, and its value is this.
+abbrev pub RequiredAt : {A : Type 0} → ℕ → (A → Term → Type 0) → A → Pairs → Type 0
+RequiredAt n Is v ps = Agree Is (Some v) (value_under n ps)
 
--- The key is there and its value is this, or neither is.
-abbrev pub Optional : {A : Type 0} → ℕ → (A → Term → Type 0) → Option A → Pairs → Type 0
-Optional k Is v ps = Agree Is v (value_under k ps)
+-- The key with this number is there and its value is this, or neither is.
+abbrev pub OptionalAt : {A : Type 0} → ℕ → (A → Term → Type 0) → Option A → Pairs → Type 0
+OptionalAt n Is v ps = Agree Is v (value_under n ps)
+
+-- The same of a key by its name.
+abbrev pub Required : {A : Type 0} → Key → (A → Term → Type 0) → A → Pairs → Type 0
+Required k Is v ps = RequiredAt (number k) Is v ps
+
+abbrev pub Optional : {A : Type 0} → Key → (A → Term → Type 0) → Option A → Pairs → Type 0
+Optional k Is v ps = OptionalAt (number k) Is v ps
 
 -- All other pairs are the extras.
 abbrev pub Rest : Name → code.Pairs → Pairs → Type 0

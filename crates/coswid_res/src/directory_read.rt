@@ -8,8 +8,10 @@ ghost use Rattle.std.specs.Prelude.{◌<◌, ◌^◌, map};
 ghost use Rattle.cbor_det.specs.View.{view, terms_of, pairs_view};
 ghost use Rattle.coswid_res.specs.Directories.{DirectoryPairs, PathPairs, DirectoryMap, PathMap};
 ghost use Rattle.coswid_res.specs.Fault.{elements_fault, field_fault, under};
+ghost use Rattle.coswid_res.specs.Keys as keys;
+ghost use Rattle.coswid_res.specs.Keys.{number};
 ghost use Rattle.coswid_res.specs.Reading.{Gives, keys_fault, line_fault};
-ghost use Rattle.coswid_res.specs.Schema.{one, one_or_more, a_map, optional};
+ghost use Rattle.coswid_res.specs.Schema.{one, one_or_more, a_map, optional_key};
 ghost use Rattle.coswid_res.specs.Schema as schema;
 ghost use Rattle.coswid_res.specs.Words.{Each, OneOrMore, Optional};
 
@@ -47,7 +49,7 @@ pub(crate) fn read_directory(alloc: Global, pairs: &Pairs) -> Result<DirEntry, F
 #[cycle(read)]
 #[tactic(auto, using(crate::proofs::DirectoryDepths::under_within))]
 fn path_under(alloc: Global, pairs: &Pairs) -> Result<Option<PathElements>, FormRefused>
-    ensures told { Gives (λ p. Optional 26 PathMap p (pairs_view pairs.now)) (line_fault (optional 26 (one (a_map schema.path_elements))) (pairs_view pairs.now)) result }
+    ensures told { Gives (λ p. Optional keys.path_elements PathMap p (pairs_view pairs.now)) (line_fault (optional_key keys.path_elements) (pairs_view pairs.now)) result }
 {
     match pairs.under(table::PATH_ELEMENTS as u64) {
         None => Ok(None),
@@ -58,7 +60,7 @@ fn path_under(alloc: Global, pairs: &Pairs) -> Result<Option<PathElements>, Form
 /// The same, with its faults told from the directory's level.
 #[cycle(read)]
 fn path_at(alloc: Global, item: &Item) -> Result<PathElements, FormRefused>
-    ensures told { Gives (λ p. PathMap p (view item.now)) (under 26 (field_fault (one (a_map schema.path_elements)) (view item.now))) result }
+    ensures told { Gives (λ p. PathMap p (view item.now)) (under (number keys.path_elements) (field_fault (one (a_map schema.path_elements)) (view item.now))) result }
 {
     match path_of(alloc, item) {
         Ok(path) => Ok(path),
@@ -96,7 +98,7 @@ fn read_path(alloc: Global, pairs: &Pairs) -> Result<PathElements, FormRefused>
 #[cycle(read)]
 #[tactic(auto, using(crate::proofs::DirectoryDepths::under_within))]
 fn directories_under(alloc: Global, pairs: &Pairs) -> Result<Option<List<DirEntry>>, FormRefused>
-    ensures told { Gives (λ ds. Optional 16 (OneOrMore DirectoryMap) ds (pairs_view pairs.now)) (line_fault (optional 16 (one_or_more (a_map schema.directory))) (pairs_view pairs.now)) result }
+    ensures told { Gives (λ ds. Optional keys.directory (OneOrMore DirectoryMap) ds (pairs_view pairs.now)) (line_fault (optional_key keys.directory) (pairs_view pairs.now)) result }
 {
     match pairs.under(table::DIRECTORY as u64) {
         None => Ok(None),
@@ -107,7 +109,7 @@ fn directories_under(alloc: Global, pairs: &Pairs) -> Result<Option<List<DirEntr
 /// The same, with their faults told from the level of what holds them.
 #[cycle(read)]
 fn directories_at(alloc: Global, item: &Item) -> Result<List<DirEntry>, FormRefused>
-    ensures told { Gives (λ ds. OneOrMore DirectoryMap ds (view item.now)) (under 16 (field_fault (one_or_more (a_map schema.directory)) (view item.now))) result }
+    ensures told { Gives (λ ds. OneOrMore DirectoryMap ds (view item.now)) (under (number keys.directory) (field_fault (one_or_more (a_map schema.directory)) (view item.now))) result }
 {
     match directories_of(alloc, item) {
         Ok(directories) => Ok(directories),

@@ -6,11 +6,11 @@ ghost use Rattle.cbor_det.specs.Lookup.{value_under};
 ghost use Rattle.cbor_det.specs.Term.{integer};
 ghost use Rattle.cbor_det.specs.View.{view, pairs_view};
 ghost use Rattle.coswid_res.specs.Fault.{absent};
-ghost use Rattle.coswid_res.specs.Items.{required_pair, optional_pair, row_item};
+ghost use Rattle.coswid_res.specs.Items.{required_pair_at, optional_pair_at, row_item};
 ghost use Rattle.coswid_res.specs.Reading.{Gives, line_fault};
 ghost use Rattle.coswid_res.specs.Schema.{one, one_or_more};
 ghost use Rattle.coswid_res.specs.Schema as schema;
-ghost use Rattle.coswid_res.specs.Words.{Required, Optional, OneOrMore};
+ghost use Rattle.coswid_res.specs.Words.{RequiredAt, OptionalAt, OneOrMore};
 
 use crate::fault::FormRefused;
 use crate::form::{Form, read_at};
@@ -54,7 +54,7 @@ impl<const NUMBER: u32, F: Form> Key<NUMBER, F> {
     /// The value under a key that must be there. `Form` with the first form fault exactly where the key is not there, or its
     /// value is in no such form; `Memory` where there is no room.
     pub fn required(alloc: Global, pairs: &Pairs) -> Result<F::Value, FormRefused>
-        ensures told { Gives (λ v. Required NUMBER F.is v (pairs_view pairs.now)) (line_fault (schema.required NUMBER (one F.form)) (pairs_view pairs.now)) result }
+        ensures told { Gives (λ v. RequiredAt NUMBER F.is v (pairs_view pairs.now)) (line_fault (schema.required NUMBER (one F.form)) (pairs_view pairs.now)) result }
     {
         match pairs.under(NUMBER as u64) {
             None => Err(missing_key(alloc, NUMBER)),
@@ -65,7 +65,7 @@ impl<const NUMBER: u32, F: Form> Key<NUMBER, F> {
     /// The value under a key that may be there. `Form` with the first form fault exactly where the key is there and its
     /// value is in no such form; `Memory` where there is no room.
     pub fn optional(alloc: Global, pairs: &Pairs) -> Result<Option<F::Value>, FormRefused>
-        ensures told { Gives (λ v. Optional NUMBER F.is v (pairs_view pairs.now)) (line_fault (schema.optional NUMBER (one F.form)) (pairs_view pairs.now)) result }
+        ensures told { Gives (λ v. OptionalAt NUMBER F.is v (pairs_view pairs.now)) (line_fault (schema.optional NUMBER (one F.form)) (pairs_view pairs.now)) result }
     {
         match pairs.under(NUMBER as u64) {
             None => Ok(None),
@@ -75,7 +75,7 @@ impl<const NUMBER: u32, F: Form> Key<NUMBER, F> {
 
     /// One or more values under a key that must be there; refusals as of `required`.
     pub fn required_row(alloc: Global, pairs: &Pairs) -> Result<List<F::Value>, FormRefused>
-        ensures told { Gives (λ vs. Required NUMBER (OneOrMore F.is) vs (pairs_view pairs.now)) (line_fault (schema.required NUMBER (one_or_more F.form)) (pairs_view pairs.now)) result }
+        ensures told { Gives (λ vs. RequiredAt NUMBER (OneOrMore F.is) vs (pairs_view pairs.now)) (line_fault (schema.required NUMBER (one_or_more F.form)) (pairs_view pairs.now)) result }
     {
         match pairs.under(NUMBER as u64) {
             None => Err(missing_key(alloc, NUMBER)),
@@ -85,7 +85,7 @@ impl<const NUMBER: u32, F: Form> Key<NUMBER, F> {
 
     /// One or more values under a key that may be there; refusals as of `optional`.
     pub fn optional_row(alloc: Global, pairs: &Pairs) -> Result<Option<List<F::Value>>, FormRefused>
-        ensures told { Gives (λ vs. Optional NUMBER (OneOrMore F.is) vs (pairs_view pairs.now)) (line_fault (schema.optional NUMBER (one_or_more F.form)) (pairs_view pairs.now)) result }
+        ensures told { Gives (λ vs. OptionalAt NUMBER (OneOrMore F.is) vs (pairs_view pairs.now)) (line_fault (schema.optional NUMBER (one_or_more F.form)) (pairs_view pairs.now)) result }
     {
         match pairs.under(NUMBER as u64) {
             None => Ok(None),
@@ -95,7 +95,7 @@ impl<const NUMBER: u32, F: Form> Key<NUMBER, F> {
 
     /// Puts the value under the key, which is not held; `Memory` where there is no room.
     pub fn put(pairs: &mut Pairs, value: &F::Value) -> Result<(), Memory>
-        ensures puts { OnOk result (pairs_view pairs.new ≡ required_pair NUMBER F.written value.now (pairs_view pairs.old)) }
+        ensures puts { OnOk result (pairs_view pairs.new ≡ required_pair_at NUMBER F.written value.now (pairs_view pairs.old)) }
     {
         let alloc = pairs.allocator();
         put(pairs, NUMBER, F::write(alloc, value)?)
@@ -103,7 +103,7 @@ impl<const NUMBER: u32, F: Form> Key<NUMBER, F> {
 
     /// Puts the value under the key, where there is one.
     pub fn put_optional(pairs: &mut Pairs, value: &Option<F::Value>) -> Result<(), Memory>
-        ensures puts { OnOk result (pairs_view pairs.new ≡ optional_pair NUMBER F.written value.now (pairs_view pairs.old)) }
+        ensures puts { OnOk result (pairs_view pairs.new ≡ optional_pair_at NUMBER F.written value.now (pairs_view pairs.old)) }
     {
         match value {
             None => Ok(()),
@@ -113,7 +113,7 @@ impl<const NUMBER: u32, F: Form> Key<NUMBER, F> {
 
     /// Puts the values under the key: one alone, and more as an array.
     pub fn put_row(pairs: &mut Pairs, values: &List<F::Value>) -> Result<(), Memory>
-        ensures puts { OnOk result (pairs_view pairs.new ≡ required_pair NUMBER (λ vs. row_item (map F.written vs)) values.now (pairs_view pairs.old)) }
+        ensures puts { OnOk result (pairs_view pairs.new ≡ required_pair_at NUMBER (λ vs. row_item (map F.written vs)) values.now (pairs_view pairs.old)) }
     {
         let alloc = pairs.allocator();
         put(pairs, NUMBER, write_row::<F>(alloc, values)?)
@@ -124,7 +124,7 @@ impl<const NUMBER: u32, F: Form> Key<NUMBER, F> {
         pairs: &mut Pairs,
         values: &Option<List<F::Value>>,
     ) -> Result<(), Memory>
-        ensures puts { OnOk result (pairs_view pairs.new ≡ optional_pair NUMBER (λ vs. row_item (map F.written vs)) values.now (pairs_view pairs.old)) }
+        ensures puts { OnOk result (pairs_view pairs.new ≡ optional_pair_at NUMBER (λ vs. row_item (map F.written vs)) values.now (pairs_view pairs.old)) }
     {
         match values {
             None => Ok(()),

@@ -5,10 +5,11 @@
 //! It stands on `cbor_det` for items, on `wire_base`, on `sha2` for digests, and on `thiserror` for the texts of errors.
 //! The crates above rest on `told` of `Form::read`, of the methods of `Key`, of `payload_of` and `evidence_of`, on
 //! `puts`, `there` and `number` of the methods of `Key`, on `written` of `payload_item` and `evidence_item`, on
-//! `verdicts`, `cause` and `reads` of `verify`, and on `laws`. The words of these clauses are in `specs/`: `Schema` (the
-//! tables), `Fault` (the first fault), `Words` (the relation between a value and an item), `Items` (the item that is
-//! written) and `Reading`; of payload and evidence in `Files`, `Directories`, `DirectoryItems`, `Resources` and
-//! `ResourceItems`; of verdicts in `Listing` (the files with their paths) and `Verify`.
+//! `verdicts`, `cause` and `reads` of `verify`, and on `laws`. The words of these clauses are in `specs/`: `Keys` (the
+//! table of keys, each with its number and its form), `Fields` (the forms), `Schema` (the keys of each map), `Fault`
+//! (the first fault), `Words` (the relation between a value and an item), `Items` (the item that is written) and
+//! `Reading`; of payload and evidence in `Files`, `Directories`, `DirectoryItems`, `Resources` and `ResourceItems`; of
+//! verdicts in `Listing` (the files with their paths) and `Verify`.
 #![tactic(auto)]
 
 mod copied;
