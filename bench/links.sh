@@ -7,12 +7,12 @@
 # `bench/link_tags.py` writes the inputs into a temporary folder, which is removed at the end; it says what the shapes are.
 # Needs python3, awk and GNU time (/usr/bin/time).
 #
-# The table has 1,000, 3,000 and 10,000 tags of each shape. In `apart` each pair of tags is a finding, 50 million of them at last, which
-# take 1.2 GB.
+# The table has 1,000, 3,000 and 10,000 tags of each shape. In `apart` each pair of tags is a finding, 50 million of them at last,
+# which alone take 1.2 GB.
 # Columns: the shape; how many tags; how many findings; the time of the processor, user and system, to read the tags, and to read
 # and check them, the lowest of all runs; the microseconds of checking for each tag, and the same over those of 1,000 tags, which
-# grows as the logarithm where the time grows as n log n; and the peak memory, the highest of all runs. Checking is what is left of
-# the second time without the first; where that is nothing for 1,000 tags, `-` stands as growth.
+# grows as the logarithm where the time grows as n log n, and in `apart` with the findings; and the peak memory, the highest of all
+# runs. Checking is what is left of the second time without the first; where that is nothing for 1,000 tags, `-` stands as growth.
 
 set -u -o pipefail
 
@@ -77,5 +77,5 @@ done | awk -F '\t' -v runs="$runs" '
         each = ($6 - $3) / $2
         if ($2 == 1000) base = each
         printf "%-8s %6s %9s %9.1f %9.1f %9.2f %7s %9s%s\n", $1, $2, $8, $3 / 1000, $6 / 1000, each,
-            (base > 0 ? sprintf("%.2f", each / base) : "-"), $7, ($5 == $2 ? "" : "  not read: " $5)
+            (base > 0 ? sprintf("%.2f", each / base) : "-"), $7, ($5 == $2 ? "" : "  not read: " $5) ($8 == "" ? "  not checked" : "")
     }'

@@ -197,7 +197,7 @@ fn hashes(rt: HostRuntime) -> Result<(), Fail> {
 }
 
 /// Links that lack a key, or have a value in no form of its key.
-const REFUSED_LINKS: [Row; 15] = [
+const REFUSED_LINKS: [Row; 16] = [
     Row {
         input: "a500616101616202a2181f61631821010c0004a0",
         told: "form 1/4/38",
@@ -216,6 +216,10 @@ const REFUSED_LINKS: [Row; 15] = [
     },
     Row {
         input: "a500616101616202a2181f61631821010c0004a2182807182601",
+        told: "form 2/4/38",
+    },
+    Row {
+        input: "a500616101616202a2181f61631821010c0004a21826d8216164182807",
         told: "form 2/4/38",
     },
     Row {

@@ -4,7 +4,7 @@ use crate::tests::{Row, expect};
 use std::test::Fail;
 
 /// Values in no form of their keys: of a payload, its maps, and files.
-const PAYLOADS: [Row; 16] = [
+const PAYLOADS: [Row; 17] = [
     Row {
         input: "a500616101616202a2181f61631821010c000601",
         told: "form 2/6",
@@ -43,6 +43,10 @@ const PAYLOADS: [Row; 16] = [
     },
     Row {
         input: "a500616101616202a2181f61631821010c0006a111a207810118186166",
+        told: "form 2/6/17/7",
+    },
+    Row {
+        input: "a500616101616202a2181f61631821010c0006a111a2078301400018186166",
         told: "form 2/6/17/7",
     },
     Row {

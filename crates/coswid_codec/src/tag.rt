@@ -92,7 +92,7 @@ fn expect_required(alloc: Global, pairs: &Pairs) -> Result<(), FormRefused>
     key::TagVersion::expect(alloc, pairs)
 }
 
-/// The fields of a tag with the keys 8 to 15.
+/// The fields of a tag from `corpus` to `lang`.
 #[derive(Drop)]
 struct LastFields {
     corpus: Option<bool>,
@@ -105,7 +105,7 @@ struct LastFields {
     lang: Option<Text>,
 }
 
-/// The fields with the keys 8 to 15; `Form` with the first form fault under them; `Memory` where there is no room.
+/// The fields from `corpus` to `lang`; `Form` with the first form fault under them; `Memory` where there is no room.
 fn read_last(alloc: Global, pairs: &Pairs) -> Result<LastFields, FormRefused>
     ensures told { Gives (λ last. LastKeys last (pairs_view pairs.now)) (lines_fault (drop 7 (table schema.tag)) (pairs_view pairs.now)) result }
 {

@@ -149,7 +149,7 @@ fn tells_what_is_wrong(rt: HostRuntime) -> Result<(), Fail> {
 }
 
 /// One value stands alone, more as an array, and a URI under its tag, however they were read.
-const SPELLINGS: [Row; 5] = [
+const SPELLINGS: [Row; 6] = [
     Row {
         input: "a40061610161620c000281a2181f6163182101",
         told: "tag da53574944a400616101616202a2181f61631821010c00",
@@ -157,6 +157,10 @@ const SPELLINGS: [Row; 5] = [
     Row {
         input: "a40061610161620c000282a2181f6163182101a2181f6163182182026178",
         told: "tag da53574944a40061610161620282a2181f6163182101a2181f61631821820261780c00",
+    },
+    Row {
+        input: "a40061610161620c0002a2181f616318218101",
+        told: "tag da53574944a400616101616202a2181f61631821010c00",
     },
     Row {
         input: "a40061610161620c0002a3181f616318210118206172",

@@ -22,15 +22,15 @@ pub type DirEntries = List<DirEntry>;
 #[cycle(directory)]
 #[derive(Debug, Drop)]
 pub struct DirEntry {
-    /// Whether the software needs it to run (22).
+    /// Whether the software needs it to run.
     pub key: Option<bool>,
-    /// Where it is expected, a path (23).
+    /// Where it is expected, a path.
     pub location: Option<Text>,
-    /// Its name, without a path (24).
+    /// Its name, without a path.
     pub fs_name: Text,
-    /// What its path begins with on this host (25).
+    /// What its path begins with on this host.
     pub root: Option<Text>,
-    /// What it holds (26).
+    /// What it holds.
     pub path_elements: Option<PathElements>,
     /// The pairs under all other keys.
     pub extras: Pairs,
@@ -40,9 +40,9 @@ pub struct DirEntry {
 #[cycle(directory)]
 #[derive(Debug, Drop)]
 pub struct PathElements {
-    /// Directories, at least one (16).
+    /// Directories, at least one.
     pub directory: Option<List<DirEntry>>,
-    /// Files, at least one (17).
+    /// Files, at least one.
     pub file: Option<List<FileEntry>>,
     /// The pairs under all other keys.
     pub extras: Pairs,

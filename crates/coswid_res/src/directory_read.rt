@@ -1,8 +1,8 @@
 //! Reading directories. The functions call one another as deep as the item is.
 //!
 //! They do by hand what `Key` and `MapForm` do for all other maps: the method of a trait has no proof in a cycle of calls, so the
-//! cycle is one of plain functions, and `DirectoryTable` calls into it. A `Key` of a form in the cycle would be in it too, so the keys
-//! of directories and of what they hold are numbers here.
+//! cycle is one of plain functions, and `DirectoryTable` calls into it. A `Key` of a form in the cycle would be in it too, so the two
+//! keys under which the next level stands, `path-elements` and `directory`, are numbers of `table` here.
 
 ghost use Rattle.std.specs.Prelude.{◌<◌, ◌^◌, map};
 ghost use Rattle.cbor_det.specs.View.{view, terms_of, pairs_view};
@@ -11,7 +11,7 @@ ghost use Rattle.coswid_res.specs.Fault.{elements_fault, field_fault, under};
 ghost use Rattle.coswid_res.specs.Keys as keys;
 ghost use Rattle.coswid_res.specs.Keys.{number};
 ghost use Rattle.coswid_res.specs.Reading.{Gives, keys_fault, line_fault};
-ghost use Rattle.coswid_res.specs.Schema.{one, one_or_more, a_map, optional_key};
+ghost use Rattle.coswid_res.specs.Schema.{one, a_map, optional_key};
 ghost use Rattle.coswid_res.specs.Schema as schema;
 ghost use Rattle.coswid_res.specs.Words.{Each, OneOrMore, Optional};
 
@@ -60,7 +60,7 @@ fn path_under(alloc: Global, pairs: &Pairs) -> Result<Option<PathElements>, Form
 /// The same, with its faults told from the directory's level.
 #[cycle(read)]
 fn path_at(alloc: Global, item: &Item) -> Result<PathElements, FormRefused>
-    ensures told { Gives (λ p. PathMap p (view item.now)) (under (number keys.path_elements) (field_fault (one (a_map schema.path_elements)) (view item.now))) result }
+    ensures told { Gives (λ p. PathMap p (view item.now)) (under (number keys.path_elements) (field_fault (keys.field keys.path_elements) (view item.now))) result }
 {
     match path_of(alloc, item) {
         Ok(path) => Ok(path),
@@ -71,7 +71,7 @@ fn path_at(alloc: Global, item: &Item) -> Result<PathElements, FormRefused>
 #[cycle(read)]
 #[tactic(auto, using(crate::proofs::DirectoryDepths::map_deeper))]
 fn path_of(alloc: Global, item: &Item) -> Result<PathElements, FormRefused>
-    ensures told { Gives (λ p. PathMap p (view item.now)) (field_fault (one (a_map schema.path_elements)) (view item.now)) result }
+    ensures told { Gives (λ p. PathMap p (view item.now)) (field_fault (keys.field keys.path_elements) (view item.now)) result }
 {
     match item {
         Item::Map(pairs) => read_path(alloc, pairs),
@@ -109,7 +109,7 @@ fn directories_under(alloc: Global, pairs: &Pairs) -> Result<Option<List<DirEntr
 /// The same, with their faults told from the level of what holds them.
 #[cycle(read)]
 fn directories_at(alloc: Global, item: &Item) -> Result<List<DirEntry>, FormRefused>
-    ensures told { Gives (λ ds. OneOrMore DirectoryMap ds (view item.now)) (under (number keys.directory) (field_fault (one_or_more (a_map schema.directory)) (view item.now))) result }
+    ensures told { Gives (λ ds. OneOrMore DirectoryMap ds (view item.now)) (under (number keys.directory) (field_fault (keys.field keys.directory) (view item.now))) result }
 {
     match directories_of(alloc, item) {
         Ok(directories) => Ok(directories),
@@ -121,7 +121,7 @@ fn directories_at(alloc: Global, item: &Item) -> Result<List<DirEntry>, FormRefu
 #[cycle(read)]
 #[tactic(auto, using(crate::proofs::DirectoryDepths::array_deeper))]
 fn directories_of(alloc: Global, item: &Item) -> Result<List<DirEntry>, FormRefused>
-    ensures told { Gives (λ ds. OneOrMore DirectoryMap ds (view item.now)) (field_fault (one_or_more (a_map schema.directory)) (view item.now)) result }
+    ensures told { Gives (λ ds. OneOrMore DirectoryMap ds (view item.now)) (field_fault (keys.field keys.directory) (view item.now)) result }
 {
     match item {
         Item::Array(items) => {

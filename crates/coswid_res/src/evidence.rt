@@ -24,19 +24,19 @@ use wire_base::{Memory, Text, TryCopy};
 /// What was found of the software on an endpoint.
 #[derive(Debug, Drop)]
 pub struct Evidence {
-    /// Directories, at least one (16).
+    /// Directories, at least one.
     pub directory: Option<DirEntries>,
-    /// Files, at least one (17).
+    /// Files, at least one.
     pub file: Option<FileEntries>,
-    /// Processes, at least one (18).
+    /// Processes, at least one.
     pub process: Option<ProcessEntries>,
-    /// Other resources, at least one (19).
+    /// Other resources, at least one.
     pub resource: Option<ResourceEntries>,
-    /// Where the tag lies that was made of the evidence, a path (23).
+    /// Where the tag lies that was made of the evidence, a path.
     pub location: Option<Text>,
-    /// When it was found, in seconds since 1970 began (35).
+    /// When it was found, in seconds since 1970 began.
     pub date: Option<i64>,
-    /// The endpoint on which it was found (36).
+    /// The endpoint on which it was found.
     pub device_id: Option<Text>,
     /// The pairs under all other keys.
     pub extras: Pairs,

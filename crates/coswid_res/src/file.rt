@@ -18,19 +18,19 @@ pub type FileEntries = List<FileEntry>;
 /// A file.
 #[derive(Debug, Drop)]
 pub struct FileEntry {
-    /// The hash of its octets (7).
+    /// The hash of its octets.
     pub hash: Option<HashEntry>,
-    /// How many octets it has (20).
+    /// How many octets it has.
     pub size: Option<u64>,
-    /// Its version, as the system tells it (21).
+    /// Its version, as the system tells it.
     pub file_version: Option<Text>,
-    /// Whether the software needs it to run (22).
+    /// Whether the software needs it to run.
     pub key: Option<bool>,
-    /// Where it is expected, a path (23).
+    /// Where it is expected, a path.
     pub location: Option<Text>,
-    /// Its name, without a path (24).
+    /// Its name, without a path.
     pub fs_name: Text,
-    /// What its path begins with on this host (25).
+    /// What its path begins with on this host.
     pub root: Option<Text>,
     /// The pairs under all other keys.
     pub extras: Pairs,

@@ -24,13 +24,13 @@ use wire_base::{Memory, TryCopy};
 /// What the software installs, as the tag's author states it.
 #[derive(Debug, Drop)]
 pub struct Payload {
-    /// Directories, at least one (16).
+    /// Directories, at least one.
     pub directory: Option<DirEntries>,
-    /// Files, at least one (17).
+    /// Files, at least one.
     pub file: Option<FileEntries>,
-    /// Processes, at least one (18).
+    /// Processes, at least one.
     pub process: Option<ProcessEntries>,
-    /// Other resources, at least one (19).
+    /// Other resources, at least one.
     pub resource: Option<ResourceEntries>,
     /// The pairs under all other keys.
     pub extras: Pairs,

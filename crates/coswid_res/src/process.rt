@@ -17,9 +17,9 @@ pub type ProcessEntries = List<ProcessEntry>;
 /// A process.
 #[derive(Debug, Drop)]
 pub struct ProcessEntry {
-    /// Its name, as a list of processes shows it (27).
+    /// Its name, as a list of processes shows it.
     pub process_name: Text,
-    /// Its number (28).
+    /// Its number.
     pub pid: Option<i64>,
     /// The pairs under all other keys.
     pub extras: Pairs,

@@ -17,7 +17,7 @@ pub type ResourceEntries = List<ResourceEntry>;
 /// A resource.
 #[derive(Debug, Drop)]
 pub struct ResourceEntry {
-    /// What kind of resource it is (29).
+    /// What kind of resource it is.
     pub resource_type: Text,
     /// The pairs under all other keys.
     pub extras: Pairs,

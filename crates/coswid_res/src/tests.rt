@@ -9,15 +9,16 @@ use std::alloc::Global;
 use std::test::Fail;
 use wire_base::{List, Text, TryCopy};
 
-type Name = Key<31, TextForm>;
+/// Keys of no table of a tag.
+type Name = Key<131, TextForm>;
 
-type Website = Key<38, UriForm>;
+type Website = Key<138, UriForm>;
 
-type Numbers = Key<33, IntForm>;
+type Numbers = Key<133, IntForm>;
 
-type Flag = Key<9, BoolForm>;
+type Flag = Key<109, BoolForm>;
 
-type Print = Key<34, HashForm>;
+type Print = Key<134, HashForm>;
 
 #[test]
 fn reads_what_it_puts(rt: HostRuntime) -> Result<(), Fail> {
@@ -90,24 +91,24 @@ fn pairs_of(alloc: Global, octets: &[u8]) -> Result<Pairs, Fail> {
     }
 }
 
-/// The pairs 33: [1, "a"], 34: [1, 2], 38: tag 33 of "a".
+/// The pairs 133: [1, "a"], 134: [1, 2], 138: tag 33 of "a".
 const PAIRS: &[u8; 20] =
-    b"\xa3\x18\x21\x82\x01\x61a\x18\x22\x82\x01\x02\x18\x26\xd8\x21\x61a\x00\x00";
+    b"\xa3\x18\x85\x82\x01\x61a\x18\x86\x82\x01\x02\x18\x8a\xd8\x21\x61a\x00\x00";
 
 #[test]
 fn tells_where_a_fault_is(rt: HostRuntime) -> Result<(), Fail> {
     let alloc = rt.alloc();
     let pairs = pairs_of(alloc, PAIRS)?;
     let row = Numbers::required_row(alloc, &pairs);
-    assert!(rt; is_refused(row, WRONG_FORM, [33, 1].as_slice()));
+    assert!(rt; is_refused(row, WRONG_FORM, [133, 1].as_slice()));
     let print = Print::required(alloc, &pairs);
-    assert!(rt; is_refused(print, WRONG_FORM, [34, 1].as_slice()));
+    assert!(rt; is_refused(print, WRONG_FORM, [134, 1].as_slice()));
     let website = Website::optional(alloc, &pairs);
-    assert!(rt; is_refused(website, WRONG_FORM, [38].as_slice()));
+    assert!(rt; is_refused(website, WRONG_FORM, [138].as_slice()));
     let name = Name::required(alloc, &pairs);
-    assert!(rt; is_refused(name, MISSING_KEY, [31].as_slice()));
+    assert!(rt; is_refused(name, MISSING_KEY, [131].as_slice()));
     let expected = Name::expect(alloc, &pairs);
-    assert!(rt; is_refused(expected, MISSING_KEY, [31].as_slice()));
+    assert!(rt; is_refused(expected, MISSING_KEY, [131].as_slice()));
     Ok(())
 }
 

@@ -11,20 +11,20 @@ pub type LinkEntries = List<LinkEntry>;
 /// A link to another tag or to anything else (RFC 9393, section 2.7).
 #[derive(Debug, Drop)]
 pub struct LinkEntry {
-    /// For which media it is meant, as a query (10).
+    /// For which media it is meant, as a query.
     pub media: Option<Text>,
-    /// The canonical name of what the link leads to (37).
+    /// The canonical name of what the link leads to.
     pub artifact: Option<Text>,
-    /// Where it leads, a URI (38).
+    /// Where it leads, a URI.
     pub href: Text,
-    /// How strong the two own one another (39): abandon 1, private 2, shared 3.
+    /// How strong the two own one another: abandon 1, private 2, shared 3.
     pub ownership: Option<CodeValue>,
-    /// How the two are related (40): ancestor 1, component 2, feature 3, installation media 4, package installer 5, parent 6,
+    /// How the two are related: ancestor 1, component 2, feature 3, installation media 4, package installer 5, parent 6,
     /// patches 7, requires 8, see also 9, supersedes 10, supplemental 11.
     pub rel: CodeValue,
-    /// The media type of what it leads to (41).
+    /// The media type of what it leads to.
     pub media_type: Option<Text>,
-    /// Whether it has to be installed (42): optional 1, required 2, recommended 3.
+    /// Whether it has to be installed: optional 1, required 2, recommended 3.
     pub link_use: Option<CodeValue>,
     /// The pairs under all other keys.
     pub extras: Pairs,

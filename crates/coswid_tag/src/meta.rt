@@ -11,35 +11,35 @@ pub type SoftwareMetas = List<SoftwareMeta>;
 /// A description of the software: an entry of software-meta (RFC 9393, section 2.8). A long text in it has the name description too.
 #[derive(Debug, Drop)]
 pub struct SoftwareMeta {
-    /// Whether it is licensed, on trial and the like (43).
+    /// Whether it is licensed, on trial and the like.
     pub activation_status: Option<Text>,
-    /// Through which channel it was sold (44).
+    /// Through which channel it was sold.
     pub channel_type: Option<Text>,
-    /// The version as it is spoken of (45).
+    /// The version as it is spoken of.
     pub colloquial_version: Option<Text>,
-    /// What it does, at length (46).
+    /// What it does, at length.
     pub description: Option<Text>,
-    /// Its edition (47).
+    /// Its edition.
     pub edition: Option<Text>,
-    /// Whether a proof of entitlement is needed (48).
+    /// Whether a proof of entitlement is needed.
     pub entitlement_data_required: Option<bool>,
-    /// The key of the entitlement (49).
+    /// The key of the entitlement.
     pub entitlement_key: Option<Text>,
-    /// What made the tag (50).
+    /// What made the tag.
     pub generator: Option<TagId>,
-    /// What is common to its releases (51).
+    /// What is common to its releases.
     pub persistent_id: Option<Text>,
-    /// The product's name without its maker (52).
+    /// The product's name without its maker.
     pub product: Option<Text>,
-    /// The family of products (53).
+    /// The family of products.
     pub product_family: Option<Text>,
-    /// The release between versions (54).
+    /// The release between versions.
     pub revision: Option<Text>,
-    /// What it does, in short (55).
+    /// What it does, in short.
     pub summary: Option<Text>,
-    /// Its code in the classification of the United Nations, UNSPSC (56).
+    /// Its code in the classification of the United Nations, UNSPSC.
     pub unspsc_code: Option<Text>,
-    /// The version of UNSPSC (57).
+    /// The version of UNSPSC.
     pub unspsc_version: Option<Text>,
     /// The pairs under all other keys.
     pub extras: Pairs,

@@ -11,36 +11,36 @@ use wire_base::{Memory, Text, TryCopy};
 /// A concise software identification tag (RFC 9393, section 2.3).
 #[derive(Debug, Drop)]
 pub struct Tag {
-    /// What identifies the tag, everywhere and always (0).
+    /// What identifies the tag, everywhere and always.
     pub tag_id: TagId,
-    /// The software's name (1).
+    /// The software's name.
     pub software_name: Text,
-    /// Who made, owns or hands out the software and the tag, at least one (2).
+    /// Who made, owns or hands out the software and the tag, at least one.
     pub entity: Entities,
-    /// What was found of the software on an endpoint (3).
+    /// What was found of the software on an endpoint.
     pub evidence: Option<Evidence>,
-    /// Links, at least one (4).
+    /// Links, at least one.
     pub link: Option<LinkEntries>,
-    /// Descriptions of the software, at least one (5).
+    /// Descriptions of the software, at least one.
     pub software_meta: Option<SoftwareMetas>,
-    /// What the software installs (6). A tag with evidence has none.
+    /// What the software installs. A tag with evidence has none.
     pub payload: Option<Payload>,
-    /// Whether it describes software that is not installed yet (8).
+    /// Whether it describes software that is not installed yet.
     pub corpus: Option<bool>,
-    /// Whether it describes a patch (9).
+    /// Whether it describes a patch.
     pub patch: Option<bool>,
-    /// For which media the software is meant, as a query (10).
+    /// For which media the software is meant, as a query.
     pub media: Option<Text>,
-    /// Whether it adds to another tag (11).
+    /// Whether it adds to another tag.
     pub supplemental: Option<bool>,
-    /// Which release of the tag it is (12).
+    /// Which release of the tag it is.
     pub tag_version: i64,
-    /// The software's version (13).
+    /// The software's version.
     pub software_version: Option<Text>,
-    /// How the version is built (14): multipart numeric 1, multipart numeric with suffix 2, alphanumeric 3, decimal 4, semantic
+    /// How the version is built: multipart numeric 1, multipart numeric with suffix 2, alphanumeric 3, decimal 4, semantic
     /// version 16384.
     pub version_scheme: Option<CodeValue>,
-    /// The language of its texts (15).
+    /// The language of its texts.
     pub lang: Option<Text>,
     /// The pairs under all other keys.
     pub extras: Pairs,

@@ -2,9 +2,10 @@
 //!
 //! It stands on `wire_base`. The crates above rest on `read` of `read_message` (the attributes with the places of their
 //! values, or the first fault of the message), on `octets` of `write_message` and `write_error`, on `value` of
-//! `read_error`, and on `fed` of `AttrFeed::feed` (what a feed answers, by the octets that it was handed, joined). The
-//! layouts are in `specs/AttrForm.antt`, `MessageForm.antt` and `ErrorForm.antt`, the table of faults in `Faults.antt`; the
-//! functions of `laws` say what the definitions mean.
+//! `read_error`, and on `fed` of `AttrFeed::feed` (what a feed answers, by the octets that it was handed, joined);
+//! `answered` of `is_value_fault_answered` is there for whoever answers faults of values. The layouts are in
+//! `specs/AttrForm.antt`, `MessageForm.antt` and `ErrorForm.antt`, the table of faults in `Faults.antt`; the functions of
+//! `laws` say what the definitions mean.
 #![tactic(auto)]
 
 mod attr;

@@ -170,6 +170,27 @@ fn another_version_goes_before_what_stands_behind_it(rt: HostRuntime) -> Result<
         octets.extend(attribute)?;
         assert_eq!(rt; fault_of(alloc, octets.as_slice()), Some(version));
     }
+    for (torn, _) in TORN.iter() {
+        let mut octets = List::new(alloc);
+        octets.extend(&header)?;
+        octets.extend(torn)?;
+        assert_eq!(rt; fault_of(alloc, octets.as_slice()), Some(version));
+    }
+    Ok(())
+}
+
+#[test]
+fn another_version_goes_before_64_attributes(rt: HostRuntime) -> Result<(), Fail> {
+    let alloc = rt.alloc();
+    let mut octets = List::new(alloc);
+    octets.extend(&[2, 0, 0, 0, 0, 0, 0, 5])?;
+    for _ in 0..65 {
+        octets.extend(&GOOD)?;
+    }
+    let Some(fault) = fault_of(alloc, octets.as_slice()) else {
+        panic!(rt; "the octets are no message")
+    };
+    assert_eq!(rt; (fault.code, fault.offset, fault.answer), (2, 0, true));
     Ok(())
 }
 
@@ -279,6 +300,18 @@ fn no_error_answers_an_error(rt: HostRuntime) {
     assert_eq!(rt; is_told_of_values(alloc, &GOOD, &TOLD), Some(false));
 }
 
+#[test]
+fn an_empty_attribute_is_read(rt: HostRuntime) -> Result<(), Fail> {
+    let octets = message_of(rt.alloc(), &GOOD, &[])?;
+    assert!(rt; octets.len() <= 4096);
+    let PaRead::Ok { attrs, .. } = read_message(rt.alloc(), octets.as_slice(), &SUPPORTED) else {
+        panic!(rt; "the octets are a message")
+    };
+    let first = attrs.get(0).map(|first| (first.at, first.attr.kind, first.attr.value.len()));
+    assert_eq!(rt; (attrs.len(), first), (1, Some((20, 18, 0))));
+    Ok(())
+}
+
 /// The header of an attribute of type 14 with 4000 octets as its value.
 const LONG: [u8; 12] = [0, 0, 0, 0, 0, 0, 0, 14, 0, 0, 0x0f, 0xac];
 
@@ -333,6 +366,26 @@ const ERROR_VALUE: [u8; 20] = [
     2, 0, 0, 0, 0, 0, 0, 5, // the header of the message
     1, 1, 0, 0, // versions, reserved
 ];
+
+#[test]
+fn an_error_is_written_as_an_attribute(rt: HostRuntime) -> Result<(), Fail> {
+    let alloc = rt.alloc();
+    let version = PaError::version(alloc, [2, 0, 0, 0, 0, 0, 0, 5])?;
+    let mut attrs = List::new(alloc);
+    attrs.push(Attr {
+        noskip: false,
+        vendor: 0,
+        kind: 8,
+        value: write_error(alloc, &version)?,
+    })?;
+    let written = write_message(alloc, &PaMessage { id: 5, attrs })?;
+    let mut wanted = List::new(alloc);
+    wanted.extend(&START)?;
+    wanted.extend(&[0, 0, 0, 0, 0, 0, 0, 8, 0, 0, 0, 32])?;
+    wanted.extend(&ERROR_VALUE)?;
+    assert_eq!(rt; written.as_slice(), wanted.as_slice());
+    Ok(())
+}
 
 #[test]
 fn errors_are_made_and_written(rt: HostRuntime) -> Result<(), Fail> {
