@@ -370,13 +370,14 @@ const ERROR_VALUE: [u8; 20] = [
 #[test]
 fn an_error_is_written_as_an_attribute(rt: HostRuntime) -> Result<(), Fail> {
     let alloc = rt.alloc();
-    let version = PaError::version(alloc, [2, 0, 0, 0, 0, 0, 0, 5])?;
+    let mut value = List::new(alloc);
+    value.extend(&ERROR_VALUE)?;
     let mut attrs = List::new(alloc);
     attrs.push(Attr {
         noskip: false,
         vendor: 0,
         kind: 8,
-        value: write_error(alloc, &version)?,
+        value,
     })?;
     let written = write_message(alloc, &PaMessage { id: 5, attrs })?;
     let mut wanted = List::new(alloc);
