@@ -34,4 +34,6 @@ pub use read::{PaRead, is_value_fault_answered, read_message};
 pub use write::write_message;
 
 #[cfg(test)]
+mod feed_tests;
+#[cfg(test)]
 mod tests;
