@@ -16,7 +16,7 @@ use Rattle.collector_core.specs.Legal.{IsLegal, MayFollow}
 use Rattle.collector_core.specs.Meaning.{LastRises, MovedIsLater}
 use Rattle.collector_core.proofs.Chronicles.{AllFollow, Rising, current_honest, current_more, follow_on, number_rises, rising, trims_more}
 
-abbrev at : Start → List Entry → Chronicle
+abbrev pub at : Start → List Entry → Chronicle
 at start entries = record { start = start; entries = entries }
 
 module _ (start : Start) (P : Chronicle → Type 0) (step : (before : List Entry) (x : Entry) → P (at start before) → MayFollow (at start before) x → P (at start (before ++ x ∷ []))) where

@@ -38,7 +38,7 @@ identified_more xs place item lt is =
     ∙ ap (λ (n : ℕ). identified_from 1 (take place xs) ++ record { id = n; content = get_or xs place item } ∷ []) e
     ∙ ap (λ (c : Content). identified_from 1 (take place xs) ++ record { id = place + 1; content = c } ∷ []) (sym is)
 
-identified_length : (id : ℕ) (xs : List Content) → length (identified_from id xs) ≡ length xs
+pub identified_length : (id : ℕ) (xs : List Content) → length (identified_from id xs) ≡ length xs
 identified_length id [] = refl
 identified_length id (x ∷ xs) = omega (arith, identified_length (id + 1) xs)
 

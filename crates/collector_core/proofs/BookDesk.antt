@@ -25,7 +25,8 @@ book_reads book answered some answers = record {
 
 -- ---- changes
 
-state_same : (book : BookView) (chronicle : Chronicle) → Stands book chronicle → book_state book ≡ state_of chronicle
+-- What a change looks at is the same in the book and at a chronicle that it represents.
+pub state_same : (book : BookView) (chronicle : Chronicle) → Stands book chronicle → book_state book ≡ state_of chronicle
 state_same book chronicle stands =
     ap (λ (n : ℕ). record { epoch = n; last = book.log.last; next = book.next; records = book.records }) stands.epoch
     ∙ ap (λ (n : ℕ). record { epoch = (current chronicle).number; last = n; next = book.next; records = book.records }) stands.last

@@ -19,3 +19,8 @@ pub mod Keeping
 pub mod Along
 pub mod Telling
 pub mod Growing
+pub mod Prefixes
+pub mod Owning
+pub mod Fits
+pub mod Limits
+pub mod WrittenAnswers

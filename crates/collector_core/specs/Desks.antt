@@ -1,5 +1,5 @@
 -- Desks: who keeps an inventory, changes it when told to and answers of it, while others may change it between two calls.
-use Rattle.std.specs.Prelude.{◌≡◌, ◌≤◌, ◌+◌, ℕ, true, false, List, [], ◌∷◌, ◌++◌, Option, Some, None, Result, Ok, Err, length, map}
+use Rattle.std.specs.Prelude.{◌≡◌, ◌≤◌, ◌+◌, ℕ, true, false, List, [], ◌∷◌, ◌++◌, Option, Some, None, Result, Ok, Err, length, map, filter}
 use Rattle.swima_model.specs.declared.record.Content.{Content}
 use Rattle.swima_model.specs.declared.record.Record.{Record}
 use Rattle.collector_core.specs.declared.chronicle.Entry.{Entry}
@@ -29,6 +29,10 @@ AreOwn (mark ∷ later) = (mark.own ≡ true) × AreOwn later
 abbrev pub AreOthers : List Mark → Type 0
 AreOthers [] = Unit {0}
 AreOthers (mark ∷ later) = (mark.own ≡ false) × AreOthers later
+
+-- The entries that are one's own, in order.
+abbrev pub owned : List Mark → List Entry
+owned marks = entries (filter (λ (m : Mark). m.own) marks)
 
 -- ---- what a change looks at
 

@@ -1,5 +1,5 @@
 -- Any change of a book, as one value.
-use Rattle.std.specs.Prelude.{◌≡◌, ℕ, Bool, true, false, Option, Some, Result, Ok, Err, option_map}
+use Rattle.std.specs.Prelude.{◌≡◌, ℕ, Bool, true, false, Option, Some, Result, Ok, Err, option_map, unwrap_or}
 use Rattle.wire_base.specs.Stamp.{IsStamp}
 use Rattle.swima_model.specs.declared.record.Record.{Record}
 use Rattle.swima_model.specs.Live.{record_of}
@@ -8,9 +8,10 @@ use Rattle.collector_core.specs.declared.chronicle.Entry.TheVariants as entry
 use Rattle.collector_core.specs.declared.edit.Edit.{Edit}
 use Rattle.collector_core.specs.declared.edit.Edit.TheVariants as edit
 use Rattle.collector_core.specs.declared.error.BookError.{BookError}
+use Rattle.collector_core.specs.BookDesk.{book_state}
 use Rattle.collector_core.specs.Desks.{State}
 use Rattle.collector_core.specs.Refusals.{alter_refusal, create_refusal, delete_refusal, epoch_refusal, trim_refusal}
-use Rattle.collector_core.specs.Standing.{IsAlteration, IsCreation, IsDeletion, alteration, creation, deletion}
+use Rattle.collector_core.specs.Standing.{BookView, IsAlteration, IsCreation, IsDeletion, alteration, creation, deletion}
 
 -- Where it has a moment, this is a stamp.
 abbrev pub IsStamped : Edit → Type 0
@@ -35,6 +36,11 @@ entry_of (edit.Alter stamp id content) state = Some (entry.Event (alteration sta
 entry_of (edit.Delete stamp id) state = option_map (λ (held : Record). entry.Event (deletion state.last stamp.now held)) (record_of id state.records)
 entry_of (edit.BeginEpoch epoch) state = Some (entry.Epoch epoch)
 entry_of (edit.Trim first) state = Some (entry.Trim first)
+
+-- The entry that it makes, by the book before it. Where it makes none, a trim to 0, which changes
+-- nothing.
+abbrev pub book_entry : Edit → BookView → Entry
+book_entry edit book = unwrap_or (entry_of edit (book_state book)) (entry.Trim 0)
 
 -- Why it is refused.
 abbrev pub edit_refusal : Edit → State → Option BookError

@@ -14,3 +14,4 @@ pub mod BookDesk
 pub mod Edits
 pub mod InTurn
 pub mod Meaning
+pub mod WrittenAnswers

@@ -1,5 +1,5 @@
 -- What the definitions of chronicles mean.
-use Rattle.std.specs.Prelude.{◌≡◌, ◌≢◌, ◌<◌, ◌≤◌, ◌↔◌, ℕ, true, Some, List, [], ◌∷◌, ◌++◌, All, AllPairs, length}
+use Rattle.std.specs.Prelude.{◌≡◌, ◌≢◌, ◌<◌, ◌≤◌, ◌↔◌, ℕ, true, Some, Ok, List, [], ◌∷◌, ◌++◌, All, AllPairs, length, drop}
 use Rattle.swima_model.specs.declared.event.Event.{Event as EventValue}
 use Rattle.swima_model.specs.declared.report.Point.{Point}
 use Rattle.swima_model.specs.declared.report.Report.{Report}
@@ -8,12 +8,17 @@ use Rattle.swima_model.specs.Reports.{ConsultsWithin, HasStamps}
 use Rattle.swima_model.specs.Size.{MOST_RECORDS, report_count, report_size}
 use Rattle.swima_request.specs.declared.request.Request.{Request}
 use Rattle.collector_core.specs.declared.chronicle.Entry.{Entry}
+use Rattle.collector_core.specs.declared.chronicle.Mark.{Mark}
+use Rattle.collector_core.specs.declared.answer.Answer.{Answer}
 use Rattle.collector_core.specs.declared.answer.Answer.TheVariants as answer
+use Rattle.collector_core.specs.declared.edit.Changed.{Changed}
 use Rattle.collector_core.specs.declared.edit.Edit.{Edit}
+use Rattle.collector_core.specs.BookDesk.{book_state}
 use Rattle.collector_core.specs.Chronicle.{Chronicle, current, extended, front, history, last_eid}
-use Rattle.collector_core.specs.Desks.{State}
-use Rattle.collector_core.specs.Edits.{Makes, entry_of}
+use Rattle.collector_core.specs.Desks.{AreOthers, AreOwn, State, entries, owned, state_of}
+use Rattle.collector_core.specs.Edits.{Makes, book_entry, edit_refusal, entry_of}
 use Rattle.collector_core.specs.Legal.{IsLegal}
+use Rattle.collector_core.specs.Standing.{BookView, Enters, Stands}
 use Rattle.collector_core.specs.Answering.{answer_at, events_report, moved_at, told}
 
 -- The histories of chronicles, one after another.
@@ -35,7 +40,28 @@ AnswersAreOfTheHistory = (chronicle : Chronicle) (request : Request) (most : ℕ
 abbrev pub FrontsAreLegal : Type 0
 FrontsAreLegal = (chronicle : Chronicle) (count : ℕ) → IsLegal chronicle → IsLegal (front chronicle count)
 
+-- ---- prefixes
+
+-- A prefix of a chronicle stays the same when further entries are appended.
+abbrev pub PrefixesStay : Type 0
+PrefixesStay = (chronicle : Chronicle) (further : List Entry) (count : ℕ) → count ≤ length chronicle.entries
+    → front (extended chronicle further) count ≡ front chronicle count
+
+-- A prefix with the entries after it is the whole chronicle.
+abbrev pub PrefixesExtend : Type 0
+PrefixesExtend = (chronicle : Chronicle) (count : ℕ) → extended (front chronicle count) (drop count chronicle.entries) ≡ chronicle
+
 -- ---- what answers tell
+
+-- An answer is a report of at most this many octets, or the size of one that has more. It is never
+-- that memory ran out.
+abbrev pub IsReportOrSize : ℕ → Answer → Type 0
+IsReportOrSize most (answer.Report report) = report_size report ≤ most
+IsReportOrSize most (answer.TooLarge size limit) = (most < size) × (limit ≡ most)
+IsReportOrSize most answer.Memory = ⊥
+
+abbrev pub AnswersAreReportsOrSizes : Type 0
+AnswersAreReportsOrSizes = (chronicle : Chronicle) (request : Request) (most : ℕ) → IsReportOrSize most (answer_at chronicle request most)
 
 -- The report has at most so many octets, and no more than 65,536 records or events; and it may be written.
 pub record CanBeTold (most : ℕ) (report : Report) : Type 0 where
@@ -89,3 +115,24 @@ AnswersStay = (chronicle : Chronicle) (further : List Entry) (report : Report) �
 -- An entry is the one that a change makes exactly where it is the one that the function gives.
 abbrev pub EntryOfIsMade : Type 0
 EntryOfIsMade = (edit : Edit) (state : State) (made : Entry) → Makes edit state made ↔ (entry_of edit state ≡ Some made)
+
+-- The entry that a change makes of what a book holds is the one that the book before it gives.
+abbrev pub BookEntryIsMade : Type 0
+BookEntryIsMade = (edit : Edit) (book : BookView) (made : Entry) → Makes edit (book_state book) made → made ≡ book_entry edit book
+
+-- So it is at each chronicle that the book before the change represented. The book after it
+-- represents that chronicle with this entry appended.
+abbrev pub BookEntryIsEntered : Type 0
+BookEntryIsEntered = (edit : Edit) (old new : BookView) (changed : Changed) (chronicle : Chronicle) → Stands old chronicle
+    → Enters (Makes edit (state_of chronicle)) (edit_refusal edit (state_of chronicle)) chronicle (Ok changed) new
+    → Makes edit (state_of chronicle) (book_entry edit old) × Stands new (extended chronicle (book_entry edit old ∷ []))
+
+-- ---- entries that came
+
+-- What is one's own of two stretches is that of the first, followed by that of the second.
+abbrev pub OwnedJoins : Type 0
+OwnedJoins = (marks further : List Mark) → owned (marks ++ further) ≡ owned marks ++ owned further
+
+-- Of others' entries nothing is one's own, and of one's own entries each is.
+abbrev pub OwnedIsOwn : Type 0
+OwnedIsOwn = (marks : List Mark) → (AreOthers marks → owned marks ≡ []) × (AreOwn marks → owned marks ≡ entries marks)

@@ -1,6 +1,7 @@
 //! What the definitions mean, proved of every value: the calls do nothing.
 
-ghost use Rattle.collector_core.specs.Meaning.{AnswersAreOfTheHistory, AnswersCanBeTold, AnswersStay, ChroniclesJoin, EntryOfIsMade, FrontsAreLegal, LastRises, LongestFrontIsTold, MovedIsLater};
+ghost use Rattle.collector_core.specs.Meaning.{AnswersAreOfTheHistory, AnswersAreReportsOrSizes, AnswersCanBeTold, AnswersStay, BookEntryIsEntered, BookEntryIsMade, ChroniclesJoin, EntryOfIsMade, FrontsAreLegal, LastRises, LongestFrontIsTold, MovedIsLater, OwnedIsOwn, OwnedJoins, PrefixesExtend, PrefixesStay};
+ghost use Rattle.collector_core.specs.WrittenAnswers.{AnswersAreReadBack};
 
 /// The histories of several legal chronicles one after another are an honest history, where no number of an epoch is used
 /// twice. This is how a collector counts that was started anew.
@@ -18,10 +19,32 @@ pub fn fronts_are_legal()
     ensures law { FrontsAreLegal }
 {}
 
+/// A prefix of a chronicle stays the same when further entries are appended.
+pub fn prefixes_stay()
+    ensures law { PrefixesStay }
+{}
+
+/// A prefix of a chronicle, with the entries after it appended, is the whole chronicle.
+pub fn prefixes_extend()
+    ensures law { PrefixesExtend }
+{}
+
+/// An answer by definition is a report of at most the octets that were asked for, or the size of
+/// one that has more. Only a call can run out of memory.
+pub fn answers_are_reports_or_sizes()
+    ensures law { AnswersAreReportsOrSizes }
+{}
+
 /// At a legal chronicle, a report that is an answer has at most the octets that were asked for and 65,536 records or events, its
 /// moments are stamps, and it consulted no event behind its point (RFC 8412, section 5.8).
 pub fn answers_can_be_told()
     ensures law { AnswersCanBeTold }
+{}
+
+/// At a legal chronicle, a report that is an answer of at most 16,777,000 octets can be written, and
+/// is read back as it was from what is written of it (RFC 8412, sections 5.7 to 5.10).
+pub fn answers_are_read_back()
+    ensures law { AnswersAreReadBack }
 {}
 
 /// Where something has moved since a point of the current epoch, the point is below the last event identifier.
@@ -48,4 +71,26 @@ pub fn longest_front_is_told()
 /// Which entry a change makes is a function of the change and of what it looks at.
 pub fn entry_of_is_made()
     ensures law { EntryOfIsMade }
+{}
+
+/// The entry that a change makes of what a book holds is a function of the change and of the book
+/// before it.
+pub fn book_entry_is_made()
+    ensures law { BookEntryIsMade }
+{}
+
+/// After a change that was done, the book represents each chronicle that it represented before, with
+/// the entry appended that the book before the change gives.
+pub fn book_entry_is_entered()
+    ensures law { BookEntryIsEntered }
+{}
+
+/// One's own entries of two stretches are those of the first, followed by those of the second.
+pub fn owned_joins()
+    ensures law { OwnedJoins }
+{}
+
+/// Of others' entries none is one's own, and of one's own entries each is.
+pub fn owned_is_own()
+    ensures law { OwnedIsOwn }
 {}

@@ -6,10 +6,11 @@ ghost use Rattle.cbor_det.specs.Canonical.{canon};
 ghost use Rattle.cbor_det.specs.Term.{depth};
 ghost use Rattle.coswid_codec.specs.Items.{tag_item};
 ghost use Rattle.coswid_codec.specs.TagText.{canonical_line, finding_line, identifier_line, kind_line, summary_text, tag_text};
+ghost use Rattle.coswid_tag.specs.Findings.{findings};
 ghost use Rattle.coswid_tag.specs.Identifier.{identifier_of};
 
 use crate::write::write_tag;
-use coswid_tag::{IdentRefused, Tag, TagKind, constraints, kind, software_identifier};
+use coswid_tag::{Findings, IdentRefused, Tag, TagKind, constraints, kind, software_identifier};
 use std::alloc::Global;
 use wire_base::{List, Memory, Octets, push_escaped};
 
@@ -26,15 +27,17 @@ pub fn tag_text(alloc: Global, tag: &Tag) -> Result<Octets, Memory>
     Ok(out)
 }
 
-/// Puts the lines of a tag but for its canonical spelling at the end of `out`: the kind, the software identifier and each finding;
-/// `Memory` where there is no room.
-pub fn put_summary(alloc: Global, out: &mut Octets, tag: &Tag) -> Result<(), Memory>
+/// Puts the lines of a tag except its canonical spelling at the end of `out`: the kind, the software
+/// identifier and each finding. Gives the findings; `Memory` where there is no room.
+pub fn put_summary(alloc: Global, out: &mut Octets, tag: &Tag) -> Result<Findings, Memory>
     ensures lines { OnOk result (out.new ≡ out.old ++ summary_text tag.now) }
+    ensures findings { IfOk result (λ found. found ≡ findings tag.now) }
 {
     put_kind(out, kind(tag))?;
     put_identifier(alloc, out, tag)?;
     let found = constraints(alloc, tag)?;
-    put_findings(alloc, out, found.as_slice())
+    put_findings(alloc, out, found.as_slice())?;
+    Ok(found)
 }
 
 /// Puts the line of a tag's canonical spelling at the end of `out`; `Memory` where there is no room, and where a file has a size above

@@ -11,7 +11,7 @@ use crate::names::Names;
 use crate::rival::put_rivals;
 use coswid_tag::Tag;
 use std::alloc::Global;
-use wire_base::{List, Memory};
+use wire_base::{List, Memory, TryCopy};
 
 /// Something that is wrong between tags of a list.
 #[derive(Clone, Copy, Debug, PartialEq, Eq)]
@@ -22,6 +22,12 @@ pub struct LinkFinding {
     pub first: u64,
     /// The number of the link in its tag, or of the second of two tags, from 1.
     pub second: u64,
+}
+
+impl TryCopy for LinkFinding {
+    fn copy(&self) -> Result<Self, Memory> {
+        Ok(*self)
+    }
 }
 
 /// Findings in order.

@@ -10,12 +10,15 @@ use coswid_codec::read_tag;
 use coswid_tag::Tag;
 use std::alloc::Global;
 use std::test::Fail;
+use wire_base::TryCopy;
 
-/// The findings on the tags whose octets these hexadecimal digits are: for each its kind and its two numbers.
+/// A copy of the findings on the tags whose octets these hexadecimal digits are: for each its kind and
+/// its two numbers.
 pub(crate) fn told(alloc: Global, digits: &str) -> Result<String, Fail> {
     let octets = hex::decode(alloc, digits.as_bytes())?;
     let tags = tags(alloc, octets.as_slice())?;
-    text(alloc, &check_links(alloc, tags.as_slice())?)
+    let found = check_links(alloc, tags.as_slice())?;
+    text(alloc, &found.copy()?)
 }
 
 /// The tags that the octets are.

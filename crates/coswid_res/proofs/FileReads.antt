@@ -10,8 +10,8 @@ use Rattle.coswid_res.specs.declared.file_check.VerifyRefused.TheVariants as ref
 use Rattle.coswid_res.specs.declared.listing.ListedFile.{ListedFile}
 use Rattle.coswid_res.specs.declared.verdict.Verdict.{Verdict}
 use Rattle.coswid_res.specs.Verify.{Reads, answered, is_read, paths_read, read_for}
-use Rattle.wire_base.specs.declared.passing.Stopped.{Stopped}
-use Rattle.wire_base.specs.declared.passing.Stopped.TheVariants as stopped
+use Rattle.wire_base.specs.declared.outside.passing.Stopped.{Stopped}
+use Rattle.wire_base.specs.declared.outside.passing.Stopped.TheVariants as stopped
 use Rattle.wire_base.specs.NamedFile.{Read, with_reads}
 use Rattle.wire_base.specs.Passing.{is_fault}
 

@@ -8,7 +8,7 @@ use Rattle.coswid_res.specs.declared.verdict.Algorithm.{Algorithm}
 use Rattle.coswid_res.specs.declared.verdict.Verdict.{Verdict}
 use Rattle.coswid_res.specs.declared.verdict.Verdict.TheVariants as verdict
 use Rattle.coswid_res.specs.Verify.{FILE_OCTETS, IsLine, IsVerdict, IsVerdicts, algorithm_of, hashed_verdict, read_verdict, verdict_on, verdicts_of}
-use Rattle.wire_base.specs.declared.files.NamedFile.{NamedFile}
+use Rattle.wire_base.specs.declared.outside.files.NamedFile.{NamedFile}
 use Rattle.wire_base.specs.NamedFile.{content_of}
 
 abbrev Line : Type 0

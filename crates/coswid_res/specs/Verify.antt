@@ -13,10 +13,10 @@ use Rattle.coswid_res.specs.declared.file_check.VerifyRefused.{VerifyRefused}
 use Rattle.coswid_res.specs.declared.file_check.VerifyRefused.TheVariants as refused
 use Rattle.sha2.specs.Sha256.{sha256}
 use Rattle.sha2.specs.Sha512.{sha384, sha512}
-use Rattle.wire_base.specs.declared.files.NamedFile.{NamedFile}
+use Rattle.wire_base.specs.declared.outside.files.NamedFile.{NamedFile}
 use Rattle.wire_base.specs.NamedFile.{Read, content_of, with_reads}
-use Rattle.wire_base.specs.declared.passing.Stopped.{Stopped}
-use Rattle.wire_base.specs.declared.passing.Stopped.TheVariants as stopped
+use Rattle.wire_base.specs.declared.outside.passing.Stopped.{Stopped}
+use Rattle.wire_base.specs.declared.outside.passing.Stopped.TheVariants as stopped
 
 -- The algorithms that are known, by their numbers in the Named Information Hash Algorithm Registry (RFC 6920, section 9.4).
 abbrev pub algorithm_of : ℤ → Option Algorithm

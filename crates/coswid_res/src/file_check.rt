@@ -38,9 +38,9 @@ impl From<Memory> for VerifyRefused {
     }
 }
 
-/// The verdicts on all files of a payload, files before directories, depth first (RFC 9393, section 2.9). A file is read once for
-/// each entry that names it, and only where the hash there is by a known algorithm. `FileFault` exactly where a read failed,
-/// with its path; `Memory` also where the paths of all files and directories together take more than 67108864 octets.
+/// The verdicts on all files of a payload, files before directories, depth first (RFC 9393, section
+/// 2.9). A file is read once for each entry that names it, and only where the hash there is by a known
+/// algorithm. `FileFault` exactly where a read failed, with its path; `Memory` where there is no room.
 pub fn verify<F: Files>(
     alloc: Global,
     payload: &Payload,

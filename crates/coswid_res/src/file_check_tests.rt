@@ -407,13 +407,17 @@ fn long_paths(alloc: Global, count: u8) -> Result<Payload, Fail> {
     )
 }
 
-/// The path of the directory, and that of each file in it, take 1048576 octets.
+/// The path of the directory, and that of each file in it, have 1048576 octets: 68157440 together.
 #[test]
-fn paths_may_take_too_much_room(rt: HostRuntime) -> Result<(), Fail> {
-    for (count, some) in [(63, true), (64, false)] {
-        let payload = long_paths(rt.alloc(), count)?;
-        let answer = verify(rt.alloc(), &payload, &mut MemFiles::empty(rt.alloc()));
-        assert_eq!(rt; matches!(answer, Err(VerifyRefused::Memory)), !some);
-    }
+fn paths_may_be_far_longer_than_the_payload(rt: HostRuntime) -> Result<(), Fail> {
+    let payload = long_paths(rt.alloc(), 64)?;
+    let answer = verify(rt.alloc(), &payload, &mut MemFiles::empty(rt.alloc()));
+    assert!(rt; matches!(answer, Ok(_)));
     Ok(())
+}
+
+#[test]
+fn a_verdict_can_be_copied(rt: HostRuntime) {
+    let copy = Verdict::LongFile(67_108_865).copy();
+    assert!(rt; matches!(copy, Ok(Verdict::LongFile(67_108_865))));
 }

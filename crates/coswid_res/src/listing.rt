@@ -11,7 +11,6 @@ use crate::file::FileEntry;
 use crate::hash::HashEntry;
 use crate::payload::Payload;
 use std::alloc::Global;
-use std::marker::Model;
 use wire_base::{List, Memory, Text};
 
 /// What a payload states of one file.
@@ -25,74 +24,43 @@ pub struct ListedFile {
     pub hash: Option<HashEntry>,
 }
 
-/// How many octets all paths of a payload may take together, those of its directories too.
-const PATH_ROOM: usize = 67_108_864;
-
-/// All files of a payload, files before directories, depth first. `Memory` where there is no room for them, or where the
-/// paths of all files and directories together would take more than 67108864 octets: the name of a directory stands in the
-/// path of each file in it, so the paths can be far longer than the payload.
+/// All files of a payload, files before directories, depth first; `Memory` where there is no room for
+/// them.
 pub fn listed_files(alloc: Global, payload: &Payload) -> Result<List<ListedFile>, Memory>
     ensures listed { IfOk result (λ files. files ≡ listed payload.now) }
 {
-    let mut listing = Listing::new(alloc);
+    let mut listing = List::new(alloc);
     list_payload(&mut listing, payload)?;
-    Ok(listing.files)
+    Ok(listing)
 }
 
-/// The files that were found, and how many octets more their paths may take.
-#[derive(Debug, Drop)]
-struct Listing {
-    files: List<ListedFile>,
-    room: usize,
+/// Puts a file of the directories `around` at the end.
+fn list_file(listing: &mut List<ListedFile>, around: &str, file: &FileEntry) -> Result<(), Memory>
+    ensures pushed { OnOk result (listing.new ≡ listing.old ++ listed_file around.now file.now ∷ []) }
+{
+    let alloc = listing.allocator();
+    let root = part(&file.root);
+    let path = path_of(alloc, root, around, &file.location, &file.fs_name)?;
+    let hash = copy_option(&file.hash)?;
+    let size = file.size;
+    listing.push(ListedFile { path, size, hash })
 }
 
-impl Model for Listing {
-    ghost use Rattle.std.specs.Prelude.{List};
-    ghost use Rattle.coswid_res.specs.declared.listing.ListedFile.{ListedFile};
-
-    ghost Value = { List ListedFile };
-
-    ghost view = { λ listing. listing.files };
-}
-
-impl Listing {
-    fn new(alloc: Global) -> Self
-        ensures empty { result ≡ [] }
-    {
-        Listing {
-            files: List::new(alloc),
-            room: PATH_ROOM,
-        }
-    }
-
-    /// Puts a file of the directories `around` at the end.
-    fn push(&mut self, around: &str, file: &FileEntry) -> Result<(), Memory>
-        ensures pushed { OnOk result (self.new ≡ self.old ++ listed_file around.now file.now ∷ []) }
-    {
-        let path = self.path(part(&file.root), around, &file.location, &file.fs_name)?;
-        let hash = copy_option(&file.hash)?;
-        let size = file.size;
-        self.files.push(ListedFile { path, size, hash })
-    }
-
-    /// The path of these parts, if there is room for it.
-    fn path(
-        &mut self,
-        root: &str,
-        around: &str,
-        location: &Option<Text>,
-        name: &Text,
-    ) -> Result<Text, Memory>
-        ensures path { IfOk result (λ path. path ≡ joined (root.now ∷ around.now ∷ unwrap_or location.now [] ∷ name.now ∷ [])) }
-        ensures files { self.new ≡ self.old }
-    {
-        let mut path = String::from_str(self.files.allocator(), root)?;
-        push_part(&mut path, around)?;
-        push_part(&mut path, part(location))?;
-        push_part(&mut path, name.as_str())?;
-        self.room = self.room.checked_sub(path.len()).ok_or(Memory)?;
-        Ok(Text::from_string(path))
-    }
+/// The path of these parts.
+fn path_of(
+    alloc: Global,
+    root: &str,
+    around: &str,
+    location: &Option<Text>,
+    name: &Text,
+) -> Result<Text, Memory>
+    ensures path { IfOk result (λ path. path ≡ joined (root.now ∷ around.now ∷ unwrap_or location.now [] ∷ name.now ∷ [])) }
+{
+    let mut path = String::from_str(alloc, root)?;
+    push_part(&mut path, around)?;
+    push_part(&mut path, part(location))?;
+    push_part(&mut path, name.as_str())?;
+    Ok(Text::from_string(path))
 }
 
 /// Puts a part at the end of a path, with `/` between; one that is empty is left out.
@@ -121,7 +89,7 @@ fn part(text: &Option<Text>) -> &str
     }
 }
 
-fn list_payload(listing: &mut Listing, payload: &Payload) -> Result<(), Memory>
+fn list_payload(listing: &mut List<ListedFile>, payload: &Payload) -> Result<(), Memory>
     ensures lists { OnOk result (listing.new ≡ listing.old ++ listed payload.now) }
 {
     list_some_files(listing, "", &payload.file)?;
@@ -132,7 +100,7 @@ fn list_payload(listing: &mut Listing, payload: &Payload) -> Result<(), Memory>
 }
 
 fn list_some_files(
-    listing: &mut Listing,
+    listing: &mut List<ListedFile>,
     around: &str,
     files: &Option<List<FileEntry>>,
 ) -> Result<(), Memory>
@@ -142,7 +110,7 @@ fn list_some_files(
         return Ok(());
     };
     for file in files.as_slice() {
-        listing.push(around, file)?;
+        list_file(listing, around, file)?;
     }
     Ok(())
 }
@@ -151,10 +119,15 @@ fn list_some_files(
 /// in directories.
 #[cycle(list)]
 #[tactic(auto, using(crate::proofs::Listings::directory_listed))]
-fn list_directory(listing: &mut Listing, around: &str, directory: &DirEntry) -> Result<(), Memory>
+fn list_directory(
+    listing: &mut List<ListedFile>,
+    around: &str,
+    directory: &DirEntry,
+) -> Result<(), Memory>
     ensures lists { OnOk result (listing.new ≡ listing.old ++ directory_listing directory.now around.now) }
 {
-    let path = listing.path("", around, &directory.location, &directory.fs_name)?;
+    let alloc = listing.allocator();
+    let path = path_of(alloc, "", around, &directory.location, &directory.fs_name)?;
     match &directory.path_elements {
         None => Ok(()),
         Some(held) => list_path(listing, path.as_str(), held),
@@ -163,7 +136,11 @@ fn list_directory(listing: &mut Listing, around: &str, directory: &DirEntry) -> 
 
 #[cycle(list)]
 #[tactic(auto, using(crate::proofs::Listings::path_listed))]
-fn list_path(listing: &mut Listing, around: &str, held: &PathElements) -> Result<(), Memory>
+fn list_path(
+    listing: &mut List<ListedFile>,
+    around: &str,
+    held: &PathElements,
+) -> Result<(), Memory>
     ensures lists { OnOk result (listing.new ≡ listing.old ++ path_listing held.now around.now) }
 {
     list_some_files(listing, around, &held.file)?;
@@ -175,7 +152,7 @@ fn list_path(listing: &mut Listing, around: &str, held: &PathElements) -> Result
 
 #[cycle(list)]
 fn list_directories(
-    listing: &mut Listing,
+    listing: &mut List<ListedFile>,
     around: &str,
     directories: &List<DirEntry>,
 ) -> Result<(), Memory>

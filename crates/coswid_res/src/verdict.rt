@@ -11,7 +11,7 @@ ghost use Rattle.wire_base.specs.Passing.{is_fault};
 use crate::hash::HashEntry;
 use crate::listing::ListedFile;
 use sha2::{Digest, Sha256, Sha384, Sha512};
-use wire_base::{FileAnswer, Files, Stopped};
+use wire_base::{FileAnswer, Files, Memory, Stopped, TryCopy};
 
 /// How a file is beside what a payload states of it.
 #[derive(Clone, Copy, Debug, PartialEq, Eq)]
@@ -28,6 +28,12 @@ pub enum Verdict {
     Unhashed,
     /// The hash is by an algorithm of this number, which is not known; the file was not looked at.
     UnknownAlgorithm(i64),
+}
+
+impl TryCopy for Verdict {
+    fn copy(&self) -> Result<Self, Memory> {
+        Ok(*self)
+    }
 }
 
 /// An algorithm of a hash.

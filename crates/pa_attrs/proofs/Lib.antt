@@ -9,3 +9,7 @@ pub mod MessageLaws
 pub mod ErrorLaws
 pub mod FaultLaws
 pub mod FirstFaults
+pub mod AttrsRead
+pub mod OneOfTwo
+pub mod ErrorLengths
+pub mod Reported

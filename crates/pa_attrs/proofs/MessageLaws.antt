@@ -142,19 +142,19 @@ walk_forth supported (suc room) at octets all are e =
 -- ---- a message
 
 -- A header without a fault, and what comes behind it.
-start_passes : (short good : Bool) (supported octets : List ℕ) (id : ℕ) (attrs : List PlacedAttr) → unless_start (first_shown (row short 1 0 ∷ row (not good) 2 0 ∷ [])) supported octets ≡ Ok (id, attrs)
+pub start_passes : (short good : Bool) (supported octets : List ℕ) (id : ℕ) (attrs : List PlacedAttr) → unless_start (first_shown (row short 1 0 ∷ row (not good) 2 0 ∷ [])) supported octets ≡ Ok (id, attrs)
     → (short ≡ false) × (good ≡ true) × (with_id octets (attrs_of supported octets) ≡ Ok (id, attrs))
 start_passes false true supported octets id attrs e = (refl, refl, e)
 start_passes true good supported octets id attrs e = absurd cc
 start_passes false false supported octets id attrs e = absurd cc
 
 -- The identifier and the attributes.
-id_is : (octets : List ℕ) (id : ℕ) (attrs : List PlacedAttr) (read : Result (List PlacedAttr) PaFault) → with_id octets read ≡ Ok (id, attrs) → (read ≡ Ok attrs) × (number_of (slice_range octets 4 8) ≡ id)
+pub id_is : (octets : List ℕ) (id : ℕ) (attrs : List PlacedAttr) (read : Result (List PlacedAttr) PaFault) → with_id octets read ≡ Ok (id, attrs) → (read ≡ Ok attrs) × (number_of (slice_range octets 4 8) ≡ id)
 id_is octets id attrs (Ok others) e = let both : (number_of (slice_range octets 4 8), others) ≡ (id, attrs) = cc in (ap (λ (p : ℕ × List PlacedAttr). Ok p.1) both, ap (λ (p : ℕ × List PlacedAttr). p.0) both)
 id_is octets id attrs (Err fault) e = absurd cc
 
 -- Attributes without a fault, and those of them that are supported.
-none_broken : (supported octets : List ℕ) (all attrs : List PlacedAttr) (broken : Option Broken) → kept supported octets all broken ≡ Ok attrs → (broken ≡ None) × (filter (supports supported) all ≡ attrs)
+pub none_broken : (supported octets : List ℕ) (all attrs : List PlacedAttr) (broken : Option Broken) → kept supported octets all broken ≡ Ok attrs → (broken ≡ None) × (filter (supports supported) all ≡ attrs)
 none_broken supported octets all attrs None e = (refl, cc)
 none_broken supported octets all attrs (Some broken) e = absurd cc
 

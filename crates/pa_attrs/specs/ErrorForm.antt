@@ -1,10 +1,11 @@
 -- A PA-TNC Error (RFC 5792, section 4.2.8), the value of an attribute of vendor 0 and type 8: a code by the numbers of a
 -- vendor, and information by that code.
-use Rattle.std.specs.Prelude.{ℕ, List, [], ◌∷◌, Option, Some, None, length}
+use Rattle.std.specs.Prelude.{◌==◌, ℕ, List, [], ◌∷◌, Option, Some, None, length, if◌then◌else◌}
 use Rattle.wire_base.specs.Layout.{Field, Number, Reserved, Fixed, Form}
 use Rattle.wire_base.specs.Written.{written}
 use Rattle.wire_base.specs.Reading.{Reader, ◌>>=◌, octets, number, at_end, remaining}
 use Rattle.pa_attrs.specs.declared.error.PaError.{PaError}
+use Rattle.pa_attrs.specs.declared.fault.PaFault.{PaFault}
 use Rattle.pa_attrs.specs.Numbers.{IETF, VERSION, INVALID_PARAMETER, VERSION_NOT_SUPPORTED, UNSUPPORTED_ATTRIBUTE}
 
 -- ---- the value
@@ -81,3 +82,10 @@ unsupported_error header first = ietf_error UNSUPPORTED_ATTRIBUTE (unsupported_f
 
 abbrev pub swima_error : ℕ → ℕ → Option ℕ → PaError
 swima_error code id most = ietf_error code (request_fields id most)
+
+-- The Error that reports a fault of a message or of a value, by the code of the fault. Every code
+-- except these two is reported as an invalid parameter.
+abbrev pub error_of : PaFault → PaError
+error_of fault =
+    if fault.code == VERSION_NOT_SUPPORTED then version_error fault.header
+    else (if fault.code == UNSUPPORTED_ATTRIBUTE then unsupported_error fault.header fault.first else invalid_error fault.header fault.offset)

@@ -1,6 +1,7 @@
 -- What the definitions mean. All lists of octets here have numbers below 256.
-use Rattle.std.specs.Prelude.{◌≡◌, ◌≤◌, ◌<◌, ◌+◌, ◌^◌, ◌↔◌, ◌⊎◌, ℕ, true, false, List, [], ◌∷◌, ◌++◌, Some, Ok, Err, length, filter}
+use Rattle.std.specs.Prelude.{◌≡◌, ◌≤◌, ◌<◌, ◌+◌, ◌^◌, ◌↔◌, ◌⊎◌, ℕ, true, false, List, [], ◌∷◌, ◌++◌, Option, Some, Ok, Err, length, filter}
 use Rattle.std.specs.List.{AllByRecursion}
+use Rattle.wire_base.specs.FirstFault.{FormOrFault}
 use Rattle.wire_base.specs.Layout.{AreOctets}
 use Rattle.wire_base.specs.Reading.{whole}
 use Rattle.wire_base.specs.Written.{written}
@@ -13,13 +14,13 @@ use Rattle.pa_attrs.specs.declared.fault.PaFault.{PaFault}
 use Rattle.pa_attrs.specs.declared.header.Header.{Header}
 use Rattle.pa_attrs.specs.Numbers.{HEADER, MESSAGE_HEADER, MOST_OCTETS}
 use Rattle.pa_attrs.specs.AttrForm.{AttrForm, IsNamed, attr_fields, header_for}
-use Rattle.pa_attrs.specs.ErrorForm.{ErrorForm, read_error, written_error}
+use Rattle.pa_attrs.specs.ErrorForm.{ErrorForm, error_of, read_error, swima_error, written_error}
 use Rattle.pa_attrs.specs.Faults.{Row, first_shown, header_rows, is_refused, is_supported, message_rows}
 use Rattle.pa_attrs.specs.FirstFault.{IsFault}
 use Rattle.pa_attrs.specs.Header.{header_of}
 use Rattle.pa_attrs.specs.MessageForm.{CanBeWritten, MessageForm, message_octets, written_message}
-use Rattle.pa_attrs.specs.MessageReading.{message_of, supports}
-use Rattle.pa_attrs.specs.Stream.{Bad, Whole, front_of}
+use Rattle.pa_attrs.specs.MessageReading.{message_of, supports, value_fault}
+use Rattle.pa_attrs.specs.Stream.{More, Bad, Whole, front_of}
 
 -- ---- streams
 
@@ -65,7 +66,7 @@ pub record IsRead (supported octets : List ℕ) (id : ℕ) (attrs : List PlacedA
   pub id-is : id ≡ message.id
   pub attrs-are : attrs ≡ filter (supports supported) (places MESSAGE_HEADER message.attrs)
 
--- A message is read of octets exactly where they are one. So octets have exactly one of a message and a fault.
+-- A message is read of octets exactly where they are one.
 abbrev pub ReadingIsForm : Type 0
 ReadingIsForm = (supported octets : List ℕ) (id : ℕ) (attrs : List PlacedAttr) → AreOctets octets → length octets ≤ MOST_OCTETS
     → (message_of supported octets ≡ Ok (id, attrs)) ↔ IsRead supported octets id attrs
@@ -100,10 +101,39 @@ FaultIsLowest = (supported octets : List ℕ) (room most : ℕ) (h : Header) (fa
 abbrev pub FaultIsFirst : Type 0
 FaultIsFirst = (supported octets : List ℕ) (fault : PaFault) → (message_of supported octets ≡ Err fault) ↔ IsFault supported octets fault
 
+-- The 12 octets of a header are there, and the fault is the first row that shows on them.
+abbrev pub ShowsFault : List ℕ → AttrFault → Type 0
+ShowsFault octets fault = (HEADER ≤ length octets) × (first_shown (header_rows MOST_OCTETS (header_of octets)) ≡ Some fault)
+
 -- A fault shows in a stream exactly where the 12 octets of a header are there and it is the first row that shows on them.
 abbrev pub BadIsFault : Type 0
-BadIsFault = (octets : List ℕ) (fault : AttrFault)
-    → (front_of octets ≡ Bad fault) ↔ ((HEADER ≤ length octets) × (first_shown (header_rows MOST_OCTETS (header_of octets)) ≡ Some fault))
+BadIsFault = (octets : List ℕ) (fault : AttrFault) → (front_of octets ≡ Bad fault) ↔ ShowsFault octets fault
+
+-- ---- exactly one
+
+-- Octets are a message or have a fault: exactly one of the two, and one message or one fault alone.
+pub record HasMessageOrFault (supported octets : List ℕ) : Type 0 where
+  pub one_message : (id other : ℕ) (attrs others : List PlacedAttr) → IsRead supported octets id attrs → IsRead supported octets other others
+      → (id ≡ other) × (attrs ≡ others)
+  pub one_fault : (one other : PaFault) → IsFault supported octets one → IsFault supported octets other → one ≡ other
+  pub not_both : (id : ℕ) (attrs : List PlacedAttr) (fault : PaFault) → IsRead supported octets id attrs → IsFault supported octets fault → ⊥
+  pub not_neither : ((id : ℕ) × (attrs : List PlacedAttr) × IsRead supported octets id attrs) ⊎ ((fault : PaFault) × IsFault supported octets fault)
+
+-- This is true of all octets that may be a message.
+abbrev pub MessageOrFault : Type 0
+MessageOrFault = (supported octets : List ℕ) → AreOctets octets → length octets ≤ MOST_OCTETS → HasMessageOrFault supported octets
+
+-- Octets of a stream begin with an attribute, or a fault shows in them, or neither: exactly one of
+-- the three, and one attribute or one fault alone.
+pub record HasAttributeOrFault (octets : List ℕ) : Type 0 where
+  pub one_attribute : (one other : Attr) (len count : ℕ) → IsFirst one len octets → IsFirst other count octets → (one ≡ other) × (len ≡ count)
+  pub one_fault : (one other : AttrFault) → ShowsFault octets one → ShowsFault octets other → one ≡ other
+  pub not_both : (attr : Attr) (len : ℕ) (fault : AttrFault) → IsFirst attr len octets → ShowsFault octets fault → ⊥
+  pub neither : (front_of octets ≡ More) ↔ (((attr : Attr) (len : ℕ) → IsFirst attr len octets → ⊥) × ((fault : AttrFault) → ShowsFault octets fault → ⊥))
+
+-- This is true of all octets.
+abbrev pub AttributeOrFault : Type 0
+AttributeOrFault = (octets : List ℕ) → AreOctets octets → HasAttributeOrFault octets
 
 -- ---- Errors
 
@@ -126,3 +156,25 @@ ErrorIsTorn = (base : ℕ) (octets : List ℕ) (place : ℕ) → (whole read_err
 -- What is written of an Error is read back.
 abbrev pub WrittenErrorIsRead : Type 0
 WrittenErrorIsRead = (base : ℕ) (error : PaError) → error.vendor < 2 ^ 24 → error.code < 2 ^ 32 → whole read_error base (written_error error) ≡ Ok error
+
+-- Octets of a value are an Error or have a fault: exactly one of the two.
+abbrev pub ErrorOrFault : Type 0
+ErrorOrFault = FormOrFault ErrorForm (λ base octets place. IsTorn base (length octets) place)
+
+-- An Error has 8 octets and those of its information.
+abbrev pub WrittenErrorIsCounted : Type 0
+WrittenErrorIsCounted = (error : PaError) → length (written_error error) ≡ 8 + length error.info
+
+-- An Error about a request (RFC 8412, section 5.15) has at most 24 octets.
+abbrev pub SwimaErrorIsShort : Type 0
+SwimaErrorIsShort = (code id : ℕ) (most : Option ℕ) → length (written_error (swima_error code id most)) ≤ 24
+
+-- The Error that reports the fault has the code of the fault, and has at most 24 octets.
+pub record IsReported (fault : PaFault) : Type 0 where
+  pub code : (error_of fault).code ≡ fault.code
+  pub short : length (written_error (error_of fault)) ≤ 24
+
+-- This is true of each fault of a message and of each fault of a value.
+pub record FaultIsReported : Type 0 where
+  pub message : (supported octets : List ℕ) (fault : PaFault) → message_of supported octets ≡ Err fault → IsReported fault
+  pub value : (octets : List ℕ) (attrs : List PlacedAttr) (offset : ℕ) → IsReported (value_fault octets attrs offset)

@@ -1,6 +1,6 @@
 -- Reading a message (RFC 5792, section 3.6) whole: its attributes with their places, or its first fault.
-use Rattle.std.specs.Prelude.{◌≡◌, ◌==◌, ◌&&◌, ◌+◌, ◌-◌, ℕ, zero, suc, Bool, true, not, List, [], ◌∷◌, ◌++◌, Option, Some, None, Result, Ok, Err, length, take, drop, filter, replicate, slice_index, slice_range, nat_lt, if◌then◌else◌}
-use Rattle.std.specs.List.{list_any}
+use Rattle.std.specs.Prelude.{◌≡◌, ◌==◌, ◌&&◌, ◌≤◌, ◌+◌, ◌-◌, ℕ, zero, suc, Bool, true, not, List, [], ◌∷◌, ◌++◌, Option, Some, None, Result, Ok, Err, length, take, drop, filter, replicate, slice_index, slice_range, nat_lt, if◌then◌else◌}
+use Rattle.std.specs.List.{Contains, AllByRecursion, list_any}
 use Rattle.wire_base.specs.Numbers.{number_of}
 use Rattle.pa_attrs.specs.declared.attr.PlacedAttr.{PlacedAttr}
 use Rattle.pa_attrs.specs.declared.fault.AttrFault.{AttrFault}
@@ -77,6 +77,16 @@ fault_of octets answer broken = record {
   answer = answer;
 }
 
+-- The fault of a value at a place, in a message with these attributes.
+abbrev pub value_fault : List ℕ → List PlacedAttr → ℕ → PaFault
+value_fault octets attrs offset = record {
+  code = INVALID_PARAMETER;
+  offset = offset;
+  header = first_octets octets;
+  first = replicate 8 0;
+  answer = is_answered attrs;
+}
+
 -- ---- a message
 
 -- The attribute is supported, by a list of types of vendor 0.
@@ -127,3 +137,19 @@ abbrev pub Reads : PaRead → Result (ℕ × List PlacedAttr) PaFault → Type 0
 Reads (read.Ok id attrs) message = message ≡ Ok (id, attrs)
 Reads (read.Refused fault) message = message ≡ Err fault
 Reads read.Memory message = Unit {0}
+
+-- ---- the attributes of a message that was read
+
+-- They have this property, where the call answered a message.
+abbrev pub OnRead : PaRead → (List PlacedAttr → Type 0) → Type 0
+OnRead (read.Ok id attrs) holds = holds attrs
+OnRead (read.Refused fault) holds = Unit {0}
+OnRead read.Memory holds = Unit {0}
+
+-- The value of each lies in a message of this many octets.
+abbrev pub LieWithin : ℕ → List PlacedAttr → Type 0
+LieWithin count attrs = AllByRecursion (λ (placed : PlacedAttr). placed.at + length placed.attr.value ≤ count) attrs
+
+-- Each is of vendor 0 and of a type in the list.
+abbrev pub AreSupported : List ℕ → List PlacedAttr → Type 0
+AreSupported supported attrs = AllByRecursion (λ (placed : PlacedAttr). (placed.attr.vendor ≡ IETF) × Contains supported placed.attr.kind) attrs

@@ -1,6 +1,6 @@
 //! Attributes and messages as values.
 
-use wire_base::{List, Octets};
+use wire_base::{List, Memory, Octets, TryCopy};
 
 /// An attribute (RFC 5792, section 4.1).
 #[derive(Debug, Drop)]
@@ -15,6 +15,17 @@ pub struct Attr {
     pub value: Octets,
 }
 
+impl TryCopy for Attr {
+    fn copy(&self) -> Result<Self, Memory> {
+        Ok(Attr {
+            noskip: self.noskip,
+            vendor: self.vendor,
+            kind: self.kind,
+            value: self.value.copy()?,
+        })
+    }
+}
+
 /// Attributes in order.
 pub type Attrs = List<Attr>;
 
@@ -25,6 +36,15 @@ pub struct PlacedAttr {
     pub at: u32,
     /// The attribute.
     pub attr: Attr,
+}
+
+impl TryCopy for PlacedAttr {
+    fn copy(&self) -> Result<Self, Memory> {
+        Ok(PlacedAttr {
+            at: self.at,
+            attr: self.attr.copy()?,
+        })
+    }
 }
 
 /// Attributes of a message in order, each with its place.

@@ -1,9 +1,10 @@
 //! PA-TNC Errors.
 
 ghost use Rattle.std.specs.Prelude.{◌≡◌, ◌+◌, ◌<◌, ◌^◌, ◌++◌, length, IfOk, OnOk};
-ghost use Rattle.pa_attrs.specs.ErrorForm.{invalid_error, read_error, swima_error, unsupported_error, version_error, written_error};
+ghost use Rattle.pa_attrs.specs.ErrorForm.{error_of, invalid_error, read_error, swima_error, unsupported_error, version_error, written_error};
 ghost use Rattle.wire_base.specs.Reading.{Gives, value_alone, whole};
 
+use crate::fault::PaFault;
 use crate::numbers::{
     IETF, INVALID_PARAMETER, UNSUPPORTED_ATTRIBUTE, VERSION, VERSION_NOT_SUPPORTED,
 };
@@ -22,6 +23,21 @@ pub struct PaError {
 }
 
 impl PaError {
+    /// The Error that reports a fault of a message or of a value (RFC 5792, section 4.2.8).
+    ///
+    /// It is that of `version` for the code `VERSION_NOT_SUPPORTED`, that of `unsupported` for
+    /// `UNSUPPORTED_ATTRIBUTE`, and that of `invalid` for every other code. `Memory` comes where
+    /// there is no room for it. `answer` of the fault is not looked at.
+    pub fn of(alloc: Global, fault: &PaFault) -> Result<Self, Memory>
+        ensures error { IfOk result (λ error. error ≡ error_of fault.now) }
+    {
+        match fault.code {
+            VERSION_NOT_SUPPORTED => PaError::version(alloc, fault.header),
+            UNSUPPORTED_ATTRIBUTE => PaError::unsupported(alloc, fault.header, fault.first),
+            _ => PaError::invalid(alloc, fault.header, fault.offset),
+        }
+    }
+
     /// A value of a message is invalid: the header of the message, and the place of the value in it (RFC 5792, section
     /// 4.2.8.1).
     #[tactic(auto, unfolding(wire_base::specs::Written::written))]

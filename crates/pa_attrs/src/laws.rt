@@ -1,6 +1,8 @@
 //! What the definitions mean, proved of every value: the calls do nothing.
 
-ghost use Rattle.pa_attrs.specs.Laws.{BadIsFault, ErrorIsForm, ErrorIsTorn, FaultIsFirst, FaultIsLowest, FrontStays, NoneIsFront, ReadingIsForm, WholeIsAttribute, WrittenErrorIsRead, WrittenIsCounted, WrittenIsFirst, WrittenIsRead};
+ghost use Rattle.pa_attrs.specs.Laws.{AttributeOrFault, BadIsFault, FaultIsFirst, FaultIsLowest, FrontStays, MessageOrFault, NoneIsFront};
+ghost use Rattle.pa_attrs.specs.Laws.{ErrorIsForm, ErrorIsTorn, ErrorOrFault, FaultIsReported, SwimaErrorIsShort, WrittenErrorIsCounted, WrittenErrorIsRead};
+ghost use Rattle.pa_attrs.specs.Laws.{ReadingIsForm, WholeIsAttribute, WrittenIsCounted, WrittenIsFirst, WrittenIsRead};
 
 /// Octets of a stream begin with a whole attribute exactly where an attribute in its form stands first.
 pub fn whole_is_attribute()
@@ -53,6 +55,17 @@ pub fn bad_is_fault()
     ensures law { BadIsFault }
 {}
 
+/// Octets are one message and have no fault, or are none and have one.
+pub fn message_or_fault()
+    ensures law { MessageOrFault }
+{}
+
+/// Octets of a stream begin with one attribute, or one fault shows in them, or neither: exactly one
+/// of the three.
+pub fn attribute_or_fault()
+    ensures law { AttributeOrFault }
+{}
+
 /// An Error is read of octets exactly where they have its form.
 pub fn error_is_form()
     ensures law { ErrorIsForm }
@@ -66,4 +79,24 @@ pub fn error_is_torn()
 /// What is written of an Error is read back.
 pub fn written_error_is_read()
     ensures law { WrittenErrorIsRead }
+{}
+
+/// Octets of a value are one Error and have no fault, or are none and have one, at one place.
+pub fn error_or_fault()
+    ensures law { ErrorOrFault }
+{}
+
+/// An Error has 8 octets and those of its information.
+pub fn written_error_is_counted()
+    ensures law { WrittenErrorIsCounted }
+{}
+
+/// An Error about a request (RFC 8412, section 5.15) has at most 24 octets.
+pub fn swima_error_is_short()
+    ensures law { SwimaErrorIsShort }
+{}
+
+/// The Error that reports a fault of a message or of a value has its code, and at most 24 octets.
+pub fn fault_is_reported()
+    ensures law { FaultIsReported }
 {}

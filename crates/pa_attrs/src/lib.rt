@@ -1,11 +1,16 @@
 //! PA-TNC messages and attributes (RFC 5792): whole messages, errors, and attributes from a stream of octets.
 //!
-//! It stands on `wire_base`. The crates above rest on `read` of `read_message` (the attributes with the places of their
-//! values, or the first fault of the message), on `octets` of `write_message` and `write_error`, on `value` of
-//! `read_error`, and on `fed` of `AttrFeed::feed` (what a feed answers, by the octets that it was handed, joined);
-//! `answered` of `is_value_fault_answered` is there for whoever answers faults of values. The layouts are in
-//! `specs/AttrForm.antt`, `MessageForm.antt` and `ErrorForm.antt`, the table of faults in `Faults.antt`; the functions of
-//! `laws` say what the definitions mean.
+//! It stands on `wire_base`. The crates above rest on these clauses:
+//!
+//! - `read` of `read_message`: the attributes with the places of their values, or the first fault of
+//!   the message; with `few`, `within` and `supported` of these attributes.
+//! - `octets` of `write_message` and of `write_error`, and `value` of `read_error`.
+//! - `fault` of `value_fault`, `answered` of `is_value_fault_answered` and `error` of `PaError::of`:
+//!   the fault of a value, whether a fault is answered, and by which Error.
+//! - `fed` of `AttrFeed::feed`: what a feed answers, by the octets that it was handed, joined.
+//!
+//! The layouts are in `specs/AttrForm.antt`, `MessageForm.antt` and `ErrorForm.antt`, the table of
+//! faults in `Faults.antt`; the functions of `laws` say what the definitions mean.
 #![tactic(auto)]
 
 mod attr;
@@ -30,9 +35,13 @@ pub use numbers::{
     SWIMA_SUBSCRIPTION_DENIED_ERROR, SWIMA_SUBSCRIPTION_FULFILLMENT_ERROR,
     SWIMA_SUBSCRIPTION_ID_REUSE_ERROR, UNSUPPORTED_ATTRIBUTE, VERSION_NOT_SUPPORTED,
 };
-pub use read::{PaRead, is_value_fault_answered, read_message};
+pub use read::{PaRead, is_value_fault_answered, read_message, value_fault};
 pub use write::write_message;
 
+#[cfg(test)]
+mod attr_tests;
+#[cfg(test)]
+mod error_tests;
 #[cfg(test)]
 mod feed_tests;
 #[cfg(test)]

@@ -3,8 +3,8 @@
 ghost use Rattle.std.specs.Prelude.{◌≡◌, ◌==◌, ◌&&◌, not, ◌≤◌, ◌+◌, ◌∷◌, ◌++◌, ◌<◌, ◌^◌, [], drop, length, filter, OnOk, OnErr, IfOk};
 ghost use Rattle.std.specs.List.{list_any};
 ghost use Rattle.pa_attrs.specs.Header.{attr_of, header_of};
-ghost use Rattle.pa_attrs.specs.MessageReading.{Answers, Reads, attributes, attrs_of, fault_of, first_octets, first_told, is_answered, is_error, message_of, placed, supports};
-ghost use Rattle.pa_attrs.specs.Numbers.{ERROR as ERROR_TYPE, HEADER, IETF as IETF_VENDOR, MESSAGE_HEADER, MOST_OCTETS};
+ghost use Rattle.pa_attrs.specs.MessageReading.{Answers, AreSupported, LieWithin, OnRead, Reads, attributes, attrs_of, fault_of, first_octets, first_told, is_answered, is_error, message_of, placed, supports, value_fault};
+ghost use Rattle.pa_attrs.specs.Numbers.{ERROR as ERROR_TYPE, HEADER, IETF as IETF_VENDOR, MESSAGE_HEADER, MOST_ATTRIBUTES as MOST_COUNT, MOST_OCTETS};
 
 use crate::attr::{Attr, PlacedAttr, PlacedAttrs};
 use crate::fault::{AttrFault, PaFault, is_supported, message_header};
@@ -38,9 +38,14 @@ pub enum PaRead {
 /// `supported` lists the types of vendor 0 that are supported. Other attributes are left out, but where one may not be
 /// passed over the message is refused. `Refused` comes exactly where the octets have no form of a message, or such an
 /// attribute; it has the first fault.
+///
+/// The attributes are at most 64. The value of each lies in the message.
 pub fn read_message(alloc: Global, bytes: &[u8], supported: &[u32]) -> PaRead
     requires { length bytes.now ≤ MOST_OCTETS }
     ensures read { Reads result (message_of supported.now bytes.now) }
+    ensures few { OnRead result (λ attrs. length attrs ≤ MOST_COUNT) }
+    ensures within { OnRead result (λ attrs. LieWithin (length bytes.now) attrs) }
+    ensures supported { OnRead result (λ attrs. AreSupported supported.now attrs) }
 {
     match message(alloc, bytes, supported) {
         Ok((id, attrs)) => PaRead::Ok { id, attrs },
@@ -149,6 +154,21 @@ pub fn is_value_fault_answered(attrs: &[PlacedAttr]) -> bool
     ensures answered { result ≡ is_answered attrs.now }
 {
     !has_error(attrs)
+}
+
+/// The fault of a value in the message whose octets and attributes these are (RFC 5792, section
+/// 4.2.8.1): an invalid parameter at `offset`, which is counted from the start of the message. It is
+/// answered as `is_value_fault_answered` says. It takes no memory.
+pub fn value_fault(bytes: &[u8], attrs: &[PlacedAttr], offset: u32) -> PaFault
+    ensures fault { result ≡ value_fault bytes.now attrs.now offset }
+{
+    PaFault {
+        code: INVALID_PARAMETER,
+        offset,
+        header: first_octets(bytes),
+        first: [0; 8],
+        answer: is_value_fault_answered(attrs),
+    }
 }
 
 /// Whether one of the attributes is a PA-TNC Error.

@@ -10,7 +10,7 @@ use Rattle.pb_batch.specs.declared.fault.PbFault.{PbFault}
 use Rattle.pb_batch.specs.declared.header.Header.{Header}
 use Rattle.pb_batch.specs.declared.kind.MessageType.{MessageType}
 use Rattle.pb_batch.specs.declared.kind.MessageType.TheVariants as type
-use Rattle.pb_batch.specs.Form.{FLAG, IsMessage, MessagesForm}
+use Rattle.pb_batch.specs.Form.{FLAG, MessagesForm}
 use Rattle.pb_batch.specs.Faults.{Row, first_fault, header_rows, message_rows, head_rows, value_rows, type_in, batch_length}
 use Rattle.pb_batch.specs.Front.{Front, More, Bad, Whole, front_of, whole_front, header_in, header_of, messages_of, unless}
 use Rattle.pb_batch.specs.Shown.{Begins, MessageFault, ShowsFault, WholeIsForm, BadIsFault, AreOneOfThree, FrontsStay, LengthsCount, NoneBeginsAnother, LowestCounts, WrittenIsRead}
@@ -19,7 +19,7 @@ use Rattle.pb_batch.proofs.Rows.{unless_ok, unless_err}
 use Rattle.pb_batch.proofs.Fronts.{Seen, Short, Refused, Waits, Full, seen, whole_more, bad_more, whole_longer, front_refused, front_full}
 use Rattle.pb_batch.proofs.Fields.{AreOctets-between}
 use Rattle.pb_batch.proofs.MessageBack.{form_length}
-use Rattle.pb_batch.proofs.MessageLists.{faults_forth, faults_back}
+use Rattle.pb_batch.proofs.MessageLists.{faults_forth, faults_back, forms_valid}
 use Rattle.pb_batch.proofs.BatchForms.{whole_forth, whole_back, begins_back, form_octets, form_direction}
 use Rattle.pb_batch.proofs.WrittenForms.{written_form}
 
@@ -190,11 +190,7 @@ pub written_front : (b : Batch) (more : List ℕ) → IsBatch b → front_of b.f
 written_front b more is = (written_is_read b more is).2
 
 -- What is read can be written.
-forms_valid : (ms : List Message) (octets : List ℕ) → MessagesForm ms octets → AllByRecursion IsMessage ms
-forms_valid [] octets form = tt
-forms_valid (m ∷ ms) octets form = (form.3.valid, forms_valid ms form.1 form.4)
-
 pub read_is_batch : (s : Bool) (octets : List ℕ) (b : Batch) (n : ℕ) → AreOctets octets → front_of s octets ≡ Whole b n → IsBatch b
 read_is_batch s octets b n are found =
     let form = (whole_forth s octets b n are found).form in
-    record { valid = All-from_recursion IsMessage b.messages (forms_valid b.messages form.rest form.messages); few = form.few; short = form.short }
+    record { valid = forms_valid b.messages form.rest form.messages; few = form.few; short = form.short }

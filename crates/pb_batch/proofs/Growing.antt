@@ -10,9 +10,12 @@ use Rattle.pb_batch.specs.declared.fault.PbFault.{PbFault}
 use Rattle.pb_batch.specs.declared.feed.Grown.TheVariants as grown
 use Rattle.pb_batch.specs.declared.header.Header.{Header}
 use Rattle.pb_batch.specs.Feeding.{Filled, Grows}
+use Rattle.pb_batch.specs.Form.{MessagesForm}
 use Rattle.pb_batch.specs.Front.{More, Bad, Whole, front_of, whole_front, header_of, messages_of}
 use Rattle.pb_batch.specs.Gives.{Gives}
+use Rattle.pb_batch.specs.Written.{IsBatch}
 use Rattle.pb_batch.proofs.Fronts.{Seen, Short, Refused, Waits, Full, seen, full_not_more, header_more, header_bounds, front_short, front_refused, front_waits, front_full}
+use Rattle.pb_batch.proofs.MessageLists.{forms_length, forms_valid}
 
 -- How many they are then.
 filled_length : {want count : ℕ} {before piece after : List ℕ} → Filled want before piece after count → length after ≡ length before + count
@@ -112,11 +115,23 @@ pub grows_bad : {used : ℕ} {held piece after : List ℕ} (s : Bool) (h : Heade
 grows_bad s h (refused.Fault f) t all fails = whole_taken s h t all ∙ ap (λ (r : Result (List Message) PbFault). whole_front s h r) fails
 grows_bad s h refused.Memory t all fails = tt
 
+-- A batch that is whole can be written.
+taken_is_batch : {used : ℕ} {held piece after : List ℕ} (s : Bool) (h : Header) (messages : List Message) → Taken s held piece after h used
+    → MessagesForm messages (drop 8 after) → length messages ≤ 64 → IsBatch (record { from_server = s; kind = h.kind; messages = messages })
+taken_is_batch {after = after} s h messages t forms few =
+    let bounds = header_bounds s after h t.ok in
+    record {
+      valid = forms_valid messages (drop 8 after) forms;
+      few = few;
+      short = omega (arith, forms_length messages (drop 8 after) forms, length-drop 8 after, t.long, t.short, bounds.1);
+    }
+
 pub grows_done : {used : ℕ} {held piece after : List ℕ} (s : Bool) (h : Header) (messages : List Message) → Taken s held piece after h used → h.octets ≤ length after
-    → messages_of 64 8 (drop 8 after) ≡ Ok messages → Grows s held piece (Ok (grown.Done (record { from_server = s; kind = h.kind; messages = messages }) used))
-grows_done {used = used} {held = held} {piece = piece} s h messages t all is =
+    → messages_of 64 8 (drop 8 after) ≡ Ok messages → MessagesForm messages (drop 8 after) → length messages ≤ 64 → Grows s held piece (Ok (grown.Done (record { from_server = s; kind = h.kind; messages = messages }) used))
+grows_done {used = used} {held = held} {piece = piece} s h messages t all is forms few =
     let len : h.octets ≡ length held + used = omega (arith, all, t.short, t.counted) in (
       whole_taken s h t all ∙ ap (λ (r : Result (List Message) PbFault). whole_front s h r) is ∙ ap (λ (n : ℕ). Whole (record { from_server = s; kind = h.kind; messages = messages }) n) len,
       omega (arith, t.fewer, len),
       t.within,
+      taken_is_batch s h messages t forms few,
     )

@@ -11,3 +11,4 @@ pub mod MessageLists
 pub mod BatchForms
 pub mod WrittenForms
 pub mod FrontLaws
+pub mod Bodies

@@ -1,14 +1,16 @@
 -- What is read of the messages of a batch has their form, and what has the form is read; and a fault shows where it is read.
 use Rattle.std.proofs.Common.{◌≡◌, ℕ, zero, suc, ◌-◌, ◌+◌, ◌≤◌, ◌<◌, List, [], ◌∷◌, ◌++◌, length, take, drop, Result, Ok, Err, Option, Some, None, ◌⊎◌, inl, inr, refl, sym, ap, subst, ◌∙◌, append_assoc, arith, length-append}
-use Rattle.std.specs.Prelude.{sum_by}
+use Rattle.std.specs.Prelude.{All, sum_by}
+use Rattle.std.specs.List.{AllByRecursion}
 use Rattle.std.proofs.lemmas.Bool.{cases_lt}
 use Rattle.std.proofs.lemmas.List.{take-append-drop, drop_at, nil_from_length, length-take-le}
+use Rattle.std.proofs.lemmas.List.Elements.{All-from_recursion}
 use Rattle.std.proofs.lemmas.List.Sums.{sum_by-cons}
 use Rattle.wire_base.specs.Layout.{AreOctets}
 use Rattle.wire_base.proofs.Spelled.{AreOctets-rest}
 use Rattle.pb_batch.specs.declared.batch.Message.{Message}
 use Rattle.pb_batch.specs.declared.fault.PbFault.{PbFault}
-use Rattle.pb_batch.specs.Form.{MessageForm, MessagesForm, message_octets}
+use Rattle.pb_batch.specs.Form.{IsMessage, MessageForm, MessagesForm, message_octets}
 use Rattle.pb_batch.specs.Faults.{first_fault, head_rows, value_rows, message_rows, type_in, length_in}
 use Rattle.pb_batch.specs.Front.{unless, head_in, value_of, message_of, messages_of, and_others, message_then}
 use Rattle.pb_batch.specs.Shown.{MessageFault}
@@ -27,6 +29,14 @@ forms_length (m ∷ ms) octets form =
     ap (λ (o : List ℕ). length o) form.2 ∙ length-append form.0 form.1
     ∙ ap (λ (n : ℕ). n + length form.1) (form_length m form.0 form.3) ∙ ap (λ (n : ℕ). message_octets m + n) (forms_length ms form.1 form.4)
     ∙ sym (sum_by-cons message_octets m ms)
+
+-- Their numbers are such as messages may have.
+valid_by : (ms : List Message) (octets : List ℕ) → MessagesForm ms octets → AllByRecursion IsMessage ms
+valid_by [] octets form = tt
+valid_by (m ∷ ms) octets form = (form.3.valid, valid_by ms form.1 form.4)
+
+pub forms_valid : (ms : List Message) (octets : List ℕ) → MessagesForm ms octets → All IsMessage ms
+forms_valid ms octets form = All-from_recursion IsMessage ms (valid_by ms octets form)
 
 -- ---- one step
 
@@ -87,6 +97,10 @@ messages_forth (suc left) place rest ms are ok =
           let nil : [] ≡ ms = let same : Ok [] ≡ Ok ms = sym (messages_of-none (suc left) place rest empty) ∙ ok in cc in
           subst (λ (x : List Message). MessagesForm x rest × (length x ≤ suc left)) nil (nil_from_length rest empty, omega arith)
     ]
+
+-- The messages that are read of a batch whose octets are all there have their form.
+pub batch_forth : (octets : List ℕ) (ms : List Message) → AreOctets octets → messages_of 64 8 (drop 8 octets) ≡ Ok ms → MessagesForm ms (drop 8 octets) × (length ms ≤ 64)
+batch_forth octets ms are ok = messages_forth 64 8 (drop 8 octets) ms (are_rest 8 octets are) ok
 
 -- A message in its form in front of others is read, and then the others.
 step_back : (m : Message) (left place : ℕ) (front more : List ℕ) → MessageForm m front → messages_of (suc left) place (front ++ more) ≡ and_others m (messages_of left (place + length front) more)

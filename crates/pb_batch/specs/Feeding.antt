@@ -1,5 +1,6 @@
 -- What a feed holds, and what it answers.
 use Rattle.std.specs.Prelude.{◌≡◌, ◌<◌, ◌≤◌, ◌+◌, ◌-◌, ℕ, Bool, List, [], ◌++◌, Option, Some, None, Result, Ok, Err, length, take, min}
+use Rattle.pb_batch.specs.declared.batch.Batch.{Batch}
 use Rattle.pb_batch.specs.declared.fault.BatchRefused.{BatchRefused}
 use Rattle.pb_batch.specs.declared.fault.BatchRefused.TheVariants as refused
 use Rattle.pb_batch.specs.declared.feed.BatchFed.{BatchFed}
@@ -9,6 +10,7 @@ use Rattle.pb_batch.specs.declared.feed.Grown.TheVariants as grown
 use Rattle.pb_batch.specs.declared.feed.Stop.{Stop}
 use Rattle.pb_batch.specs.declared.feed.Stop.TheVariants as stop
 use Rattle.pb_batch.specs.Front.{More, Bad, Whole, front_of}
+use Rattle.pb_batch.specs.Written.{IsBatch}
 
 -- A feed: the direction that it expects, the octets of the batch that is not whole yet, and why it has stopped, if it has.
 pub record Feed : Type 0 where
@@ -34,10 +36,17 @@ FeedsBy (Some stop.Memory) before piece answer after = (answer ≡ fed.Memory) �
 abbrev pub Feeds : Feed → List ℕ → BatchFed → Feed → Type 0
 Feeds before piece answer after = FeedsBy before.stopped before piece answer after
 
+-- This holds of the batch, where a feed hands one out.
+abbrev pub IfDone : BatchFed → (Batch → Type 0) → Type 0
+IfDone (fed.Done batch used) holds = holds batch
+IfDone fed.More holds = Unit {0}
+IfDone (fed.Fault f) holds = Unit {0}
+IfDone fed.Memory holds = Unit {0}
+
 -- What octets that are held, and no batch yet, become with a piece.
 abbrev pub Grows : Bool → List ℕ → List ℕ → Result Grown BatchRefused → Type 0
 Grows from_server held piece (Ok (grown.More after)) = (front_of from_server (held ++ piece) ≡ More) × (after ≡ held ++ piece)
-Grows from_server held piece (Ok (grown.Done batch used)) = (front_of from_server (held ++ piece) ≡ Whole batch (length held + used)) × (0 < used) × (used ≤ length piece)
+Grows from_server held piece (Ok (grown.Done batch used)) = (front_of from_server (held ++ piece) ≡ Whole batch (length held + used)) × (0 < used) × (used ≤ length piece) × IsBatch batch
 Grows from_server held piece (Err (refused.Fault f)) = front_of from_server (held ++ piece) ≡ Bad f
 Grows from_server held piece (Err refused.Memory) = Unit {0}
 

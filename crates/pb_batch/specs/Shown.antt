@@ -4,7 +4,7 @@ use Rattle.wire_base.specs.Layout.{AreOctets}
 use Rattle.pb_batch.specs.declared.batch.Batch.{Batch}
 use Rattle.pb_batch.specs.declared.batch.Message.{Message}
 use Rattle.pb_batch.specs.declared.fault.PbFault.{PbFault}
-use Rattle.pb_batch.specs.Form.{HEADER_OCTETS, BATCH_MESSAGES, MessageForm, MessagesForm, BatchForm, message_octets, batch_octets}
+use Rattle.pb_batch.specs.Form.{HEADER_OCTETS, BATCH_MESSAGES, BATCH_OCTETS, body_of, MessageForm, MessagesForm, BatchForm, message_octets, batch_octets}
 use Rattle.pb_batch.specs.Faults.{Row, first_fault, header_rows, message_rows, batch_length}
 use Rattle.pb_batch.specs.Front.{More, Bad, Whole, front_of}
 use Rattle.pb_batch.specs.Written.{IsBatch, written}
@@ -93,3 +93,7 @@ pub record LowestCounts : Type 0 where
 abbrev pub WrittenIsRead : Type 0
 WrittenIsRead = (b : Batch) (more : List ℕ) → IsBatch b
     → BatchForm b (written b) × (length (written b) ≡ batch_octets b) × (front_of b.from_server (written b ++ more) ≡ Whole b (length (written b)))
+
+-- The body of a message in a batch that can be written has at most the octets of a batch.
+abbrev pub BodiesFit : Type 0
+BodiesFit = (b : Batch) → IsBatch b → All (λ (m : Message). length (body_of m) ≤ BATCH_OCTETS) b.messages

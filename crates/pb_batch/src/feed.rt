@@ -1,9 +1,10 @@
 //! Batches from octets that come in pieces.
 
 ghost use Rattle.std.specs.Prelude.{◌≡◌, ◌≤◌, [], None, IfOk, length};
-ghost use Rattle.pb_batch.specs.Feeding.{Feeds, FeedsOn, Filled, Grows};
+ghost use Rattle.pb_batch.specs.Feeding.{Feeds, FeedsOn, Filled, Grows, IfDone};
 ghost use Rattle.pb_batch.specs.Form.{BATCH_OCTETS};
 ghost use Rattle.pb_batch.specs.Front.{More, front_of};
+ghost use Rattle.pb_batch.specs.Written.{IsBatch};
 
 use crate::batch::Batch;
 use crate::fault::{BatchRefused, PbFault};
@@ -83,6 +84,7 @@ impl BatchFeed {
     /// Takes a piece, up to the end of the batch where that is in it.
     pub fn feed(&mut self, piece: &[u8]) -> BatchFed
         ensures fed { Feeds self.old piece.now result self.new }
+        ensures writable { IfDone result IsBatch }
         ensures torn { front_of self.new.from_server self.new.held ≡ More }
     {
         match self.stopped {
@@ -97,6 +99,7 @@ impl BatchFeed {
     fn take(&mut self, piece: &[u8]) -> BatchFed
         requires live { self.old.stopped ≡ None }
         ensures fed { FeedsOn self.old piece.now result self.new }
+        ensures writable { IfDone result IsBatch }
         ensures torn { front_of self.new.from_server self.new.held ≡ More }
     {
         let alloc = self.held.allocator();

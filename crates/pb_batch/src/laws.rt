@@ -1,6 +1,6 @@
 //! What the tables of faults and the layout mean, proved of all octets and batches: the calls do nothing.
 
-ghost use Rattle.pb_batch.specs.Shown.{AreOneOfThree, BadIsFault, FrontsStay, LengthsCount, LowestCounts};
+ghost use Rattle.pb_batch.specs.Shown.{AreOneOfThree, BadIsFault, BodiesFit, FrontsStay, LengthsCount, LowestCounts};
 ghost use Rattle.pb_batch.specs.Shown.{NoneBeginsAnother, WholeIsForm, WrittenIsRead};
 
 /// Octets are found to begin with a batch exactly where octets in the form of that batch stand in front.
@@ -42,4 +42,10 @@ pub fn lowest_place_counts()
 /// What is written of a batch has its form, and is read as that batch, whatever follows.
 pub fn written_is_read()
     ensures law { WrittenIsRead }
+{}
+
+/// In a batch that can be written, as each one is that a feed hands out, the body of each message has
+/// at most 16777216 octets.
+pub fn bodies_fit()
+    ensures law { BodiesFit }
 {}

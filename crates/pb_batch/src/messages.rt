@@ -1,7 +1,7 @@
 //! The messages of a batch.
 
-ghost use Rattle.std.specs.Prelude.{◌≤◌, length, drop};
-ghost use Rattle.pb_batch.specs.Form.{BATCH_MESSAGES, BATCH_OCTETS, HEADER_OCTETS};
+ghost use Rattle.std.specs.Prelude.{◌≤◌, IfOk, length, drop};
+ghost use Rattle.pb_batch.specs.Form.{BATCH_MESSAGES, BATCH_OCTETS, HEADER_OCTETS, MessagesForm};
 ghost use Rattle.pb_batch.specs.Front.{messages_of};
 ghost use Rattle.pb_batch.specs.Gives.{Gives};
 
@@ -22,6 +22,8 @@ pub(crate) fn read_messages(alloc: Global, batch: &[u8]) -> Result<Messages, Bat
     requires short { length batch.now ≤ BATCH_OCTETS }
     ensures messages { Gives (λ read. read) result
         (messages_of BATCH_MESSAGES HEADER_OCTETS (drop HEADER_OCTETS batch.now)) }
+    ensures forms { IfOk result (λ read. MessagesForm read (drop HEADER_OCTETS batch.now)) }
+    ensures few { IfOk result (λ read. length read ≤ BATCH_MESSAGES) }
 {
     let mut messages = List::new(alloc);
     let mut at = HEADER;

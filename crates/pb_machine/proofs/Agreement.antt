@@ -122,7 +122,7 @@ passes test w (v ∷ vs) among all =
 -- ---- the steps from a world
 
 -- A test holds of every kind.
-abbrev each_kind : (BatchKind → Bool) → Bool
+abbrev pub each_kind : (BatchKind → Bool) → Bool
 each_kind test = (test Cdata && (test Sdata && test Outcome)) && (test Cretry && (test Sretry && test Close))
 
 -- Six tests that hold together hold each.
@@ -135,7 +135,7 @@ six a b c d e f all =
     let fourth = and_parts e f second.1 in
     (first.0, third.0, third.1, second.0, fourth.0, fourth.1)
 
-kind_passes : (test : BatchKind → Bool) → each_kind test ≡ true → (kind : BatchKind) → test kind ≡ true
+pub kind_passes : (test : BatchKind → Bool) → each_kind test ≡ true → (kind : BatchKind) → test kind ≡ true
 kind_passes test all Cdata = (six (test Cdata) (test Sdata) (test Outcome) (test Cretry) (test Sretry) (test Close) all).0
 kind_passes test all Sdata = (six (test Cdata) (test Sdata) (test Outcome) (test Cretry) (test Sretry) (test Close) all).1
 kind_passes test all Outcome = (six (test Cdata) (test Sdata) (test Outcome) (test Cretry) (test Sretry) (test Close) all).2
@@ -280,7 +280,7 @@ ends_agree w reached =
 
 -- ---- what is not gone on with
 
-abbrev is_go : Heard → Bool
+abbrev pub is_go : Heard → Bool
 is_go Go = true
 is_go Ignored = false
 is_go Unexpected = false

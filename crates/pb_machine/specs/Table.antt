@@ -1,7 +1,7 @@
 -- The state machines of a PB-TNC session (RFC 5793, section 3.2). The RFC leaves open what becomes of two retries that
 -- cross; here a client that awaits the server's batch ignores a retry of the server, and a server takes a retry of the
 -- client also while it or the client works.
-use Rattle.std.specs.Prelude.{◌≡◌, ◌≢◌, Bool, Option, Some, None, is_some, unwrap_or}
+use Rattle.std.specs.Prelude.{◌≡◌, ◌≢◌, Bool, true, false, IsTrue, Option, Some, None, is_some, unwrap_or}
 use Rattle.pb_batch.specs.declared.kind.BatchKind.{BatchKind}
 use Rattle.pb_batch.specs.declared.kind.BatchKind.TheVariants as batch
 use Rattle.pb_machine.specs.declared.machine.Role.{Role}
@@ -59,3 +59,28 @@ received machine kind = ((receiving machine.role machine.state kind).0, record m
 -- A batch that an end does not go on with leaves its state as it is.
 abbrev pub OnlyGoMoves : Type 0
 OnlyGoMoves = (role : Role) (state : State) (kind : BatchKind) → (receiving role state kind).0 ≢ Go → (receiving role state kind).1 ≡ state
+
+-- CLOSE may be sent in every state except End.
+abbrev pub MayClose : Type 0
+MayClose = (role : Role) (state : State) → state ≢ End → IsTrue (is_some (sending role state batch.Close))
+
+-- No batch is unexpected at End.
+abbrev pub NoneUnexpectedAtEnd : Type 0
+NoneUnexpectedAtEnd = (role : Role) (state : State) (kind : BatchKind) → (receiving role state kind).0 ≡ Unexpected → state ≢ End
+
+-- Which kinds answer a kind that an end hears: CDATA answers SDATA and SRETRY, CRETRY answers RESULT,
+-- and SDATA and RESULT answer CDATA and CRETRY.
+abbrev pub is_answer : Role → BatchKind → BatchKind → Bool
+is_answer Client batch.Sdata batch.Cdata = true
+is_answer Client batch.Sretry batch.Cdata = true
+is_answer Client batch.Outcome batch.Cretry = true
+is_answer Server batch.Cdata batch.Sdata = true
+is_answer Server batch.Cdata batch.Outcome = true
+is_answer Server batch.Cretry batch.Sdata = true
+is_answer Server batch.Cretry batch.Outcome = true
+is_answer role kind answer = false
+
+-- What answers a batch that an end goes on with may be sent in the state after that batch.
+abbrev pub MayAnswer : Type 0
+MayAnswer = (role : Role) (state : State) (kind answer : BatchKind) → IsTrue (is_answer role kind answer) → (receiving role state kind).0 ≡ Go
+    → IsTrue (is_some (sending role (receiving role state kind).1 answer))

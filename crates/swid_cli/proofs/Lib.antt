@@ -5,6 +5,7 @@ pub mod Fronts
 pub mod Wanting
 pub mod Stepping
 pub mod Running
+pub mod Printing
 pub mod FirstLaws
 pub mod Answered
 pub mod Telling
@@ -14,3 +15,4 @@ pub mod Reading
 pub mod LinksTelling
 pub mod OneText
 pub mod OneList
+pub mod Printed

@@ -3,7 +3,7 @@ use Rattle.std.proofs.Common.{◌≡◌, ℕ, ◌<◌, ◌≤◌, ◌⊎◌, inl
 use Rattle.std.specs.Prelude.{IfOk, nat_lt, ◌&&◌}
 use Rattle.std.proofs.lemmas.Bool.{cases_lt, lt-ltb}
 use Rattle.std.proofs.lemmas.List.{take_min}
-use Rattle.wire_base.specs.declared.memory.Memory.{Memory}
+use Rattle.wire_base.specs.declared.values.memory.Memory.{Memory}
 use Rattle.coswid_tag.specs.declared.tag.Tag.{Tag}
 use Rattle.swid_cli.specs.declared.answer.Answer.{Answer}
 use Rattle.swid_cli.specs.declared.step.Ending.{Ending}

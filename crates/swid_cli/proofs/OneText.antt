@@ -4,7 +4,7 @@ use Rattle.std.specs.Prelude.{codes}
 use Rattle.std.proofs.lemmas.Bool.{cases_lt}
 use Rattle.wire_base.specs.Layout.{AreOctets}
 use Rattle.wire_base.specs.NamedFile.{content_of}
-use Rattle.wire_base.specs.declared.files.NamedFile.{NamedFile}
+use Rattle.wire_base.specs.declared.outside.files.NamedFile.{NamedFile}
 use Rattle.cbor_det.specs.Answers.{IsRefusal}
 use Rattle.cbor_det.specs.Faults.{Begins}
 use Rattle.cbor_det.specs.Laws.{SomeOutcome}

@@ -4,8 +4,8 @@ use Rattle.std.specs.Prelude.{IfSome}
 use Rattle.std.proofs.lemmas.List.{append-nil}
 use Rattle.wire_base.specs.NamedFile.{Read, with_reads}
 use Rattle.wire_base.specs.Passing.{Fills}
-use Rattle.wire_base.specs.declared.passing.Stopped.{Stopped}
-use Rattle.wire_base.specs.declared.passing.Stopped.TheVariants as stopped
+use Rattle.wire_base.specs.declared.outside.passing.Stopped.{Stopped}
+use Rattle.wire_base.specs.declared.outside.passing.Stopped.TheVariants as stopped
 use Rattle.cbor_det.specs.Answers.{IsRefusal}
 use Rattle.cbor_det.specs.declared.fault.CborFault.{CborFault}
 use Rattle.cbor_det.specs.declared.fault.CborRefused.TheVariants as cbor

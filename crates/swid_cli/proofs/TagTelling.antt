@@ -3,10 +3,10 @@ use Rattle.std.proofs.Common.{◌≡◌, ℕ, ◌<◌, ◌≤◌, ◌⊎◌, inl
 use Rattle.std.specs.Bool.{OnTrue}
 use Rattle.wire_base.specs.Outside.{HasCause, Rose}
 use Rattle.wire_base.specs.Passing.{is_fault}
-use Rattle.wire_base.specs.declared.passing.Stopped.{Stopped}
-use Rattle.wire_base.specs.declared.passing.Stopped.TheVariants as stopped
+use Rattle.wire_base.specs.declared.outside.passing.Stopped.{Stopped}
+use Rattle.wire_base.specs.declared.outside.passing.Stopped.TheVariants as stopped
 use Rattle.swid_cli.specs.Causes.{HasFilesCauses}
-use Rattle.wire_base.specs.declared.files.NamedFile.{NamedFile}
+use Rattle.wire_base.specs.declared.outside.files.NamedFile.{NamedFile}
 use Rattle.coswid_res.specs.declared.verdict.Verdict.{Verdict}
 use Rattle.coswid_tag.specs.Findings.{findings}
 use Rattle.coswid_tag.specs.declared.tag.Tag.{Tag}

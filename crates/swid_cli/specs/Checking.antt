@@ -3,7 +3,7 @@ use Rattle.std.specs.Prelude.{◌≡◌, ℕ, Bool, true, false, List, [], ◌�
 use Rattle.std.specs.Fmt.{signed_decimal}
 use Rattle.std.specs.List.{flat_map, list_any}
 use Rattle.wire_base.specs.Escaped.{escaped}
-use Rattle.wire_base.specs.declared.files.NamedFile.{NamedFile}
+use Rattle.wire_base.specs.declared.outside.files.NamedFile.{NamedFile}
 use Rattle.cbor_det.specs.Canonical.{canon}
 use Rattle.coswid_res.specs.Listing.{listed}
 use Rattle.coswid_res.specs.Verify.{IsVerdicts}

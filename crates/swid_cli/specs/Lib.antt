@@ -13,6 +13,7 @@ pub mod Telling
 pub mod Checking
 pub mod Tagging
 pub mod TagReads
+pub mod Printing
 pub mod TagLaws
 pub mod TagList
 pub mod Links

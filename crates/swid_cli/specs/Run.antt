@@ -2,8 +2,8 @@
 use Rattle.std.specs.Prelude.{◌≡◌, ℕ, List, [], ◌∷◌, Option, Some, Result, Ok, Err, codes}
 use Rattle.wire_base.specs.Outside.{Adds}
 use Rattle.wire_base.specs.Passing.{AddsFront}
-use Rattle.wire_base.specs.declared.passing.Stopped.{Stopped}
-use Rattle.wire_base.specs.declared.passing.Stopped.TheVariants as stopped
+use Rattle.wire_base.specs.declared.outside.passing.Stopped.{Stopped}
+use Rattle.wire_base.specs.declared.outside.passing.Stopped.TheVariants as stopped
 use Rattle.swid_cli.specs.declared.step.Ending.{Ending}
 use Rattle.swid_cli.specs.declared.step.Ending.TheVariants as ending
 use Rattle.swid_cli.specs.Stream.{Printed}

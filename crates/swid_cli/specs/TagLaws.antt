@@ -1,7 +1,7 @@
 -- What `tag` prints of each input is one text, and of tags that are written as the same octets.
 use Rattle.std.specs.Prelude.{◌≡◌, ℕ, Bool, true, false, List, Option, Some}
 use Rattle.wire_base.specs.Layout.{AreOctets}
-use Rattle.wire_base.specs.declared.files.NamedFile.{NamedFile}
+use Rattle.wire_base.specs.declared.outside.files.NamedFile.{NamedFile}
 use Rattle.cbor_det.specs.Canonical.{canon}
 use Rattle.coswid_res.specs.declared.verdict.Verdict.{Verdict}
 use Rattle.coswid_tag.specs.declared.tag.Tag.{Tag}

@@ -2,7 +2,7 @@
 use Rattle.std.specs.Prelude.{◌<◌, ◌≤◌, ℕ, ℤ, Bool, Option, List, [], ◌∷◌, ◌++◌, length, codes, decimal}
 use Rattle.std.specs.Fmt.{signed_decimal}
 use Rattle.std.specs.List.{flat_map}
-use Rattle.wire_base.specs.declared.files.NamedFile.{NamedFile}
+use Rattle.wire_base.specs.declared.outside.files.NamedFile.{NamedFile}
 use Rattle.cbor_det.specs.Answers.{IsRefusal}
 use Rattle.cbor_det.specs.declared.fault.CborFault.{CborFault}
 use Rattle.cbor_det.specs.declared.fault.CborRefused.TheVariants as refused

@@ -1,7 +1,7 @@
 -- What a command prints that reads all of its input first. `Tells` says which texts fit octets, and how they end.
 use Rattle.std.specs.Prelude.{◌≡◌, ◌⊎◌, ◌+◌, ℕ, List, Option, Result, Ok, Err, drop}
 use Rattle.wire_base.specs.Passing.{AddsFront}
-use Rattle.wire_base.specs.declared.passing.Stopped.{Stopped}
+use Rattle.wire_base.specs.declared.outside.passing.Stopped.{Stopped}
 use Rattle.swid_cli.specs.declared.step.Ending.{Ending}
 use Rattle.swid_cli.specs.Run.{Ran}
 use Rattle.swid_cli.specs.Stream.{Printed}

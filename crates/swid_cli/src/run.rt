@@ -1,20 +1,15 @@
 //! The top call.
 
-ghost use Rattle.std.specs.Prelude.{◌≡◌, ◌≢◌, ◌≤◌, ◌⊎◌, ◌↔◌, true, false, List, ℕ, Result, IfSome, map};
+ghost use Rattle.std.specs.Prelude.{◌≡◌, ◌≢◌, ◌≤◌, ◌⊎◌, ◌↔◌, List, ℕ, IfSome, map};
 ghost use Rattle.swid_cli.specs.Answering.{AllAnswer, PrintsRight};
+ghost use Rattle.swid_cli.specs.Printing.{WordsBegin, WordsPrint, WordsRead};
 ghost use Rattle.swid_cli.specs.Run.{Prints, status_of, usage};
-ghost use Rattle.swid_cli.specs.Links.{LIST_OCTETS, LinksTells};
-ghost use Rattle.swid_cli.specs.Stream.{Printed, stream_text};
-ghost use Rattle.swid_cli.specs.TagReads.{TagReads};
-ghost use Rattle.swid_cli.specs.Tagging.{TAG_OCTETS, TagTells};
-ghost use Rattle.swid_cli.specs.Telling.{IsTold, PrintsFront};
-ghost use Rattle.swid_cli.specs.Words.{IsCommandLine, IsLinks, IsMirror, IsTag, IsTagVerify};
-ghost use Rattle.swid_cli.specs.declared.step.Ending.{Ending as Ended};
+ghost use Rattle.swid_cli.specs.Stream.{Printed};
+ghost use Rattle.swid_cli.specs.Words.{IsCommandLine, IsMirror, IsTagVerify};
 ghost use Rattle.swima_model.specs.History.{History, IsHonest};
 ghost use Rattle.swima_model.specs.declared.report.Kind.{Kind as KindValue};
 ghost use Rattle.wire_base.specs.Outside.{Adds, Rose};
 ghost use Rattle.wire_base.specs.Passing.{AddsFront};
-ghost use Rattle.wire_base.specs.declared.passing.Stopped.{Stopped as Stop};
 
 use crate::command::{Command, command_of};
 use crate::links::links;
@@ -47,49 +42,21 @@ pub fn run_plain<S: Source, K: Sink, F: Files>(
         ⊎ Rose (K.faults output.old) (K.faults output.new) }
     ensures usage_input { result ≡ 2 → input.new ≡ input.old }
 
-    // Words that are one: of an input that tells its octets, the text, the status and what is left of the input are those
-    // of these octets; where a call failed or memory was wanting, a front of the text was printed.
-    ensures printed { result ≢ 3 → result ≢ 4 → (kind : KindValue)
-        → IsMirror kind (map (λ word. word.now) words.now)
-        → IfSome (S.left input.old) (λ octets.
-        Prints (stream_text kind octets) (S.left input.new)
-        (K.written output.old) (K.written output.new) result) }
-    ensures front { (kind : KindValue)
-        → IsMirror kind (map (λ word. word.now) words.now)
-        → IfSome (S.left input.old) (λ octets.
-        AddsFront (K.written output.old) (K.written output.new)
-        (stream_text kind octets).text) }
-
-    // Where the word is `tag`, likewise by the rules of `TagTells`, of which one fits.
-    ensures tag { result ≢ 3 → result ≢ 4
-        → IsTag (map (λ word. word.now) words.now)
+    // Words that are one: of an input that exposes its octets, the text, the status and what is left of the input are those of
+    // the command that the words say; where a call failed or memory ran out, a prefix of the text was printed.
+    ensures printed { result ≢ 2 → result ≢ 3 → result ≢ 4
         → IfSome (S.left input.old) (λ octets. (told : Printed)
-        × IsTold TAG_OCTETS (TagTells false (F.contents files.old)) octets told
+        × WordsPrint (map (λ word. word.now) words.now) (F.contents files.old) octets told
         × Prints told (S.left input.new) (K.written output.old) (K.written output.new) result) }
-    ensures tag_front { IsTag (map (λ word. word.now) words.now)
+    ensures front { result ≢ 2
         → IfSome (S.left input.old) (λ octets.
-        PrintsFront TAG_OCTETS (TagTells false (F.contents files.old)) octets
+        WordsBegin (map (λ word. word.now) words.now) (F.contents files.old) octets
         (K.written output.old) (K.written output.new)) }
-
-    // Where the words are `tag verify`, with the verdicts on what the files hold, where they tell that.
-    ensures tag_verify { result ≢ 3 → result ≢ 4
-        → IsTagVerify (map (λ word. word.now) words.now)
-        → IfSome (S.left input.old) (λ octets. (told : Printed)
-        × IsTold TAG_OCTETS (TagTells true (F.contents files.old)) octets told
-        × Prints told (S.left input.new) (K.written output.old) (K.written output.new) result) }
-    ensures tag_verify_front { IsTagVerify (map (λ word. word.now) words.now)
+    // The files that it reads, however it ends.
+    ensures reads { result ≢ 2
         → IfSome (S.left input.old) (λ octets.
-        PrintsFront TAG_OCTETS (TagTells true (F.contents files.old)) octets
-        (K.written output.old) (K.written output.new)) }
-
-    // Where the word is `links`, likewise by `LinksTells`, which one text fits.
-    ensures links { result ≢ 3 → result ≢ 4
-        → IsLinks (map (λ word. word.now) words.now)
-        → IfSome (S.left input.old) (λ octets. (told : Printed) × IsTold LIST_OCTETS LinksTells octets told
-        × Prints told (S.left input.new) (K.written output.old) (K.written output.new) result) }
-    ensures links_front { IsLinks (map (λ word. word.now) words.now)
-        → IfSome (S.left input.old) (λ octets.
-        PrintsFront LIST_OCTETS LinksTells octets (K.written output.old) (K.written output.new)) }
+        WordsRead (map (λ word. word.now) words.now) octets result
+        (F.reads files.old) (F.reads files.new)) }
 
     // At status 0 what `mirror` printed ends with a mirror that is right over each honest history from which the reports answer.
     ensures right { result ≡ 0 → (kind : KindValue)
@@ -117,10 +84,6 @@ pub fn run_plain<S: Source, K: Sink, F: Files>(
     // Files are left as they are, and nothing but `tag verify` looks at them.
     ensures contents { F.contents files.new ≡ F.contents files.old }
     ensures files { ¬ IsTagVerify (map (λ word. word.now) words.now) → files.new ≡ files.old }
-    // It reads those of the tag that the input is, each for the verdict on it, and none where the input is no tag.
-    ensures reads { IsTagVerify (map (λ word. word.now) words.now)
-        → IfSome (S.left input.old) (λ octets. (ended : Result Ended Stop) × (result ≡ status_of ended)
-        × TagReads octets ended (F.reads files.old) (F.reads files.new)) }
 {
     match command_of(words) {
         None => {

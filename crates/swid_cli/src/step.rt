@@ -4,7 +4,7 @@ ghost use Rattle.std.specs.Prelude.{◌≡◌, ◌+◌, ◌≤◌, ◌<◌, ◌^
 ghost use Rattle.pa_attrs.specs.Numbers.{HEADER};
 ghost use Rattle.swid_cli.specs.Steps.{Advances, IsStep, TakesStep};
 ghost use Rattle.swid_cli.specs.Stream.{INPUT_OCTETS, attribute_step, report_step};
-ghost use Rattle.swid_cli.specs.Text.{fault_line, mirror_text, refusal};
+ghost use Rattle.swid_cli.specs.Text.{fault_line, refusal};
 ghost use Rattle.swima_reports.specs.ReportReading.{read_report};
 ghost use Rattle.swima_reports.specs.ReportType.{IsReportType};
 ghost use Rattle.wire_base.specs.Reading.{whole};
@@ -16,7 +16,6 @@ use crate::supported::carries_report;
 use crate::text::{fault_line, mirror_text, point_and_count, refusal, skipped_line, took_line};
 use pa_attrs::{Attr, HEADER_OCTETS, INVALID_PARAMETER};
 use std::alloc::Global;
-use std::mem;
 use swima_reports::read_report;
 use validator_core::Mirror;
 use wire_base::{FieldRefused, Memory, Octets, Source, Stopped};
@@ -59,20 +58,12 @@ pub fn next_step<S: Source>(
 {
     let first = take_front(alloc, input, (MOST_INPUT_OCTETS - at) as usize)?;
     match first {
-        Front::End => Ok(Step::Ends(last_text(alloc, mirror)?, Ending::Whole)),
+        Front::End => Ok(Step::Ends(mirror_text(alloc, mirror)?, Ending::Whole)),
         Front::Torn(have) => Ok(refuse(alloc, "torn", have)?),
         Front::Limit => Ok(refuse(alloc, "limit", MOST_INPUT_OCTETS)?),
         Front::Faulty(fault) => Ok(fault_at(alloc, fault.code, at + fault.at as u32)?),
         Front::Whole(attr, len) => Ok(take_attribute(alloc, &attr, len, at, mirror)?),
     }
-}
-
-/// The text of a mirror, which gives up all that it holds.
-fn last_text(alloc: Global, mirror: &mut Mirror) -> Result<Octets, Memory>
-    ensures text { IfOk result (λ made. made ≡ mirror_text mirror.old) }
-{
-    let empty = Mirror::new(alloc, mirror.kind());
-    mirror_text(alloc, mem::replace(mirror, empty))
 }
 
 fn refuse(alloc: Global, word: &str, number: u32) -> Result<Step, Memory>

@@ -21,7 +21,7 @@ use crate::text::{fault_line, refusal};
 use crate::verdict_line::{has_wrong, push_files};
 use coswid_codec::{TagRefused, put_canonical, put_summary, read_tag};
 use coswid_res::{Verdict, Verdicts, VerifyRefused, verify};
-use coswid_tag::{Tag, constraints};
+use coswid_tag::Tag;
 use std::alloc::Global;
 use wire_base::{Files, List, Memory, Sink, Source, Stopped, Text, fill, write_all};
 
@@ -141,10 +141,9 @@ fn checked(alloc: Global, tag: &Tag, verdicts: &[(Text, Verdict)]) -> Result<Ans
     ensures ending { IfOk result (λ made. made.ending ≡ checked_ending (findings tag.now) verdicts.now) }
 {
     let mut text = List::new(alloc);
-    put_summary(alloc, &mut text, tag)?;
+    let found = put_summary(alloc, &mut text, tag)?;
     push_files(alloc, &mut text, verdicts)?;
     put_canonical(alloc, &mut text, tag)?;
-    let found = constraints(alloc, tag)?;
     let ending = checked_ending(found.as_slice(), verdicts);
     Ok(Answer { text, ending })
 }

@@ -10,7 +10,7 @@ ghost use Rattle.swid_cli.specs.Text.{body_text, content_words, fault_line, line
 use itoa::Buffer;
 use sha2::{Digest, Sha256};
 use std::alloc::Global;
-use swima_model::{Content, Kind, Model, Point, Record, Records, Report};
+use swima_model::{Content, Kind, Model, Point, Record, Report};
 use validator_core::{Mirror, Taken};
 use wire_base::{List, Memory, Octets, push_escaped};
 
@@ -92,8 +92,8 @@ pub fn refusal(alloc: Global, word: &str, number: u64) -> Result<Octets, Memory>
 }
 
 /// What a mirror holds: its point and how many records, and a line for each record.
-pub fn mirror_text(alloc: Global, mirror: Mirror) -> Result<Octets, Memory>
-    ensures text { IfOk result (λ made. made ≡ mirror_text mirror) }
+pub fn mirror_text(alloc: Global, mirror: &Mirror) -> Result<Octets, Memory>
+    ensures text { IfOk result (λ made. made ≡ mirror_text mirror.now) }
 {
     let Some(point) = mirror.point() else {
         return Ok(from_string(format!(in alloc; "mirror none\n")?));
@@ -102,17 +102,19 @@ pub fn mirror_text(alloc: Global, mirror: Mirror) -> Result<Octets, Memory>
     let eid = point.eid;
     let count = mirror.count();
     let mut out = from_string(format!(in alloc; "mirror {epoch} {eid} {count}\n")?);
-    let kind = mirror.kind();
-    push_records(&mut out, kind, mirror.into_records())?;
+    push_records(&mut out, mirror)?;
     Ok(out)
 }
 
-/// Puts a line for each record at the end of `out`. A record is let go of behind its line, while its octets are near.
-fn push_records(out: &mut Octets, kind: Kind, records: Records) -> Result<(), Memory>
-    ensures lines { OnOk result (out.new ≡ out.old ++ flat_map (record_line kind) records) }
+/// Puts a line for each record of a mirror at the end of `out`.
+fn push_records(out: &mut Octets, mirror: &Mirror) -> Result<(), Memory>
+    ensures lines { OnOk result
+        (out.new ≡ out.old ++ flat_map (record_line mirror.now.kind) mirror.now.records) }
 {
-    for record in records.into_vec() {
-        push_record(out, kind, &record)?;
+    for place in 0..mirror.count() {
+        if let Some(record) = mirror.record_at(place) {
+            push_record(out, mirror.kind(), record)?;
+        }
     }
     Ok(())
 }

@@ -4,3 +4,4 @@ pub mod Placing
 pub mod Living
 pub mod OfKind
 pub mod Honest
+pub mod Fulfils

@@ -1,6 +1,7 @@
 pub mod Bounded
 pub mod DataModel
 pub mod Doubled
+pub mod Fulfilling
 pub mod History
 pub mod InOrder
 pub mod Kinds

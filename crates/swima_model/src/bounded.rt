@@ -1,10 +1,16 @@
 //! Octets of a bounded number: identifiers, locators and bodies of records.
 
-ghost use Rattle.std.specs.Prelude.{◌≡◌, ◌≤◌, [], ℕ, length, IfOk};
+ghost use Rattle.std.proofs.Common.{refl};
+ghost use Rattle.std.specs.Cmp as comparing;
+ghost use Rattle.std.specs.Cmp.Lexicographic.{nat_list_cmp_total, nat_list_eq_equiv, slice_cmp, texts_po, texts_ties};
+ghost use Rattle.std.specs.Ordering.{nat_cmp};
+ghost use Rattle.std.specs.Prelude.{◌≡◌, ◌≤◌, [], ℕ, length, IfOk, Some};
+ghost use Rattle.std.specs.Str.{bytes_eq};
 ghost use Rattle.swima_model.specs.Bounded.{Bounds};
 ghost use Rattle.swima_model.specs.declared.bounded.LongRefused.TheVariants as refused;
 
 use std::alloc::Global;
+use std::cmp::Ordering;
 use std::marker::{Model, PhantomData};
 use thiserror::Error;
 use wire_base::{List, Memory, Octets, TryCopy};
@@ -106,6 +112,46 @@ impl<L: Limit> TryCopy for Bounded<L> {
             octets: self.octets.copy()?,
             limit: PhantomData,
         })
+    }
+}
+
+/// Equal exactly where the octets are.
+impl<L: Limit> PartialEq for Bounded<L> {
+    ghost eq = { bytes_eq };
+
+    ghost laws = { comparing.partial_equiv_from_equiv nat_list_eq_equiv };
+
+    fn eq(&self, other: &Self) -> bool {
+        self.bytes() == other.bytes()
+    }
+}
+
+impl<L: Limit> Eq for Bounded<L> {
+    ghost laws = { nat_list_eq_equiv };
+}
+
+impl<L: Limit> PartialOrd for Bounded<L> {
+    ghost partial_cmp = { λ one other. Some (slice_cmp nat_cmp one other) };
+
+    ghost laws = { texts_po };
+
+    fn partial_cmp(&self, other: &Self) -> Option<Ordering> {
+        Some(self.cmp(other))
+    }
+}
+
+/// Octet by octet; where one is a prefix of the other, the shorter comes first.
+impl<L: Limit> Ord for Bounded<L> {
+    ghost cmp = { slice_cmp nat_cmp };
+
+    ghost total = { nat_list_cmp_total };
+
+    ghost matches_partial_cmp = { λ one other. refl };
+
+    ghost matches_eq = { texts_ties };
+
+    fn cmp(&self, other: &Self) -> Ordering {
+        self.bytes().cmp(other.bytes())
     }
 }
 

@@ -1,5 +1,6 @@
 //! What the definitions mean, proved of every value: the calls do nothing.
 
+ghost use Rattle.swima_model.specs.Fulfilling.{FulfillingIsAlike};
 ghost use Rattle.swima_model.specs.Live.{LiveIsLastMention};
 ghost use Rattle.swima_model.specs.Repeated.{DoubledIsLeastRepeated};
 ghost use Rattle.swima_model.specs.Rising.{InOrderIsRisingPermutation};
@@ -21,4 +22,11 @@ pub fn in_order_is_rising_permutation()
 /// is.
 pub fn live_is_last_mention()
     ensures law { LiveIsLastMention }
+{}
+
+/// The report that fulfils a subscription has the size and the count of the report without the
+/// flag. It has stamps, consults no event after its point and fits an attribute where that report
+/// does.
+pub fn fulfilling_is_alike()
+    ensures law { FulfillingIsAlike }
 {}

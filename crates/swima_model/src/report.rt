@@ -1,5 +1,8 @@
 //! Reports of an endpoint's software.
 
+ghost use Rattle.std.specs.Prelude.{◌≡◌};
+ghost use Rattle.swima_model.specs.Fulfilling.{fulfilling};
+
 use crate::event::Events;
 use crate::record::Records;
 use wire_base::{Memory, TryCopy};
@@ -65,6 +68,45 @@ pub enum Report {
         /// The events.
         events: Events,
     },
+}
+
+impl Report {
+    /// The same report as one that fulfils a subscription (RFC 8412, sections 5.7 to 5.10). It takes
+    /// no memory.
+    pub fn fulfilling(self) -> Self
+        ensures report { result ≡ fulfilling self }
+    {
+        match self {
+            Report::Inventory {
+                kind,
+                id,
+                point,
+                records,
+                ..
+            } => Report::Inventory {
+                kind,
+                fulfil: true,
+                id,
+                point,
+                records,
+            },
+            Report::Events {
+                kind,
+                id,
+                point,
+                consulted,
+                events,
+                ..
+            } => Report::Events {
+                kind,
+                fulfil: true,
+                id,
+                point,
+                consulted,
+                events,
+            },
+        }
+    }
 }
 
 impl TryCopy for Report {

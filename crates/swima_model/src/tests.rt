@@ -68,6 +68,22 @@ fn octets_are_taken_up_to_the_limit(rt: HostRuntime) -> Result<(), Fail> {
     Ok(())
 }
 
+/// Whether of two the greater is found, by each of the ways to compare them.
+fn compares<L: Limit>(alloc: Global) -> Result<bool, LongRefused> {
+    let lesser: Bounded<L> = Bounded::new(alloc, b"ab")?;
+    let greater: Bounded<L> = Bounded::new(alloc, b"b")?;
+    let is_less = lesser < greater && lesser != greater;
+    Ok(is_less && lesser.max(greater).bytes() == b"b".as_slice())
+}
+
+#[test]
+fn octets_are_compared_one_by_one(rt: HostRuntime) {
+    let alloc = rt.alloc();
+    assert!(rt; compares::<IdentLimit>(alloc) == Ok(true));
+    assert!(rt; compares::<LocatorLimit>(alloc) == Ok(true));
+    assert!(rt; compares::<BodyLimit>(alloc) == Ok(true));
+}
+
 const MODEL: Model = Model {
     pen: 16_777_215,
     kind: 9,
@@ -203,6 +219,34 @@ fn copies_equal_their_originals(rt: HostRuntime) -> Result<(), Fail> {
     );
     assert_eq!(rt; Action::Alteration.copy()?, Action::Alteration);
     Ok(())
+}
+
+/// Whether the report fulfils a subscription.
+fn fulfils(report: &Report) -> bool {
+    match report {
+        Report::Inventory { fulfil, .. } | Report::Events { fulfil, .. } => *fulfil,
+    }
+}
+
+#[test]
+fn a_fulfilling_report_has_the_flag_set(rt: HostRuntime) {
+    let inventory = Report::Inventory {
+        kind: Kind::Full,
+        fulfil: false,
+        id: 11,
+        point: POINT,
+        records: List::new(rt.alloc()),
+    };
+    assert!(rt; fulfils(&inventory.fulfilling()));
+    let events = Report::Events {
+        kind: Kind::Ids,
+        fulfil: false,
+        id: 12,
+        point: POINT,
+        consulted: 4,
+        events: List::new(rt.alloc()),
+    };
+    assert!(rt; fulfils(&events.fulfilling()));
 }
 
 #[test]

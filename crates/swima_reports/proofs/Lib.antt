@@ -1,3 +1,4 @@
 pub mod ReportLaws
 pub mod FaultLaws
 pub mod Writing
+pub mod Fitting

@@ -2,15 +2,15 @@
 use Rattle.std.proofs.Common.{◌≡◌, ℕ, ◌<◌, ◌≤◌, ◌+◌, ◌^◌, inl, inr, Bool, true, false, List, [], ◌∷◌, ◌++◌, length, get_or, take, refl, sym, ap, subst, ◌∙◌, arith, append_assoc, length-append}
 use Rattle.std.specs.Prelude.{All}
 use Rattle.std.specs.List.{flat_map, sum_by, AllByRecursion}
-use Rattle.std.proofs.lemmas.List.{append-nil, length-map, length-replicate, take_more}
+use Rattle.std.proofs.lemmas.List.{append-nil, length-map, take_more}
 use Rattle.std.proofs.lemmas.List.Elements.{All-from_recursion, All-head, All-tail}
 use Rattle.std.proofs.lemmas.List.Sums.{sum_by-cons}
 use Rattle.std.proofs.lemmas.Grind.{flat_map-append}
-use Rattle.wire_base.specs.Layout.{AreFlags, Counted, Field, FieldForm, Fixed, Flags, Form, Number, Reserved}
+use Rattle.wire_base.specs.Layout.{AreFlags, Field, Flags, Form, Number}
 use Rattle.wire_base.specs.Numbers.{octets_of}
 use Rattle.wire_base.specs.Stamp.{IsStamp, digits}
-use Rattle.wire_base.specs.Written.{Fit, flags_octet, written, written_field}
-use Rattle.wire_base.proofs.WrittenLaws.{Fit-append, written-append, written_form}
+use Rattle.wire_base.specs.Written.{Fit, flags_octet, written}
+use Rattle.wire_base.proofs.WrittenLaws.{Fit-append, length-form, written-append, written_form}
 use Rattle.swima_model.specs.Kinds.{record_of_kind, records_of_kind, events_of_kind}
 use Rattle.swima_model.specs.Reports.{ConsultsWithin, HasStamps}
 use Rattle.swima_model.specs.Size.{body_size, event_size, record_size, report_count}
@@ -54,7 +54,7 @@ behind_more fields entries i d before out new within so put =
 -- ---- how many octets are written
 
 -- A stamp has twenty characters.
-length-stamp : (text : List ℕ) → IsStamp text → length text ≡ 20
+pub length-stamp : (text : List ℕ) → IsStamp text → length text ≡ 20
 unfolding digits
 length-stamp text (inl (m, is, e)) = ap (λ (o : List ℕ). length o) e
 length-stamp text (inr e) = ap (λ (o : List ℕ). length o) e
@@ -116,22 +116,6 @@ written_is_counted (Events kind fulfil id point consulted events) stamps =
           (length-stamp (get_or events i d).stamp (stamps i d within))),
     )
 
--- Any octets that are a field are as many as are written of it.
-length-field : (field : Field) (octets : List ℕ) → FieldForm field octets → length octets ≡ length (written_field field)
-length-field (Number size value) octets form = ap (λ (o : List ℕ). length o) form.1
-length-field (Reserved size) octets form = form ∙ sym (length-replicate size 0)
-length-field (Flags flags) octets form = ap (λ (o : List ℕ). length o) form.1
-length-field (Fixed size fixed) octets form = ap (λ (o : List ℕ). length o) form.1
-length-field (Counted size counted) octets form = ap (λ (o : List ℕ). length o) form.1
-
--- So it is of fields one after another.
-length-fields : (fields : List Field) (octets : List ℕ) → Form fields octets → length octets ≡ length (written fields)
-unfolding written
-length-fields [] octets form = ap (λ (o : List ℕ). length o) form
-length-fields (field ∷ fields) octets (front, rest, is, form, forms) =
-    let all : length octets ≡ length front + length rest = ap (λ (o : List ℕ). length o) is ∙ length-append front rest in
-    omega (arith, all, length-field field front form, length-fields fields rest forms, length-append (written_field field) (written fields))
-
 -- The events of a report that can be written have stamps.
 pub has_stamps : (report : Report) → CanBeWritten report → HasStamps report
 has_stamps (Inventory kind fulfil id point records) can = tt
@@ -140,7 +124,7 @@ has_stamps (Events kind fulfil id point consulted events) can =
 
 pub form_is_counted : FormIsCounted
 form_is_counted attr_type report octets form =
-    length-fields (report_fields report) octets form.form
+    length-form (report_fields report) octets form.form
     ∙ written_is_counted report (has_stamps report form.written)
 
 -- ---- room

@@ -1,5 +1,5 @@
 -- What is written of a report (RFC 8412, sections 5.7 to 5.10).
-use Rattle.std.specs.Prelude.{◌≡◌, ℕ, List, Ok, drop, length, take}
+use Rattle.std.specs.Prelude.{◌≡◌, ◌<◌, ◌≤◌, ◌^◌, ◌↔◌, ℕ, List, Ok, drop, length, take}
 use Rattle.wire_base.specs.Layout.{Field}
 use Rattle.wire_base.specs.Reading.{whole}
 use Rattle.wire_base.specs.Written.{Fit, written}
@@ -10,8 +10,9 @@ use Rattle.swima_model.specs.declared.report.Kind.{Kind}
 use Rattle.swima_model.specs.declared.report.Kind.TheVariants.{Ids}
 use Rattle.swima_model.specs.declared.report.Report.{Report}
 use Rattle.swima_model.specs.declared.report.Report.TheVariants.{Inventory, Events}
-use Rattle.swima_model.specs.Reports.{HasStamps}
-use Rattle.swima_model.specs.Size.{report_size}
+use Rattle.swima_model.specs.Fulfilling.{fulfilling}
+use Rattle.swima_model.specs.Reports.{ConsultsWithin, FitsAttribute, HasStamps, MOST_REPORT_OCTETS}
+use Rattle.swima_model.specs.Size.{report_count, report_size}
 use Rattle.swima_reports.specs.ReportForm.{CanBeWritten, MayCarry, ReportForm, event_fields, record_fields, report_fields}
 use Rattle.swima_reports.specs.ReportReading.{read_report}
 use Rattle.swima_reports.specs.ReportType.{report_type}
@@ -49,6 +50,16 @@ pub record IsWritable (report : Report) : Type 0 where
   pub fits : Fit (report_fields report)
   pub carried : CanBeWritten (carried report)
 
+-- A report fits an attribute exactly where `write_report` may be called with it.
+abbrev pub FitsIsAsked : Type 0
+FitsIsAsked = (report : Report)
+    → FitsAttribute report ↔ ((report_count report < 2 ^ 24) × (report_size report ≤ 16777000) × HasStamps report × ConsultsWithin report)
+
+-- A report that was read of no more octets than one has that is written fits an attribute.
+abbrev pub ReadFits : Type 0
+ReadFits = (attr_type : ℕ) (report : Report) (octets : List ℕ) → ReportForm attr_type report octets
+    → length octets ≤ MOST_REPORT_OCTETS → FitsAttribute report
+
 -- ---- what is written
 
 -- What is written of a report is read back as what it carries, of the type that carries the report.
@@ -68,3 +79,11 @@ WrittenIsCounted = (report : Report) → HasStamps report → length (written_re
 abbrev pub FormIsCounted : Type 0
 FormIsCounted = (attr_type : ℕ) (report : Report) (octets : List ℕ) → ReportForm attr_type report octets
     → length octets ≡ report_size report
+
+-- ---- reports that fulfil a subscription
+
+-- Where the fields of a report have room, those of the one that fulfils a subscription do. Both
+-- have one attribute type, and what is carried of both differs in the flag alone.
+abbrev pub FulfillingIsWritable : Type 0
+FulfillingIsWritable = (report : Report) → (IsWritable report → IsWritable (fulfilling report))
+    × (report_type (fulfilling report) ≡ report_type report) × (carried (fulfilling report) ≡ fulfilling (carried report))

@@ -1,7 +1,7 @@
 //! What the definitions mean, proved of every value: the calls do nothing.
 
 ghost use Rattle.swima_reports.specs.Laws.{AreOneOfTwo, FaultIsFirst, NoFormIsAFront, ReadingIsForm};
-ghost use Rattle.swima_reports.specs.Written.{CarriedIsReport, FormIsCounted, WrittenIsCounted, WrittenIsRead};
+ghost use Rattle.swima_reports.specs.Written.{CarriedIsReport, FitsIsAsked, FormIsCounted, FulfillingIsWritable, ReadFits, WrittenIsCounted, WrittenIsRead};
 
 /// The layout read field by field gives a report exactly where the octets have the report's form: the readers and the
 /// form, each written in the order of the RFC's figures, say the same.
@@ -43,4 +43,21 @@ pub fn written_is_counted()
 /// A value that carries a report has as many octets as are counted, whatever its reserved octets are.
 pub fn form_is_counted()
     ensures law { FormIsCounted }
+{}
+
+/// A report fits an attribute exactly where `write_report` may be called with it.
+pub fn fits_is_asked()
+    ensures law { FitsIsAsked }
+{}
+
+/// A report that was read from a value of at most 16,777,000 octets fits an attribute, so it can be
+/// written again.
+pub fn read_fits()
+    ensures law { ReadFits }
+{}
+
+/// The report that fulfils a subscription has room in its fields where the report without the flag
+/// has. It has the same attribute type, and is carried with the same records or events.
+pub fn fulfilling_is_writable()
+    ensures law { FulfillingIsWritable }
 {}

@@ -5,7 +5,8 @@
 //! layout read field by field, with the place of the first fault), `found` with `only` (a report comes exactly where the
 //! value is in its form), and `fault` (else the place is that of the first fault). The form and the first fault are
 //! `ReportForm` and `ReportFault` in `specs/ReportForm.antt`; the functions of `laws` say that they and the reading field by
-//! field are the same.
+//! field are the same. What `write_report` asks for is `FitsAttribute` of `swima_model`, by the law
+//! `fits_is_asked`.
 #![tactic(auto)]
 
 mod attribute_types;

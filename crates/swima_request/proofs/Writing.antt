@@ -1,14 +1,15 @@
 -- What is written of a request, target by target.
-use Rattle.std.proofs.Common.{◌≡◌, ℕ, ◌+◌, List, [], ◌∷◌, ◌++◌, length, refl, sym, ap, ◌∙◌, arith, length-append}
+use Rattle.std.proofs.Common.{◌≡◌, ℕ, ◌+◌, ◌<◌, ◌^◌, List, [], ◌∷◌, ◌++◌, length, refl, sym, ap, ◌∙◌, arith, length-append}
 use Rattle.std.specs.List.{flat_map, sum_by}
 use Rattle.std.proofs.lemmas.List.Sums.{sum_by-cons}
 use Rattle.wire_base.specs.Numbers.{octets_of}
 use Rattle.wire_base.specs.Layout.{Counted}
 use Rattle.wire_base.specs.Written.{flags_octet, written, written_field}
 use Rattle.wire_base.proofs.Spelled.{length-octets_of}
+use Rattle.wire_base.proofs.WrittenLaws.{length-form}
 use Rattle.swima_request.specs.declared.request.Request.{Request}
-use Rattle.swima_request.specs.Laws.{WrittenIsCounted}
-use Rattle.swima_request.specs.RequestForm.{CLEAR, SUBSCRIBE, IDENTIFIERS_ONLY, is_ids, target_fields, written_request}
+use Rattle.swima_request.specs.Laws.{FormIsCounted, WrittenIsCounted}
+use Rattle.swima_request.specs.RequestForm.{CLEAR, SUBSCRIBE, IDENTIFIERS_ONLY, RequestForm, is_ids, request_fields, target_fields, written_request}
 
 -- What is written of a target.
 abbrev pub written_target : List ℕ → List ℕ
@@ -64,3 +65,11 @@ written_is_counted request =
       length-octets_of 4 request.earliest,
       length-targets request.targets,
     )
+
+-- So has each form of it, whatever the flags without a name are.
+pub form_is_counted : FormIsCounted
+form_is_counted request octets form = length-form (request_fields request) octets form ∙ written_is_counted request
+
+-- A request that octets carry has a count of targets that three octets hold.
+pub count_within : (request : Request) (octets : List ℕ) → RequestForm request octets → length request.targets < 2 ^ 24
+count_within request octets (flags, rest, is, flag, (count, others, at, number, after)) = number.0

@@ -24,6 +24,10 @@ AreOneOfTwo = FormOrFault RequestForm RequestFault
 abbrev pub NoFormIsAFront : Type 0
 NoFormIsAFront = NoneIsAFront RequestForm
 
+-- A form of a request has so many octets as are counted, whatever the flags without a name are.
+abbrev pub FormIsCounted : Type 0
+FormIsCounted = (request : Request) (octets : List ℕ) → RequestForm request octets → length octets ≡ request_octets request
+
 -- ---- writing
 
 -- The numbers of a request, and the lengths and the count of its targets, have room in their fields.

@@ -1,6 +1,6 @@
 //! What the definitions mean, proved of every value: the calls do nothing.
 
-ghost use Rattle.swima_request.specs.Laws.{AreOneOfTwo, FaultIsFirst, NoFormIsAFront, ReadingIsForm, WrittenIsCounted, WrittenIsRead};
+ghost use Rattle.swima_request.specs.Laws.{AreOneOfTwo, FaultIsFirst, FormIsCounted, NoFormIsAFront, ReadingIsForm, WrittenIsCounted, WrittenIsRead};
 
 /// The layout read field by field gives a request exactly where the octets have the request's form: the reader and the form,
 /// each written in the order of the RFC's figure, say the same.
@@ -32,4 +32,10 @@ pub fn written_is_read()
 /// What is written of a request has as many octets as are counted.
 pub fn written_is_counted()
     ensures law { WrittenIsCounted }
+{}
+
+/// A value that carries a request has as many octets as are counted, whatever its flags without a
+/// name are.
+pub fn form_is_counted()
+    ensures law { FormIsCounted }
 {}

@@ -1,7 +1,10 @@
 //! Values of attributes, and the requests that they are read as. The places of the faults are worked out by hand from the
 //! figure of RFC 8412, section 5.6.
 
+ghost use Rattle.std.specs.Prelude.{◌≤◌, length};
+
 use crate::{Request, read_request, write_request};
+use std::alloc::Global;
 use std::test::Fail;
 use swima_model::{Ident, Kind};
 use wire_base::{FieldRefused, List, TryCopy};
@@ -73,6 +76,20 @@ fn a_request_is_read_and_written(rt: HostRuntime) -> Result<(), Fail> {
         (16_909_060, 4_294_967_295, 0)
     );
     Ok(())
+}
+
+/// Whether what is written of the request that is read of the value is the value.
+fn is_given_back(alloc: Global, value: &[u8]) -> Result<bool, FieldRefused>
+    requires within { length value.now ≤ 16777000 }
+{
+    let request = read_request(alloc, value, 20)?;
+    let written = write_request(alloc, &request)?;
+    Ok(written.as_slice() == value)
+}
+
+#[test]
+fn a_request_that_was_read_is_written_again(rt: HostRuntime) {
+    assert!(rt; is_given_back(rt.alloc(), &TWO_TARGETS) == Ok(true));
 }
 
 #[test]

@@ -1,3 +1,4 @@
+pub mod Again
 pub mod Epochs
 pub mod Gaps
 pub mod Growing

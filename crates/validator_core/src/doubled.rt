@@ -6,15 +6,16 @@ ghost use Rattle.swima_model.specs.Doubled.{doubled};
 ghost use Rattle.swima_model.specs.InOrder.{ids};
 ghost use Rattle.swima_model.specs.Repeated.{IsLeastRepeated};
 
-use swima_model::{Record, Records};
+use std::alloc::Global;
+use swima_model::Record;
 use wire_base::Memory;
 
 /// The smallest identifier that two of the records have.
-pub fn doubled(records: &Records) -> Result<Option<u32>, Memory>
+pub fn doubled(alloc: Global, records: &[Record]) -> Result<Option<u32>, Memory>
     ensures smallest { IfOk result (λ found. found ≡ doubled (ids records.now)) }
 {
-    let mut ids = Vec::with_capacity(records.allocator(), records.len())?;
-    for record in records.as_slice() {
+    let mut ids = Vec::with_capacity(alloc, records.len())?;
+    for record in records {
         ids.push(record.id)?;
     }
     ids.sort_unstable();

@@ -3,17 +3,17 @@
 ghost use Rattle.std.specs.Prelude.{◌≡◌, ◌≤◌};
 ghost use Rattle.validator_core.specs.Following.{gap};
 
-use swima_model::Events;
+use swima_model::Event;
 
 /// The first gap between the event identifier `held` and `consulted`, which is not below it: the first event identifier
 /// above `held` that is not the next one up to `consulted`; 0 where the events end before `consulted`. Events that are not
 /// above `held` are passed over. It takes no memory.
-pub fn gap(held: u32, consulted: u32, events: &Events) -> Option<u32>
+pub fn gap(held: u32, consulted: u32, events: &[Event]) -> Option<u32>
     requires behind { held ≤ consulted }
     ensures gap { result ≡ gap held consulted events.now }
 {
     let mut last = held;
-    for event in events.as_slice() {
+    for event in events {
         if event.eid <= held {
             continue;
         }

@@ -15,13 +15,13 @@ pub enum Given<'a, T> {
 }
 
 impl<'a, T: TryCopy> Given<'a, T> {
-    /// The list, to look at.
-    pub fn as_list(&self) -> &List<T>
-        ensures list { result.now ≡ list_of self.now }
+    /// Its items, to look at.
+    pub fn as_slice(&self) -> &[T]
+        ensures items { result.now ≡ list_of self.now }
     {
         match self {
-            Given::Lent(list) => *list,
-            Given::Own(list) => list,
+            Given::Lent(list) => list.as_slice(),
+            Given::Own(list) => list.as_slice(),
         }
     }
 

@@ -1,11 +1,16 @@
 //! What the definitions mean, proved of every value: the calls do nothing.
 
 ghost use Rattle.validator_core.specs.Growth.{GrowthKeepsAnswers, GrowthKeepsRight, HonestGrowthIsLater};
-ghost use Rattle.validator_core.specs.Kept.{JudgeKeepsRising};
+ghost use Rattle.validator_core.specs.Kept.{JudgeKeepsRising, JudgedAgainChangesNothing};
 
 /// A mirror in which each identifier is below the next, as in a new one, is such a mirror after each report.
 pub fn judge_keeps_rising()
     ensures law { JudgeKeepsRising }
+{}
+
+/// A report that was just judged changes nothing when it is judged once more, whatever the mirror held.
+pub fn judged_again_changes_nothing()
+    ensures law { JudgedAgainChangesNothing }
 {}
 
 /// Where a history grows, each mirror that was right over it still is, and so does each inventory that answered from it

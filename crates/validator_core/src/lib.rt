@@ -4,7 +4,8 @@
 //! to a report of records or of events, and what the mirror holds then, are `judge` of `specs/Judge.antt`; want of memory
 //! leaves it as it was), `right` (over every honest history a mirror that was right takes a report that answers from it, and
 //! is right again, as `specs/Right.antt` says) and `stands` (which answers move its point); and on `want` of `Mirror::want`
-//! (what it wants next is `want` of `specs/Want.antt`). The functions of `laws` say what the definitions mean.
+//! (what it wants next is `want` of `specs/Want.antt`). The functions of `laws` say what the definitions mean, among them that
+//! a report that was just judged changes nothing when it is judged once more (`judged_again_changes_nothing`).
 #![tactic(auto)]
 
 mod doubled;
@@ -19,6 +20,8 @@ mod order;
 mod tally;
 #[cfg(test)]
 mod tests;
+#[cfg(test)]
+mod thread_tests;
 mod trouble;
 mod want;
 

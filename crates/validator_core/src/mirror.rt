@@ -21,7 +21,7 @@ use crate::trouble::first_trouble;
 use std::alloc::Global;
 use std::marker::Model;
 use swima_model::{Event, Kind, Point, Record, Records, Report};
-use wire_base::{List, Memory};
+use wire_base::{List, Memory, TryCopy};
 
 /// The most records that a mirror holds.
 const MOST_RECORDS: usize = 65536;
@@ -79,6 +79,12 @@ pub enum Taken {
     },
     /// Want of memory; the mirror is as it was.
     Memory,
+}
+
+impl TryCopy for Taken {
+    fn copy(&self) -> Result<Self, Memory> {
+        Ok(*self)
+    }
 }
 
 /// A copy of one collector's inventory at one point, as its reports tell it (RFC 8412, section 3.7).
@@ -150,21 +156,6 @@ impl Mirror {
         ensures record { option_copied result ≡ slice_get self.now.records place }
     {
         self.records.get(place as usize)
-    }
-
-    /// All its records in order of identifier.
-    pub fn records(&self) -> &[Record]
-        ensures records { result.now ≡ self.now.records }
-    {
-        self.records.as_slice()
-    }
-
-    /// All its records in order of identifier, given up. It takes no memory.
-    pub fn into_records(self) -> Records
-        ensures records { result ≡ self.records }
-    {
-        let Mirror { records, .. } = self;
-        records
     }
 
     /// Takes a report: the answer and what the mirror holds then are the first line of the table that fits. Want of
@@ -253,12 +244,12 @@ impl Mirror {
             ≡ (answer, self.new)) }
         ensures memory { OnErr result (self.new ≡ self.old) }
     {
-        if let Some(id) = doubled(records.as_list())? {
+        if let Some(id) = doubled(self.records.allocator(), records.as_slice())? {
             self.off = true;
             return Ok(Taken::Doubled { id });
         }
-        let count = records.as_list().len();
-        let octets = records_octets(records.as_list());
+        let count = records.as_slice().len();
+        let octets = records_octets(records.as_slice());
         if is_large(count, octets) {
             self.off = true;
             return Ok(Taken::Large {
@@ -306,7 +297,7 @@ impl Mirror {
             (judge_numbered self.old held consulted (list_of events.entry) (gap held.eid consulted (list_of events.entry)))
             result self.new }
     {
-        if let Some(got) = gap(held.eid, consulted, events.as_list()) {
+        if let Some(got) = gap(held.eid, consulted, events.as_slice()) {
             self.off = true;
             let have = held.eid;
             return Taken::Gap { have, got };
@@ -330,7 +321,9 @@ impl Mirror {
             ≡ (answer, self.new)) }
         ensures memory { OnErr result (self.new ≡ self.old) }
     {
-        if let Some(trouble) = first_trouble(&self.records, held.eid, events.as_list())? {
+        let alloc = self.records.allocator();
+        let records = self.records.as_slice();
+        if let Some(trouble) = first_trouble(alloc, records, held.eid, events.as_slice())? {
             self.off = true;
             return Ok(trouble);
         }

@@ -4,7 +4,7 @@ ghost use Rattle.std.specs.Prelude.{◌≡◌, ◌<◌, ◌≤◌, ◌*◌, ◌^
 ghost use Rattle.swima_model.specs.Size.{MOST_OCTETS, records_octets};
 ghost use Rattle.swima_model.specs.InOrder.{in_order};
 
-use swima_model::Records;
+use swima_model::{Record, Records};
 use wire_base::{List, Memory};
 
 /// The records in order of identifier.
@@ -17,13 +17,13 @@ pub fn in_order(records: Records) -> Result<Records, Memory>
 }
 
 /// How many octets the records have together.
-pub fn records_octets(records: &Records) -> u64
+pub fn records_octets(records: &[Record]) -> u64
     requires { length records.now < 2 ^ 32 }
     ensures octets { result ≡ records_octets records.now }
     ensures within { result ≤ MOST_OCTETS * length records.now }
 {
     let mut octets = 0;
-    for record in records.as_slice() {
+    for record in records {
         octets += record.content.octets();
     }
     octets

@@ -12,9 +12,10 @@ ghost use Rattle.validator_core.specs.Tally.{AreFew, AreRising, AreSetAt, Follow
 
 use crate::mirror::{Taken, is_large};
 use crate::order::records_octets;
+use std::alloc::Global;
 use std::collections::BTreeMap;
 use std::marker::Model;
-use swima_model::{Action, Event, Record, Records};
+use swima_model::{Action, Event, Record};
 use wire_base::Memory;
 
 /// The identifiers of records, each with the octets of its content, and the octets of all together.
@@ -37,14 +38,14 @@ impl Model for Tally {
 
 impl Tally {
     /// The tally of `records`.
-    pub fn of(records: &Records) -> Result<Self, Memory>
+    pub fn of(alloc: Global, records: &[Record]) -> Result<Self, Memory>
         requires rising { IsStrictlyIncreasing (ids records.now) }
         requires few { length records.now ≤ 65536 }
         ensures sizes { IfOk result (λ made. made ≡ sizes_of records.now) }
         ensures few { IfOk result (λ made. AreFew made) }
     {
         Ok(Tally {
-            sizes: sizes_of(records)?,
+            sizes: sizes_of(alloc, records)?,
             octets: records_octets(records),
         })
     }
@@ -124,13 +125,13 @@ impl Tally {
 }
 
 /// The identifiers of the records, each with the octets of its content. Being in order, they are put in place at once.
-fn sizes_of(records: &Records) -> Result<BTreeMap<u32, u64>, Memory>
+fn sizes_of(alloc: Global, records: &[Record]) -> Result<BTreeMap<u32, u64>, Memory>
     requires rising { IsStrictlyIncreasing (ids records.now) }
     ensures sizes { IfOk result (λ made. made.entries ≡ sizes_of records.now) }
 {
-    let sizes = records.as_slice().iter();
+    let sizes = records.iter();
     let sizes = sizes.map(|record| (record.id, record.content.octets()));
-    Ok(sizes.collect(records.allocator())?)
+    Ok(sizes.collect(alloc)?)
 }
 
 /// Whether the action fits no record that is live, or one that is not.

@@ -7,18 +7,24 @@ ghost use Rattle.validator_core.specs.Following.{events_above, first_trouble};
 
 use crate::mirror::Taken;
 use crate::tally::Tally;
-use swima_model::{Events, Records};
+use std::alloc::Global;
+use swima_model::{Event, Record};
 use wire_base::Memory;
 
 /// What is said of the first event above the event identifier `eid` of which something is to be said, where the events
 /// above it follow on `records` in turn.
-pub fn first_trouble(records: &Records, eid: u32, events: &Events) -> Result<Option<Taken>, Memory>
+pub fn first_trouble(
+    alloc: Global,
+    records: &[Record],
+    eid: u32,
+    events: &[Event],
+) -> Result<Option<Taken>, Memory>
     requires rising { IsStrictlyIncreasing (ids records.now) }
     requires few { length records.now ≤ 65536 }
     ensures first { IfOk result (λ found. found ≡ first_trouble records.now (events_above eid events.now)) }
 {
-    let mut tally = Tally::of(records)?;
-    for event in events.as_slice() {
+    let mut tally = Tally::of(alloc, records)?;
+    for event in events {
         if event.eid <= eid {
             continue;
         }

@@ -2,8 +2,8 @@
 use Rattle.std.proofs.Common.{◌≡◌, ℕ, ◌⊎◌, inl, inr, List, [], ◌∷◌, ◌++◌, length, Result, Ok, Err, refl, sym, ap, subst, ◌∙◌, arith}
 use Rattle.std.specs.Prelude.{IfOk}
 use Rattle.std.proofs.lemmas.List.{append-nil}
-use Rattle.wire_base.specs.declared.refused.FieldRefused.{FieldRefused}
-use Rattle.wire_base.specs.declared.refused.FieldRefused.TheVariants as refused
+use Rattle.wire_base.specs.declared.layout.refused.FieldRefused.{FieldRefused}
+use Rattle.wire_base.specs.declared.layout.refused.FieldRefused.TheVariants as refused
 use Rattle.wire_base.specs.FirstFault.{HasFields, GoesOn, FirstFault, OnFault, ReadsForm, ReadsFault, FormOrFault, NoneIsAFront}
 use Rattle.wire_base.specs.Layout.{AreOctets, Field, Form}
 use Rattle.wire_base.specs.Reading.{Gives, Reader, Rest, value_alone, whole}

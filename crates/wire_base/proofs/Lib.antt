@@ -1,6 +1,7 @@
 pub mod Octets
 pub mod NumberFacts
 pub mod Streams
+pub mod Copied
 pub mod Spelled
 pub mod Exact
 pub mod Meanings
@@ -13,3 +14,8 @@ pub mod Faults
 pub mod FieldFaults
 pub mod FormOrFault
 pub mod Escaping
+pub mod Added
+pub mod TextFaults
+pub mod Decimals
+pub mod Escapes
+pub mod Unescaping

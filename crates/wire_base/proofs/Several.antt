@@ -1,8 +1,8 @@
 -- Values that a loop reads one after another are those that `several` reads.
 use Rattle.std.proofs.Common.{◌≡◌, ℕ, suc, ◌-◌, ◌+◌, ◌≤◌, ◌<◌, List, [], ◌∷◌, ◌++◌, Result, Ok, Err, refl, sym, ap, ◌∙◌, append_assoc, arith}
 use Rattle.std.proofs.lemmas.List.{append-nil}
-use Rattle.wire_base.specs.declared.refused.FieldRefused.{FieldRefused}
-use Rattle.wire_base.specs.declared.refused.FieldRefused.TheVariants as refused
+use Rattle.wire_base.specs.declared.layout.refused.FieldRefused.{FieldRefused}
+use Rattle.wire_base.specs.declared.layout.refused.FieldRefused.TheVariants as refused
 use Rattle.wire_base.specs.Reading.{Reader, Rest, Gives, and_then, several}
 
 -- What was read before, and what is still read: the loop keeps that this is what is read in all.

@@ -1,5 +1,5 @@
 -- What is written of a layout has its form.
-use Rattle.std.proofs.Common.{◌≡◌, ℕ, List, [], ◌∷◌, ◌++◌, refl, sym, ap, ◌∙◌, append_assoc}
+use Rattle.std.proofs.Common.{◌≡◌, ℕ, ◌+◌, List, [], ◌∷◌, ◌++◌, length, refl, sym, ap, ◌∙◌, append_assoc, arith, length-append}
 use Rattle.std.specs.List.{flat_map}
 use Rattle.std.proofs.lemmas.List.{length-replicate}
 use Rattle.wire_base.specs.Layout.{Field, Number, Reserved, Flags, Fixed, Counted, FieldForm, Form}
@@ -37,3 +37,19 @@ written-flat_map fields (value ∷ values) =
 pub Fit-append : (fields more : List Field) → Fit fields → Fit more → Fit (fields ++ more)
 Fit-append [] more a b = b
 Fit-append (field ∷ fields) more a b = (a.0, Fit-append fields more a.1 b)
+
+-- Any octets that are a field are as many as are written of it.
+length-field : (field : Field) (octets : List ℕ) → FieldForm field octets → length octets ≡ length (written_field field)
+length-field (Number size value) octets form = ap (λ (o : List ℕ). length o) form.1
+length-field (Reserved size) octets form = form ∙ sym (length-replicate size 0)
+length-field (Flags flags) octets form = ap (λ (o : List ℕ). length o) form.1
+length-field (Fixed size fixed) octets form = ap (λ (o : List ℕ). length o) form.1
+length-field (Counted size counted) octets form = ap (λ (o : List ℕ). length o) form.1
+
+-- So are any octets that are fields one after another.
+pub length-form : (fields : List Field) (octets : List ℕ) → Form fields octets → length octets ≡ length (written fields)
+unfolding written
+length-form [] octets form = ap (λ (o : List ℕ). length o) form
+length-form (field ∷ fields) octets (front, rest, is, form, forms) =
+    let all : length octets ≡ length front + length rest = ap (λ (o : List ℕ). length o) is ∙ length-append front rest in
+    omega (arith, all, length-field field front form, length-form fields rest forms, length-append (written_field field) (written fields))

@@ -3,8 +3,8 @@
 use Rattle.std.specs.Prelude.{◌≡◌, ◌↔◌, ◌⊎◌, ◌+◌, ℕ, List, [], ◌∷◌, ◌++◌, Result, Ok, Err, length}
 use Rattle.wire_base.specs.Layout.{AreOctets, Field, FieldForm, Form}
 use Rattle.wire_base.specs.Reading.{Reader, whole}
-use Rattle.wire_base.specs.declared.refused.FieldRefused.{FieldRefused}
-use Rattle.wire_base.specs.declared.refused.FieldRefused.TheVariants as refused
+use Rattle.wire_base.specs.declared.layout.refused.FieldRefused.{FieldRefused}
+use Rattle.wire_base.specs.declared.layout.refused.FieldRefused.TheVariants as refused
 
 -- ---- the definition
 

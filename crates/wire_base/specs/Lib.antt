@@ -5,11 +5,17 @@ pub mod InMemory
 pub mod Numbers
 pub mod Reading
 pub mod Adapter
+pub mod SystemLinks
 pub mod NamedFile
 pub mod Unread
 pub mod Passing
+pub mod Turns
+pub mod Doors
+pub mod Clocks
 pub mod Layout
 pub mod FirstFault
 pub mod Stamp
 pub mod Written
 pub mod Escaped
+pub mod Texts
+pub mod Spelling

@@ -2,9 +2,9 @@
 use Rattle.std.specs.Prelude.{◌≡◌, ◌<◌, ◌≤◌, ◌++◌, ℕ, Bool, true, false, List, [], ◌∷◌, Option, Some, None, length, IfSome, if◌then◌else◌}
 use Rattle.std.specs.Option.{option_map}
 use Rattle.std.specs.Str.{bytes_eq}
-use Rattle.wire_base.specs.declared.files.FileAnswer.{FileAnswer}
-use Rattle.wire_base.specs.declared.files.FileAnswer.TheVariants as answer
-use Rattle.wire_base.specs.declared.files.NamedFile.{NamedFile}
+use Rattle.wire_base.specs.declared.outside.files.FileAnswer.{FileAnswer}
+use Rattle.wire_base.specs.declared.outside.files.FileAnswer.TheVariants as answer
+use Rattle.wire_base.specs.declared.outside.files.NamedFile.{NamedFile}
 
 -- The content of the first file of that name, if there is one.
 abbrev pub content_of : List NamedFile → List ℕ → Option (List ℕ)

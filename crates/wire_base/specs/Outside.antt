@@ -14,18 +14,18 @@ pub record HasCause (before after : ℕ) (faulted : Bool) : Type 0 where
   pub cause : MatchBool faulted (Rose before after) (after ≡ before)
 
 -- What was left before is `moved` and then what is left after. An object that does not tell still does not tell.
-abbrev pub Moves : Option (List ℕ) → Option (List ℕ) → List ℕ → Type 0
+abbrev pub Moves : {A : Type 0} → Option (List A) → Option (List A) → List A → Type 0
 Moves before after moved = before ≡ option_map (λ left. moved ++ left) after
 
 -- What was written after is what was written before and then `added`. An object that does not tell still does not
 -- tell.
-abbrev pub Adds : Option (List ℕ) → Option (List ℕ) → List ℕ → Type 0
+abbrev pub Adds : {A : Type 0} → Option (List A) → Option (List A) → List A → Type 0
 Adds before after added = after ≡ option_map (λ written. written ++ added) before
 
 -- An object that tells has nothing left.
-abbrev pub NothingLeft : Option (List ℕ) → Type 0
+abbrev pub NothingLeft : {A : Type 0} → Option (List A) → Type 0
 NothingLeft None = Unit {0}
-NothingLeft (Some octets) = octets ≡ []
+NothingLeft (Some left) = left ≡ []
 
 -- A read into `buffer` moved the octets that it counts, none only where nothing is left; a failed one moved none.
 abbrev pub Reads : {E : Type 0} → Option (List ℕ) → Option (List ℕ) → Result ℕ E → List ℕ → Type 0

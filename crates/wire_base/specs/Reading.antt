@@ -1,8 +1,8 @@
 -- Reading a value field by field. A reader takes the octets of its field from the front of what is left, or stops at
 -- the place of the first fault; a block of readers names the fields of a layout in the order of its figure.
 use Rattle.std.specs.Prelude.{◌≡◌, ◌==◌, ◌+◌, ℕ, zero, suc, List, [], ◌∷◌, Bool, Option, Some, None, Result, Ok, Err, length, take, drop, nat_lt, if◌then◌else◌}
-use Rattle.wire_base.specs.declared.refused.FieldRefused.{FieldRefused}
-use Rattle.wire_base.specs.declared.refused.FieldRefused.TheVariants as refused
+use Rattle.wire_base.specs.declared.layout.refused.FieldRefused.{FieldRefused}
+use Rattle.wire_base.specs.declared.layout.refused.FieldRefused.TheVariants as refused
 use Rattle.wire_base.specs.Numbers.{number_of}
 
 -- What is left to be read, and the place at which it stands.

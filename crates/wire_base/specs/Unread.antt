@@ -4,10 +4,10 @@ use Rattle.std.specs.Prelude.{◌≡◌, ◌<◌, ◌≤◌, ℕ, List, Result, 
 use Rattle.std.specs.declared.fs.attrs.Metadata.{Metadata}
 use Rattle.std.specs.declared.io.ErrorKind.{ErrorKind}
 use Rattle.std.specs.declared.io.ErrorKind.TheVariants as kind
-use Rattle.wire_base.specs.declared.folder_files.Unread.{Unread}
-use Rattle.wire_base.specs.declared.folder_files.Unread.TheVariants as unread
-use Rattle.wire_base.specs.declared.passing.Stopped.{Stopped}
-use Rattle.wire_base.specs.declared.passing.Stopped.TheVariants as stopped
+use Rattle.wire_base.specs.declared.outside.folder_files.Unread.{Unread}
+use Rattle.wire_base.specs.declared.outside.folder_files.Unread.TheVariants as unread
+use Rattle.wire_base.specs.declared.outside.passing.Stopped.{Stopped}
+use Rattle.wire_base.specs.declared.outside.passing.Stopped.TheVariants as stopped
 
 -- What a refusal of the system says: no such name, and a name that leads through something that is no folder, is a file
 -- that is missing; every other one is a fault.

@@ -1,59 +1,62 @@
-//! What every crate stands on: the outside as traits with memory forms and adapters, the one list type, texts, stamps,
-//! numbers, the layout of messages, and the cursor that reads them.
+//! What every crate stands on, in three folders: the outside as traits with memory forms and adapters; values, among them
+//! the one list type, texts and stamps; and the layout of messages: numbers, and the cursor that reads fields.
 //!
 //! It stands on std, on `jiff` for the calendar, and on `thiserror` for the texts of errors. The crates above rest on
-//! `reads`, `writes` and `cause` of `Source` and `Sink` (what was left or written, and faults that are counted), on `field`
-//! of each method of `Cursor` (what a reader gives, or the place of the first fault) and of `FieldReader::read`, on `several`
-//! of `read_several`, on `appended` of `put_u8` and its kin and of `put_counted_u16` and `put_counted_u32`, on `text` of
-//! `stamp_text` and of `push_escaped`, on `stamp` of `is_stamp`, and on `equal` of `TryCopy::copy`. The words of these clauses
-//! are in `specs/`: `Outside`, `Passing`, `Numbers`, `Layout`, `Reading`, `FirstFault`, `Stamp`, `Written`, `Escaped`.
+//! - `reads`, `writes` and `cause` of `Source` and `Sink`: what was left or written, and faults that are counted;
+//! - `takes`, `gives`, `cause` and `idle` of `Link`, `comes`, `returned` and `cause` of `Door`, `moment` of `Clock`;
+//! - `answer`, `cause` and `reads` of `Files`;
+//! - `field` of each method of `Cursor` and of `FieldReader::read`, and `several` of `read_several`: what a reader gives, or
+//!   the place of the first fault;
+//! - `appended` of `put_u8` and its kin, of `put_counted_u16` and of `put_counted_u32`;
+//! - `text` of `stamp_text` and of `push_escaped`, `stamp` of `is_stamp`, `octets` of `read_escaped`, `number` of
+//!   `read_decimal`;
+//! - `equal` of `TryCopy::copy`.
+//!
+//! The words of these clauses are in `specs/`: `Outside`, `Passing`, `Turns`, `Doors`, `Clocks`, `NamedFile`, `Numbers`, `Layout`,
+//! `Reading`, `FirstFault`, `Stamp`, `Written`, `Escaped`, `Texts`.
 #![tactic(auto)]
 
-mod boxed;
-mod counted;
-mod cursor;
-mod escape;
-mod failing;
-mod field_reader;
-mod files;
-mod folder_files;
 pub mod laws;
-mod list;
-mod mem_files;
-mod mem_sink;
-mod mem_source;
-mod memory;
-mod no_fault;
-mod numbers;
-mod passing;
-mod refused;
-mod sink;
-mod source;
-mod stamp;
-mod standard;
-mod text;
+mod layout;
+mod outside;
+mod values;
 
-pub use boxed::Boxed;
-pub use counted::{put_counted_u16, put_counted_u32};
-pub use cursor::Cursor;
-pub use escape::push_escaped;
-pub use field_reader::{FieldReader, read_several};
-pub use files::{FileAnswer, Files, NamedFile};
-pub use folder_files::FolderFiles;
-pub use list::{List, Octets, TryCopy};
-pub use mem_files::MemFiles;
-pub use mem_sink::MemSink;
-pub use mem_source::MemSource;
-pub use memory::Memory;
-pub use no_fault::{NoFaultSink, NoFaultSource};
-pub use numbers::{number_of, put_u8, put_u16, put_u24, put_u32, u24_at, u32_at};
-pub use passing::{Stopped, fill, write_all};
-pub use refused::FieldRefused;
-pub use sink::Sink;
-pub use source::{Failed, Source};
-pub use stamp::{ClockRange, is_stamp, stamp_text};
-pub use standard::{StdinSource, StdoutSink};
-pub use text::Text;
+pub use layout::counted::{put_counted_u16, put_counted_u32};
+pub use layout::cursor::Cursor;
+pub use layout::field_reader::{FieldReader, read_several};
+pub use layout::numbers::{number_of, put_u8, put_u16, put_u24, put_u32, u24_at, u32_at};
+pub use layout::refused::FieldRefused;
+pub use outside::clock::Clock;
+pub use outside::dial_door::DialDoor;
+pub use outside::door::{Came, Door};
+pub use outside::file_source::FileSource;
+pub use outside::files::{FileAnswer, Files, NamedFile};
+pub use outside::folder_files::FolderFiles;
+pub use outside::link::{Link, Took};
+pub use outside::listen_door::ListenDoor;
+pub use outside::mem_clock::MemClock;
+pub use outside::mem_door::MemDoor;
+pub use outside::mem_files::MemFiles;
+pub use outside::mem_link::MemLink;
+pub use outside::mem_sink::MemSink;
+pub use outside::mem_source::MemSource;
+pub use outside::no_fault::{NoFaultSink, NoFaultSource};
+pub use outside::no_fault_link::{LinkTurn, NoFaultLink};
+pub use outside::passing::{Stopped, fill, write_all};
+pub use outside::sink::Sink;
+pub use outside::source::{Failed, Source};
+pub use outside::standard::{StdinSource, StdoutSink};
+pub use outside::system_clock::SystemClock;
+pub use outside::tcp_link::TcpLink;
+pub use values::boxed::Boxed;
+pub use values::decimal::read_decimal;
+pub use values::escape::push_escaped;
+pub use values::list::{List, Octets, TryCopy};
+pub use values::memory::Memory;
+pub use values::stamp::{ClockRange, is_stamp, stamp_text};
+pub use values::text::Text;
+pub use values::text_refused::TextRefused;
+pub use values::unescape::read_escaped;
 
 #[cfg(test)]
 mod file_tests;

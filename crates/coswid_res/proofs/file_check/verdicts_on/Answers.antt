@@ -7,7 +7,7 @@ use Rattle.coswid_res.specs.declared.verdict.Verdict.{Verdict}
 use Rattle.coswid_res.specs.Verify.{IsLine, IsVerdicts}
 use Rattle.coswid_res.proofs.FileReads.{handed_on, no_memory, one_more, one_stopped}
 use Rattle.coswid_res.proofs.FileVerdicts.{line_last, line_pushed}
-use Rattle.wire_base.specs.declared.files.NamedFile.{NamedFile}
+use Rattle.wire_base.specs.declared.outside.files.NamedFile.{NamedFile}
 use Rattle.coswid_res.proofs.file_check.verdicts_on.Goals as goal
 
 pub loop-file-preserved : goal.loop-file-preserved

@@ -47,4 +47,5 @@ returns c =
     let filled = rw c.split_at.ensures.back at c.in_ok-more.ensures.filled in
     let all : c.in_ok-header.header.octets ≤ length c.fill-2.new.held = omega (arith, c.len-2.ensures.len, c.if-len-header.false) in
     let is = rw c.as_slice-2.ensures.items at c.in_ok-messages.ensures.messages in
-    record { grown = grows_done c.args.from_server c.in_ok-header.header c.in_ok-messages.messages (taken c.args.from_server c.in_ok-header.header c.requires.torn c.in_ok-first.ensures.filled long ok filled) all is }
+    let forms = rw c.as_slice-2.ensures.items at c.in_ok-messages.ensures.forms in
+    record { grown = grows_done c.args.from_server c.in_ok-header.header c.in_ok-messages.messages (taken c.args.from_server c.in_ok-header.header c.requires.torn c.in_ok-first.ensures.filled long ok filled) all is forms c.in_ok-messages.ensures.few }

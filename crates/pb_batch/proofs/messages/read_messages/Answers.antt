@@ -2,6 +2,7 @@ use Rattle.std.proofs.Common.{◌≡◌, ◌-◌, ◌<◌, List, ℕ, length, dr
 use Rattle.std.proofs.lemmas.List.{take_rest, length_push}
 use Rattle.std.proofs.lemmas.Result.{err_from_is_err_and}
 use Rattle.pb_batch.specs.Front.{messages_of}
+use Rattle.pb_batch.proofs.MessageLists.{batch_forth}
 use Rattle.pb_batch.proofs.Reading.{head_stops, stops, more_of, some_left, all_read}
 use Rattle.pb_batch.proofs.messages.read_messages.Goals as goal
 
@@ -12,6 +13,8 @@ returns-in_err-head c =
     rw (p.1, p.2) (record {
       messages = head_stops c.loop-at.messages (64 - length c.loop-at.messages) c.loop-at.at (drop c.loop-at.at c.args.batch.now) c.in_err-head.field-0.0 (messages_of 64 8 (drop 8 c.args.batch.now)) some
           (sym (rw (take_rest c.args.batch.now c.loop-at.at, c.len.ensures.len) at c.in_err-head.ensures.head)) c.loop-at.invariant.so_far;
+      forms = tt;
+      few = tt;
     })
 
 pub returns-in_err-read_value : goal.returns-in_err-read_value
@@ -24,6 +27,8 @@ returns-in_err-read_value c =
     rw (p.1, p.2) (record {
       messages = stops c.loop-at.messages (64 - length c.loop-at.messages) c.loop-at.at (drop c.loop-at.at c.args.batch.now) c.in_ok-head.head c.in_err-read_value.field-0.0 (messages_of 64 8 (drop 8 c.args.batch.now)) some
           head value c.loop-at.invariant.so_far;
+      forms = tt;
+      few = tt;
     })
 
 pub loop-at-preserved : goal.loop-at-preserved
@@ -44,4 +49,6 @@ loop-at-preserved c =
 pub returns : goal.returns
 returns c =
     let none : length (drop c.loop-at.at c.args.batch.now) ≡ 0 = omega (arith, length-drop c.loop-at.at c.args.batch.now, c.loop-at-test.false) in
-    record { messages = all_read c.loop-at.messages (64 - length c.loop-at.messages) c.loop-at.at (drop c.loop-at.at c.args.batch.now) (messages_of 64 8 (drop 8 c.args.batch.now)) none c.loop-at.invariant.so_far }
+    let all = all_read c.loop-at.messages (64 - length c.loop-at.messages) c.loop-at.at (drop c.loop-at.at c.args.batch.now) (messages_of 64 8 (drop 8 c.args.batch.now)) none c.loop-at.invariant.so_far in
+    let found = batch_forth c.args.batch.now c.loop-at.messages (λ i. omega (arith, c.type_inv.batch i)) all in
+    record { messages = all; forms = found.0; few = found.1 }

@@ -1,21 +1,32 @@
-use Rattle.std.proofs.Common.{arith}
+use Rattle.std.proofs.Common.{ap, arith, refl}
 use Rattle.swid_cli.proofs.Answered.{prints_right}
+use Rattle.swid_cli.proofs.LinksTelling.{links_sound}
+use Rattle.swid_cli.proofs.Printing.{mirror_begins, mirror_prints, no_reads, tag_reads, words_begin, words_print, words_read}
 use Rattle.swid_cli.proofs.Running.{one_kind, written_or, prints}
+use Rattle.swid_cli.proofs.TagTelling.{tag_fault, tag_said, tag_sound}
+use Rattle.swid_cli.proofs.Telling.{ran_prints, ran_prints_front}
+use Rattle.swid_cli.specs.declared.command.Command.TheVariants as command
 use Rattle.swid_cli.specs.Links.{LIST_OCTETS, LinksTells}
 use Rattle.swid_cli.specs.Tagging.{TAG_OCTETS}
-use Rattle.swid_cli.proofs.LinksTelling.{links_sound}
-use Rattle.swid_cli.proofs.TagReading.{ran_reads}
-use Rattle.swid_cli.proofs.TagTelling.{says_tag, says_verify, tag_fault, tag_said, tag_sound}
-use Rattle.swid_cli.proofs.Telling.{ran_prints, ran_prints_front}
 use Rattle.swid_cli.proofs.run.run_plain.Goals as goal
 
 pub returns-in-None-clause-usage_text : goal.returns-in-None-clause-usage_text
 returns-in-None-clause-usage_text g c = λ _. written_or _ _ _ c.write_all.result c.write_all.ensures.whole c.write_all.ensures.cause.cause
 
 pub returns-in-Some-Mirror-clause-printed : goal.returns-in-Some-Mirror-clause-printed
-returns-in-Some-Mirror-clause-printed g c = λ fault memory kind words.
-    prints kind _ _ _ _ c.mirror.result c.status.result c.status.ensures.status fault memory
-    (rw (one_kind c.in-Some-Mirror.kind kind _ (rw c.in-Some-Mirror.field-0-is at c.in-Some-Mirror.ensures.said) words) at c.mirror.ensures.printed)
+returns-in-Some-Mirror-clause-printed g c = λ usage fault memory.
+    words_print _ _ (command.Mirror c.in-Some-Mirror.kind) (rw c.in-Some-Mirror.field-0-is at c.in-Some-Mirror.ensures.said) _ _ _ _ c.status.result
+    (mirror_prints c.in-Some-Mirror.kind _ _ _ _ c.status.result
+    (prints c.in-Some-Mirror.kind _ _ _ _ c.mirror.result c.status.result c.status.ensures.status fault memory c.mirror.ensures.printed))
+
+pub returns-in-Some-Mirror-clause-front : goal.returns-in-Some-Mirror-clause-front
+returns-in-Some-Mirror-clause-front g c = λ usage.
+    mirror_begins c.in-Some-Mirror.kind _ _ (rw c.in-Some-Mirror.field-0-is at c.in-Some-Mirror.ensures.said) _ _ _ _ c.mirror.result c.mirror.ensures.printed
+
+pub returns-in-Some-Mirror-clause-reads : goal.returns-in-Some-Mirror-clause-reads
+returns-in-Some-Mirror-clause-reads g c = λ usage.
+    words_read _ (command.Mirror c.in-Some-Mirror.kind) (rw c.in-Some-Mirror.field-0-is at c.in-Some-Mirror.ensures.said) _ c.mirror.result c.status.result c.status.ensures.status _ _
+    (no_reads _ c.mirror.result _ _ refl)
 
 pub returns-in-Some-Mirror-clause-right : goal.returns-in-Some-Mirror-clause-right
 returns-in-Some-Mirror-clause-right g c = λ good kind words.
@@ -23,25 +34,20 @@ returns-in-Some-Mirror-clause-right g c = λ good kind words.
     (prints kind _ _ _ _ c.mirror.result c.status.result c.status.ensures.status (λ fault. absurd (omega (arith, good, fault))) (λ memory. absurd (omega (arith, good, memory)))
     (rw (one_kind c.in-Some-Mirror.kind kind _ (rw c.in-Some-Mirror.field-0-is at c.in-Some-Mirror.ensures.said) words) at c.mirror.ensures.printed))
 
-pub returns-in-Some-Tag-clause-tag : goal.returns-in-Some-Tag-clause-tag
-returns-in-Some-Tag-clause-tag g c = λ fault memory words.
-    ran_prints TAG_OCTETS _ (tag_sound _ _) _ _ _ _ c.tag.result c.status-in-Some-Tag.result c.status-in-Some-Tag.ensures.status fault memory
-    (rw (says_tag c.in-Some-Tag.looks_at_files _ (rw c.in-Some-Tag.field-0-is at c.in-Some-Tag.ensures.said) words) at c.tag.ensures.printed)
+pub returns-in-Some-Tag-clause-printed : goal.returns-in-Some-Tag-clause-printed
+returns-in-Some-Tag-clause-printed g c = λ usage fault memory.
+    words_print _ _ (command.Tag c.in-Some-Tag.looks_at_files) (rw c.in-Some-Tag.field-0-is at c.in-Some-Tag.ensures.said) _ _ _ _ c.status-in-Some-Tag.result
+    (ran_prints TAG_OCTETS _ (tag_sound _ _) _ _ _ _ c.tag.result c.status-in-Some-Tag.result c.status-in-Some-Tag.ensures.status fault memory c.tag.ensures.printed)
 
-pub returns-in-Some-Tag-clause-tag_front : goal.returns-in-Some-Tag-clause-tag_front
-returns-in-Some-Tag-clause-tag_front g c = λ words.
-    ran_prints_front TAG_OCTETS _ _ _ _ _ c.tag.result
-    (rw (says_tag c.in-Some-Tag.looks_at_files _ (rw c.in-Some-Tag.field-0-is at c.in-Some-Tag.ensures.said) words) at c.tag.ensures.printed)
+pub returns-in-Some-Tag-clause-front : goal.returns-in-Some-Tag-clause-front
+returns-in-Some-Tag-clause-front g c = λ usage.
+    words_begin _ _ (command.Tag c.in-Some-Tag.looks_at_files) (rw c.in-Some-Tag.field-0-is at c.in-Some-Tag.ensures.said) TAG_OCTETS _ (λ octets printed told. told) _ _ _
+    (ran_prints_front TAG_OCTETS _ _ _ _ _ c.tag.result c.tag.ensures.printed)
 
-pub returns-in-Some-Tag-clause-tag_verify : goal.returns-in-Some-Tag-clause-tag_verify
-returns-in-Some-Tag-clause-tag_verify g c = λ fault memory words.
-    ran_prints TAG_OCTETS _ (tag_sound _ _) _ _ _ _ c.tag.result c.status-in-Some-Tag.result c.status-in-Some-Tag.ensures.status fault memory
-    (rw (says_verify c.in-Some-Tag.looks_at_files _ (rw c.in-Some-Tag.field-0-is at c.in-Some-Tag.ensures.said) words) at c.tag.ensures.printed)
-
-pub returns-in-Some-Tag-clause-tag_verify_front : goal.returns-in-Some-Tag-clause-tag_verify_front
-returns-in-Some-Tag-clause-tag_verify_front g c = λ words.
-    ran_prints_front TAG_OCTETS _ _ _ _ _ c.tag.result
-    (rw (says_verify c.in-Some-Tag.looks_at_files _ (rw c.in-Some-Tag.field-0-is at c.in-Some-Tag.ensures.said) words) at c.tag.ensures.printed)
+pub returns-in-Some-Tag-clause-reads : goal.returns-in-Some-Tag-clause-reads
+returns-in-Some-Tag-clause-reads g c = λ usage.
+    words_read _ (command.Tag c.in-Some-Tag.looks_at_files) (rw c.in-Some-Tag.field-0-is at c.in-Some-Tag.ensures.said) _ c.tag.result c.status-in-Some-Tag.result c.status-in-Some-Tag.ensures.status _ _
+    (tag_reads c.in-Some-Tag.looks_at_files _ c.tag.result _ _ c.tag.ensures.reads (λ none. ap (λ (files : g.row.F.Denot). g.F.Files.reads files) (c.tag.ensures.files none)))
 
 pub returns-in-Some-Tag-clause-fault : goal.returns-in-Some-Tag-clause-fault
 returns-in-Some-Tag-clause-fault g c = λ fault.
@@ -50,14 +56,17 @@ returns-in-Some-Tag-clause-fault g c = λ fault.
 pub returns-in-Some-Tag-clause-files : goal.returns-in-Some-Tag-clause-files
 returns-in-Some-Tag-clause-files g c = λ no. c.tag.ensures.files (tag_said c.in-Some-Tag.looks_at_files _ (rw c.in-Some-Tag.field-0-is at c.in-Some-Tag.ensures.said) no)
 
-pub returns-in-Some-Tag-clause-reads : goal.returns-in-Some-Tag-clause-reads
-returns-in-Some-Tag-clause-reads g c = λ words.
-    ran_reads _ _ _ c.tag.result c.status-in-Some-Tag.result c.status-in-Some-Tag.ensures.status
-    (c.tag.ensures.reads (says_verify c.in-Some-Tag.looks_at_files _ (rw c.in-Some-Tag.field-0-is at c.in-Some-Tag.ensures.said) words))
+pub returns-in-Some-Links-clause-printed : goal.returns-in-Some-Links-clause-printed
+returns-in-Some-Links-clause-printed g c = λ usage fault memory.
+    words_print _ _ command.Links (rw c.in-Some-Links.field-0-is at c.in-Some-Links.ensures.said) _ _ _ _ c.status-in-Some-Links.result
+    (ran_prints LIST_OCTETS LinksTells links_sound _ _ _ _ c.links.result c.status-in-Some-Links.result c.status-in-Some-Links.ensures.status fault memory c.links.ensures.printed)
 
-pub returns-in-Some-Links-clause-links : goal.returns-in-Some-Links-clause-links
-returns-in-Some-Links-clause-links g c = λ fault memory words.
-    ran_prints LIST_OCTETS LinksTells links_sound _ _ _ _ c.links.result c.status-in-Some-Links.result c.status-in-Some-Links.ensures.status fault memory c.links.ensures.printed
+pub returns-in-Some-Links-clause-front : goal.returns-in-Some-Links-clause-front
+returns-in-Some-Links-clause-front g c = λ usage.
+    words_begin _ _ command.Links (rw c.in-Some-Links.field-0-is at c.in-Some-Links.ensures.said) LIST_OCTETS LinksTells (λ octets printed told. told) _ _ _
+    (ran_prints_front LIST_OCTETS LinksTells _ _ _ _ c.links.result c.links.ensures.printed)
 
-pub returns-in-Some-Links-clause-links_front : goal.returns-in-Some-Links-clause-links_front
-returns-in-Some-Links-clause-links_front g c = λ words. ran_prints_front LIST_OCTETS LinksTells _ _ _ _ c.links.result c.links.ensures.printed
+pub returns-in-Some-Links-clause-reads : goal.returns-in-Some-Links-clause-reads
+returns-in-Some-Links-clause-reads g c = λ usage.
+    words_read _ command.Links (rw c.in-Some-Links.field-0-is at c.in-Some-Links.ensures.said) _ c.links.result c.status-in-Some-Links.result c.status-in-Some-Links.ensures.status _ _
+    (no_reads _ c.links.result _ _ refl)

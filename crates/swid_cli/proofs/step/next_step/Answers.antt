@@ -5,9 +5,9 @@ use Rattle.swid_cli.specs.Text.{fault_line, refusal}
 use Rattle.swid_cli.proofs.Stepping.{first_step, ended, was_refused}
 use Rattle.swid_cli.proofs.step.next_step.Goals as goal
 
-pub returns-in_ok-last_text-in-End-clause-step : goal.returns-in_ok-last_text-in-End-clause-step
-returns-in_ok-last_text-in-End-clause-step g c = λ octets told.
-    first_step _ _ octets _ _ _ _ (rw c.in-End.is at (c.in_ok-first.ensures.front octets told)) (ended c.args.at c.args.mirror.now octets _ c.in_ok-last_text-in-End.ensures.text)
+pub returns-in_ok-mirror_text-in-End-clause-step : goal.returns-in_ok-mirror_text-in-End-clause-step
+returns-in_ok-mirror_text-in-End-clause-step g c = λ octets told.
+    first_step _ _ octets _ _ _ _ (rw c.in-End.is at (c.in_ok-first.ensures.front octets told)) (ended c.args.at c.args.mirror.now octets _ c.in_ok-mirror_text-in-End.ensures.text)
 
 pub returns-in_ok-refuse-in-Torn-clause-step : goal.returns-in_ok-refuse-in-Torn-clause-step
 returns-in_ok-refuse-in-Torn-clause-step g c = λ octets told.

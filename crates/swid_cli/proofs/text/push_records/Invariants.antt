@@ -1,9 +1,8 @@
--- The lines of the records that are left are to follow what is put.
-use Rattle.std.proofs.Common.{◌≡◌, ◌++◌}
+-- What is put are the lines of the records gone over.
+use Rattle.std.proofs.Common.{◌≡◌, ◌++◌, take}
 use Rattle.std.specs.List.{flat_map}
-use Rattle.std.specs.Vec.Iter.{into_iter_items}
 use Rattle.swid_cli.specs.Text.{record_line}
 use Rattle.swid_cli.proofs.text.push_records.Given as goal
 
-abbrev pub invariant-loop-record : goal.invariant-loop-record
-invariant-loop-record l = l.out ++ flat_map (record_line l.kind) (into_iter_items l.record-iterator) ≡ l.fn.out ++ flat_map (record_line l.kind) l.fn.records
+abbrev pub invariant-loop-place : goal.invariant-loop-place
+invariant-loop-place l = l.out ≡ l.fn.out ++ flat_map (record_line l.mirror.kind) (take l.place l.mirror.records)

@@ -16,7 +16,8 @@ invariant_of-self-2 c =
     let records = c.self.inside.records in
     let above = events_above c.args.held.eid (list_of c.args.events) in
     let none =
-    ap (λ (es : List Event). first_trouble records (events_above c.args.held.eid es)) (sym c.as_list.ensures.list)
+    ap (λ (es : List Event). first_trouble records (events_above c.args.held.eid es)) (sym c.as_slice.ensures.items)
+    ∙ ap (λ (rs : List Record). first_trouble rs (events_above c.args.held.eid c.as_slice.result.now)) (sym c.as_slice-records.ensures.items)
     ∙ sym c.in_ok-trouble.ensures.first ∙ c.in_default.is in
     let lives = c.in_ok-follow.ensures.live ∙ ap (λ (es : List Event). live records (events_above c.args.held.eid es)) c.in_ok-into_list.ensures.list in (
       subst (λ (rs : List Record). length rs ≤ 65536) (sym lives) (few_live records above c.self.invariant.1 c.self.invariant.0 none),

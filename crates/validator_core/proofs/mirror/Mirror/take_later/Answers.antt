@@ -11,7 +11,7 @@ pub returns-in-Ok : goal.returns-in-Ok
 returns-in-Ok c =
     let mirror = c.args.self.now in
     let above = events_above c.args.held.eid (list_of c.args.events) in
-    let none = sym c.in_default.is ∙ c.gap.ensures.gap ∙ ap (λ (es : List Event). gap c.args.held.eid c.args.consulted es) c.as_list.ensures.list in
+    let none = sym c.in_default.is ∙ c.gap.ensures.gap ∙ ap (λ (es : List Event). gap c.args.held.eid c.args.consulted es) c.as_slice.ensures.items in
     record {
       judged =
           subst (λ (found : Option ℕ). Judged mirror (judge_numbered mirror c.args.held c.args.consulted (list_of c.args.events) found) c.in-Ok.taken c.take_following.new.self) none
@@ -23,7 +23,7 @@ pub returns-in-Err : goal.returns-in-Err
 returns-in-Err c =
     let mirror = c.args.self.now in
     let above = events_above c.args.held.eid (list_of c.args.events) in
-    let none = sym c.in_default.is ∙ c.gap.ensures.gap ∙ ap (λ (es : List Event). gap c.args.held.eid c.args.consulted es) c.as_list.ensures.list in
+    let none = sym c.in_default.is ∙ c.gap.ensures.gap ∙ ap (λ (es : List Event). gap c.args.held.eid c.args.consulted es) c.as_slice.ensures.items in
     record {
       judged = (
         subst (λ (found : Option ℕ). NeedsMemory (judge_numbered mirror c.args.held c.args.consulted (list_of c.args.events) found).0) none

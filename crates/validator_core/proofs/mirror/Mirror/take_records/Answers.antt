@@ -12,14 +12,13 @@ use Rattle.validator_core.proofs.mirror.Mirror.take_records.Goals as goal
 pub invariant_of-self-2 : goal.invariant_of-self-2
 invariant_of-self-2 c =
     let records : List Record = list_of c.args.records in
-    let few = count_fits c.len-count.result c.records_octets-octets.result (sym c.is_large.ensures.large ∙ c.if-is_large.false) in
-    let none = ap (λ (rs : List Record). doubled (ids rs)) (sym c.as_list.ensures.list) ∙ sym c.in_ok-id.ensures.smallest ∙ c.in_default.is in
+    let few = count_fits (length c.as_slice-count.result.now) c.records_octets-octets.result (sym c.is_large.ensures.large ∙ c.if-is_large.false) in
+    let none = ap (λ (rs : List Record). doubled (ids rs)) (sym c.as_slice.ensures.items) ∙ sym c.in_ok-id.ensures.smallest ∙ c.in_default.is in
     let order = c.in_ok-self-inside.ensures.order ∙ ap (λ (rs : List Record). in_order rs) c.in_ok-into_list.ensures.list in (
       omega (
         arith,
         few,
-        c.len-count.ensures.len,
-        ap (λ (rs : List Record). length rs) c.as_list-2.ensures.list,
+        ap (λ (rs : List Record). length rs) c.as_slice-count.ensures.items,
         length_in_order records,
         ap (λ (rs : List Record). length rs) order,
       ),

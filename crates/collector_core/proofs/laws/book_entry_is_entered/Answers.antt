@@ -1,0 +1,5 @@
+use Rattle.collector_core.proofs.Editing.{book_entry_is_entered}
+use Rattle.collector_core.proofs.laws.book_entry_is_entered.Goals as goal
+
+pub returns : goal.returns
+returns c = record { law = book_entry_is_entered }
