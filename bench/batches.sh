@@ -5,7 +5,7 @@
 #
 # usage: bench/batches.sh [RUNS]     each row is run RUNS times, 5 if not given
 #
-# The program crates/pb_bench is built first where that is needed, which proves it, and building is not measured. Needs
+# The program crates/bench is built first where that is needed, which proves it, and building is not measured. Needs
 # awk and GNU time (/usr/bin/time).
 #
 # Columns: the batches; the octets of a piece; how many batches came; the wall time, the lowest of all runs, and the same
@@ -15,8 +15,8 @@
 set -u
 
 top=$(dirname -- "$(readlink -f -- "${BASH_SOURCE[0]}")")/..
-crate=$top/crates/pb_bench
-program=$crate/out/pb_bench
+crate=$top/crates/bench
+program=$crate/out/bench
 runs=${1:-5}
 
 if [[ ! $runs =~ ^[1-9][0-9]*$ ]] || [ $# -gt 1 ]; then
@@ -27,7 +27,7 @@ if [ ! -x /usr/bin/time ]; then
     echo "batches.sh: needs GNU time, /usr/bin/time" >&2
     exit 1
 fi
-(cd -- "$crate" && rt run -- 65536 large) </dev/null >&2
+(cd -- "$crate" && rt run -- batches 65536 large) </dev/null >&2
 if [ ! -x "$program" ]; then
     echo "batches.sh: the program was not built" >&2
     exit 1
@@ -41,7 +41,7 @@ measure() {
     local kind=$1 size=$2 best='' peak=0 batches='' start stop took used
     for ((run = 0; run < runs; run++)); do
         start=${EPOCHREALTIME/[.,]/}
-        batches=$(/usr/bin/time -q -f %M -o "$kib" "$program" "$size" "$kind")
+        batches=$(/usr/bin/time -q -f %M -o "$kib" "$program" batches "$size" "$kind")
         stop=${EPOCHREALTIME/[.,]/}
         took=$((stop - start))
         used=$(<"$kib")

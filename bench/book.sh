@@ -4,36 +4,36 @@
 #
 # usage: bench/book.sh [RUNS]     each row is run RUNS times, 5 if not given
 #
-# The program crates/book_bench is built first where that is needed, which proves it, and building is not measured. Needs awk.
+# The program crates/bench is built first where that is needed, which proves it, and building is not measured. Needs awk.
 #
 # Columns: the records; what was done; how many times in one run; and the time of one in microseconds: the lowest wall time of
 # all runs, less that of runs that do it not once, over how many times it was done. What is done: `answer` and `events` ask for
-# the inventory and for events; `change` alters a record; `last` deletes the last record, behind which none moves, and creates
+# the inventory and for events; `change` alters a record; `last` deletes the last record, after which none moves, and creates
 # another; `middle` does so with the record in the middle.
 
 set -u
 
 top=$(dirname -- "$(readlink -f -- "${BASH_SOURCE[0]}")")/..
-crate=$top/crates/book_bench
-program=$crate/out/book_bench
+crate=$top/crates/bench
+program=$crate/out/bench
 runs=${1:-5}
 
 if [[ ! $runs =~ ^[1-9][0-9]*$ ]] || [ $# -gt 1 ]; then
     echo "usage: bench/book.sh [RUNS]" >&2
     exit 2
 fi
-(cd -- "$crate" && rt run -- 1000 events 2) </dev/null >&2
+(cd -- "$crate" && rt run -- book 1000 events 2) </dev/null >&2
 if [ ! -x "$program" ]; then
     echo "book.sh: the program was not built" >&2
     exit 1
 fi
 
-# Prints the lowest wall time in microseconds of a book of RECORDS records that does WHAT so many TIMES.
+# Prints the lowest wall time in microseconds of a book of RECORDS records that does WHAT that many TIMES.
 lowest() {
     local records=$1 what=$2 times=$3 best='' start took
     for ((run = 0; run < runs; run++)); do
         start=${EPOCHREALTIME/[.,]/}
-        "$program" "$records" "$what" "$times" >/dev/null
+        "$program" book "$records" "$what" "$times" >/dev/null
         took=$((${EPOCHREALTIME/[.,]/} - start))
         if [ -z "$best" ] || [ "$took" -lt "$best" ]; then best=$took; fi
     done

@@ -3,7 +3,7 @@
 #
 # usage: bench/links.sh [RUNS]     each row is run RUNS times, 3 if not given
 #
-# The program crates/links_bench is built first where that is needed, which proves it, and building is not measured.
+# The program crates/bench is built first where that is needed, which proves it, and building is not measured.
 # `bench/link_tags.py` writes the inputs into a temporary folder, which is removed at the end; it says what the shapes are.
 # Needs python3, awk and GNU time (/usr/bin/time).
 #
@@ -17,8 +17,8 @@
 set -u -o pipefail
 
 top=$(dirname -- "$(readlink -f -- "${BASH_SOURCE[0]}")")/..
-crate=$top/crates/links_bench
-program=$crate/out/links_bench
+crate=$top/crates/bench
+program=$crate/out/bench
 runs=${1:-3}
 
 if [[ ! $runs =~ ^[1-9][0-9]*$ ]] || [ $# -gt 1 ]; then
@@ -29,7 +29,7 @@ if [ ! -x /usr/bin/time ]; then
     echo "links.sh: needs GNU time, /usr/bin/time" >&2
     exit 1
 fi
-(cd -- "$crate" && rt run -- check) </dev/null >&2
+(cd -- "$crate" && rt run -- links check) </dev/null >&2
 if [ ! -x "$program" ]; then
     echo "links.sh: the program was not built" >&2
     exit 1
@@ -66,7 +66,7 @@ run() {
 for shape in linked dangling fronts alike last turns apart; do
     for count in 1000 3000 10000; do
         python3 "$top/bench/link_tags.py" "$shape" "$count" "$input" || exit 1
-        printf '%s\t%s\t%s\t%s\n' "$shape" "$count" "$(run "$program" read)" "$(run "$program" check)"
+        printf '%s\t%s\t%s\t%s\n' "$shape" "$count" "$(run "$program" links read)" "$(run "$program" links check)"
     done
 done | awk -F '\t' -v runs="$runs" '
     BEGIN {

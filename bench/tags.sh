@@ -4,7 +4,7 @@
 #
 # usage: bench/tags.sh [RUNS]     each row is run RUNS times, 3 if not given
 #
-# The program crates/tag_bench is built first where that is needed, which proves it, and building is not measured.
+# The program crates/bench is built first where that is needed, which proves it, and building is not measured.
 # `bench/cbor_items.py` writes the inputs into a temporary folder, which is removed at the end; it says what the shapes are.
 # Needs python3, awk, sha256sum and GNU time (/usr/bin/time).
 #
@@ -20,8 +20,8 @@
 set -u
 
 top=$(dirname -- "$(readlink -f -- "${BASH_SOURCE[0]}")")/..
-crate=$top/crates/tag_bench
-program=$crate/out/tag_bench
+crate=$top/crates/bench
+program=$crate/out/bench
 runs=${1:-3}
 
 if [[ ! $runs =~ ^[1-9][0-9]*$ ]] || [ $# -gt 1 ]; then
@@ -32,7 +32,7 @@ if [ ! -x /usr/bin/time ]; then
     echo "tags.sh: needs GNU time, /usr/bin/time" >&2
     exit 1
 fi
-(cd -- "$crate" && rt run -- read) </dev/null >&2
+(cd -- "$crate" && rt run -- tags read) </dev/null >&2
 if [ ! -x "$program" ]; then
     echo "tags.sh: the program was not built" >&2
     exit 1
@@ -66,7 +66,7 @@ one_tag() {
     for size in 1 4 8; do
         python3 "$top/bench/cbor_items.py" "tag-$shape" "$size" "$input" || exit 1
         for way in read write; do
-            printf '%s\t%s\t%s\t%s\t%s\n' "$shape" "$size" "$(stat -c %s -- "$input")" "$way" "$(run "$program" "$way")"
+            printf '%s\t%s\t%s\t%s\t%s\n' "$shape" "$size" "$(stat -c %s -- "$input")" "$way" "$(run "$program" tags "$way")"
         done
     done
 }
@@ -86,7 +86,7 @@ python3 "$top/bench/cbor_items.py" links 48 "$input" || exit 1
 {
     for ((turn = 0; turn < runs; turn++)); do
         once sha256sum >>"$folder/sha256sum"
-        for way in read write; do once "$program" "$way" >>"$folder/$way"; done
+        for way in read write; do once "$program" tags "$way" >>"$folder/$way"; done
     done
     for way in sha256sum read write; do printf '%s\t%s\n' "$way" "$(summary <"$folder/$way")"; done
 } | awk -F '\t' -v octets="$(stat -c %s -- "$input")" '

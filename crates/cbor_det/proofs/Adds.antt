@@ -67,7 +67,7 @@ listed_cons x xs = ap (λ (p : Term × Term). pair p.0 p.1 (listed xs)) (view_pa
 abbrev pub key_of : Pair → Term
 key_of x = view (out-Pair x).key
 
--- the pairs, as those before a place, the one at it, and those behind
+-- the pairs, as those before a place, the one at it, and those after
 split_at : (xs : List Pair) (i : ℕ) (x : Pair) → i < length xs → x ≡ get_or xs i x → listed xs ≡ join (listed (take i xs)) (pair (key_of x) (view (out-Pair x).value) (listed (drop (i + 1) xs)))
 split_at xs i x lt at =
     ap (λ (ys : List Pair). listed ys) (sym (take-append-drop i xs) ∙ ap (λ (ys : List Pair). take i xs ++ ys) (drop_more xs i x lt ∙ ap (λ (y : Pair). y ∷ drop (i + 1) xs) (sym at)))
@@ -135,7 +135,8 @@ added xs ys place p fits is =
 pub made_pair : (key value : Item) → pair_view (roll-Pair (record { key = key; value = value })) ≡ (view key, view value)
 made_pair key value = search (rules, the_lemmas)
 
--- The pairs of the code with one more at its place. `held` is the key while it has its spelling, and `item` the key again.
+-- The pairs of the code with one more at its place. `held` is the key while it has its spelling,
+-- and `item` the key again.
 module _ (before : code.Pairs) (ys xs : List Pair) (place : ℕ) (key value held item : Item) (is_key : held ≡ key) (is_item : item ≡ held) (are : xs ≡ (out-Pairs before).pairs)
     (found : IsFound (view held) xs (Some place)) (put : ys ≡ insert_at (out-Pairs before).pairs place (roll-Pair (record { key = item; value = value }))) where
   abbrev made : Pair

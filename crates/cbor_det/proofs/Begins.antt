@@ -6,7 +6,7 @@ use Rattle.std.proofs.Common.{◌*◌, ◌^◌}
 use Rattle.std.proofs.lemmas.List.{nil_from_length}
 use Rattle.std.specs.Option.{is_some, is_none}
 use Rattle.std.proofs.lemmas.Bool.{cond-true, cond-false, lt-ltb, le-ltb, both_ways}
-use Rattle.cbor_det.specs.declared.kind.Kind.{Kind}
+use Rattle.cbor_det.specs.declared.string_kind.StringKind.{StringKind}
 use Rattle.cbor_det.specs.declared.limits.Limits.{Limits}
 use Rattle.cbor_det.specs.declared.initial.Major.{Major}
 use Rattle.cbor_det.specs.declared.initial.Beginning.{Beginning}
@@ -19,19 +19,19 @@ use Rattle.cbor_det.specs.declared.item.Pairs as pairs
 use Rattle.cbor_det.specs.declared.frame.Frame.{Frame}
 use Rattle.cbor_det.specs.declared.frame.Frame.TheVariants as frame
 use Rattle.cbor_det.specs.declared.members.Members.{Members}
-use Rattle.cbor_det.specs.declared.frame.Stepped.{Stepped}
-use Rattle.cbor_det.specs.declared.frame.Stepped.TheVariants as stepped
+use Rattle.cbor_det.specs.declared.frame.StepOutcome.{StepOutcome}
+use Rattle.cbor_det.specs.declared.frame.StepOutcome.TheVariants as step_outcome
 use Rattle.cbor_det.specs.Term.{Term, Pairs, map as map_term, no_pairs}
 use Rattle.cbor_det.specs.View.{view, terms_of, pairs_view}
 use Rattle.cbor_det.specs.Held.{members_view, due_key}
 use Rattle.cbor_det.specs.Initial.{initial_of}
 use Rattle.cbor_det.specs.Faults.{Place, top, at_chunk, at_element, at_key, at_value, at_content, height}
-use Rattle.cbor_det.specs.Machine.{State, due, faulty, give, begun, item_begun, opened, broken, string_head, string_ended}
+use Rattle.cbor_det.specs.Machine.{State, due, faulty, item_ended, begun, item_begun, opened, broken, string_head, string_ended}
 use Rattle.cbor_det.specs.Standing.{inside, map_place, within, place, BeginsHead, one_more, two_more, four_more, eight_more}
 use Rattle.cbor_det.specs.Frames.{chunk_kind, low_kind, end_state, state_of, ArgumentFits, BeginFits, InitialFits}
 use Rattle.cbor_det.proofs.Told.{Tells, tells}
 use Rattle.cbor_det.proofs.Views.{view_array, view_map}
-use Rattle.cbor_det.proofs.Gives.{pushed_due}
+use Rattle.cbor_det.proofs.Closing.{pushed_due}
 use Rattle.cbor_det.proofs.Strings.{pushed_place, no_chunk}
 
 long_fits : (m : Major) (left b : ℕ) → BeginsHead m left b → (1 ≤ left) × (left ≤ 8)
@@ -83,7 +83,7 @@ none_last (g ∷ fs) e = absurd (found_at (g ∷ fs) (length (g ∷ fs) - 1) (om
 pub no_due : (fs : List Frame) → slice_get fs (length fs - 1) ≡ None → None ≡ chunk_kind (place fs)
 no_due fs e = ap (λ (gs : List Frame). chunk_kind (place gs)) (sym (none_last fs e))
 
-pub last_due : (fs : List Frame) (f : Frame) (k : Option Kind) → slice_get fs (length fs - 1) ≡ Some f → ((p : Place) → k ≡ chunk_kind (inside p f)) → k ≡ chunk_kind (place fs)
+pub last_due : (fs : List Frame) (f : Frame) (k : Option StringKind) → slice_get fs (length fs - 1) ≡ Some f → ((p : Place) → k ≡ chunk_kind (inside p f)) → k ≡ chunk_kind (place fs)
 last_due fs f k e is =
     let w = last_split f fs e in
     is (place w.0) ∙ ap (λ (p : Place). chunk_kind p) (sym (pushed_place w.0 fs f w.1))
@@ -106,7 +106,7 @@ low_is k (at_key a all ps p) none = refl
 low_is k (at_value a all ps t p) none = refl
 low_is k (at_content a n p) none = refl
 
-pub low_two : (k : ℕ) (p : Place) (kind : Kind) → Some kind ≡ chunk_kind p → 2 ≡ low_kind p k
+pub low_two : (k : ℕ) (p : Place) (kind : StringKind) → Some kind ≡ chunk_kind p → 2 ≡ low_kind p k
 low_two k (at_chunk a other s p) kind some = refl
 low_two k top kind some = absurd (no_chunk kind some)
 low_two k (at_element a all ts p) kind some = absurd (no_chunk kind some)
@@ -172,26 +172,26 @@ module _ (limits : Limits) (i : ℕ) where
   break_is (at_value a all ps k p) = refl
   break_is (at_content a n p) = refl
 
-  same_kind_is : (k kind : Kind) → Some kind ≡ Some k → kind ≡ k
+  same_kind_is : (k kind : StringKind) → Some kind ≡ Some k → kind ≡ k
   same_kind_is k kind e = cc
 
   -- where a chunk is due
-  pub chunk_opens : (p : Place) (kind : Kind) (b : Beginning) (σ : State) (r : Bool) → Some kind ≡ chunk_kind p → r ≡ string_head kind (initial.Item b) → r ≡ true
+  pub chunk_opens : (p : Place) (kind : StringKind) (b : Beginning) (σ : State) (r : Bool) → Some kind ≡ chunk_kind p → r ≡ string_head kind (initial.Item b) → r ≡ true
       → σ ≡ opened limits i p b → σ ≡ begun limits i p (initial.Item b)
   unfolding begun
   chunk_opens (at_chunk a k s p) kind b σ r some is so opens =
-      opens ∙ sym (cond-true _ _ _ (ap (λ (x : Kind). string_head x (initial.Item b)) (sym (same_kind_is k kind some)) ∙ sym is ∙ so))
+      opens ∙ sym (cond-true _ _ _ (ap (λ (x : StringKind). string_head x (initial.Item b)) (sym (same_kind_is k kind some)) ∙ sym is ∙ so))
   chunk_opens top kind b σ r some is so opens = absurd (no_chunk kind some)
   chunk_opens (at_element a all ts p) kind b σ r some is so opens = absurd (no_chunk kind some)
   chunk_opens (at_key a all ps p) kind b σ r some is so opens = absurd (no_chunk kind some)
   chunk_opens (at_value a all ps t p) kind b σ r some is so opens = absurd (no_chunk kind some)
   chunk_opens (at_content a n p) kind b σ r some is so opens = absurd (no_chunk kind some)
 
-  pub chunk_stops : (p : Place) (kind : Kind) (b : Beginning) (r : Bool) → Some kind ≡ chunk_kind p → r ≡ string_head kind (initial.Item b) → r ≡ false
+  pub chunk_stops : (p : Place) (kind : StringKind) (b : Beginning) (r : Bool) → Some kind ≡ chunk_kind p → r ≡ string_head kind (initial.Item b) → r ≡ false
       → faulty 2 i ≡ begun limits i p (initial.Item b)
   unfolding begun
   chunk_stops (at_chunk a k s p) kind b r some is lie =
-      sym (cond-false _ _ _ (ap (λ (x : Kind). string_head x (initial.Item b)) (sym (same_kind_is k kind some)) ∙ sym is ∙ lie))
+      sym (cond-false _ _ _ (ap (λ (x : StringKind). string_head x (initial.Item b)) (sym (same_kind_is k kind some)) ∙ sym is ∙ lie))
   chunk_stops top kind b r some is lie = absurd (no_chunk kind some)
   chunk_stops (at_element a all ts p) kind b r some is lie = absurd (no_chunk kind some)
   chunk_stops (at_key a all ps p) kind b r some is lie = absurd (no_chunk kind some)
@@ -228,13 +228,13 @@ top_ends i fs is = ap (λ (gs : List Frame). end_state i (place gs)) (sym is)
 pub frame_ends : (i : ℕ) (fs gs : List Frame) (f : Frame) (σ : State) → fs ≡ gs ++ f ∷ [] → σ ≡ end_state i (inside (place gs) f) → σ ≡ end_state i (place fs)
 frame_ends i fs gs f σ is ends = ends ∙ ap (λ (p : Place). end_state i p) (sym (pushed_place gs fs f is))
 
-pub chunks_end : (i a : ℕ) (k : Kind) (t : List ℕ) (f : Frame) (p : Place) (σ : State) → f ≡ frame.Chunks a k t → σ ≡ string_ended p a k t → σ ≡ end_state i (inside p f)
+pub chunks_end : (i a : ℕ) (k : StringKind) (t : List ℕ) (f : Frame) (p : Place) (σ : State) → f ≡ frame.Chunks a k t → σ ≡ string_ended p a k t → σ ≡ end_state i (inside p f)
 chunks_end i a k t f p σ is ends = ends ∙ ap (λ (g : Frame). end_state i (inside p g)) (sym is)
 
 pub array_ends : (i a : ℕ) (all : Option ℕ) (items : List Item) (f : Frame) (p : Place) (σ : State) → f ≡ frame.Elements a all items → is_some all ≡ false
-    → σ ≡ give p a (view (code.Array items)) → σ ≡ end_state i (inside p f)
+    → σ ≡ item_ended p a (view (code.Array items)) → σ ≡ end_state i (inside p f)
 unfolding broken
-array_ends i a None items f p σ is none given = given ∙ ap (λ (t : Term). give p a t) (view_array items) ∙ ap (λ (g : Frame). end_state i (inside p g)) (sym is)
+array_ends i a None items f p σ is none given = given ∙ ap (λ (t : Term). item_ended p a t) (view_array items) ∙ ap (λ (g : Frame). end_state i (inside p g)) (sym is)
 array_ends i a (Some n) items f p σ is none given = absurd (both_ways true none refl)
 
 pub array_stays : (i a : ℕ) (all : Option ℕ) (items : List Item) (f : Frame) (p : Place) → f ≡ frame.Elements a all items → is_some all ≡ true → faulty 2 i ≡ end_state i (inside p f)
@@ -243,7 +243,7 @@ array_stays i a (Some n) items f p is some = ap (λ (g : Frame). end_state i (in
 array_stays i a None items f p is some = absurd (both_ways false refl some)
 
 module _ (i a : ℕ) (ps : Pairs) (p : Place) where
-  ended_map : (all : Option ℕ) (k : Option Term) → is_some all ≡ false → is_none k ≡ true → give p a (map_term ps) ≡ end_state i (map_place a all ps k p)
+  ended_map : (all : Option ℕ) (k : Option Term) → is_some all ≡ false → is_none k ≡ true → item_ended p a (map_term ps) ≡ end_state i (map_place a all ps k p)
   unfolding broken
   ended_map None None endless none = refl
   ended_map None (Some k) endless none = absurd (both_ways false refl none)
@@ -262,9 +262,9 @@ module _ (i a : ℕ) (ps : Pairs) (p : Place) where
 
 module _ (i a : ℕ) (all : Option ℕ) (members : Members) (f : Frame) (p : Place) (is : f ≡ frame.Map a all members) where
   pub map_ends : (made : pairs.Pairs) (σ : State) (none : Bool) → is_some all ≡ false → none ≡ is_none (due_key members) → none ≡ true → pairs_view made ≡ members_view members
-      → σ ≡ give p a (view (code.Map made)) → σ ≡ end_state i (inside p f)
+      → σ ≡ item_ended p a (view (code.Map made)) → σ ≡ end_state i (inside p f)
   map_ends made σ none endless test so same given =
-      given ∙ ap (λ (t : Term). give p a t) (view_map made) ∙ ap (λ (ps : Pairs). give p a (map_term ps)) same
+      given ∙ ap (λ (t : Term). item_ended p a t) (view_map made) ∙ ap (λ (ps : Pairs). item_ended p a (map_term ps)) same
       ∙ ended_map i a (members_view members) p all (due_key members) endless (sym test ∙ so) ∙ ap (λ (g : Frame). end_state i (inside p g)) (sym is)
 
   pub map_stays : is_some all ≡ true → faulty 2 i ≡ end_state i (inside p f)
@@ -285,7 +285,7 @@ head_fits x m left is fits =
     let f = subst P is fits in
     record { some = f.0; most = f.1; fits = some_power (8 - left) }
 
-pub chunks_open : (limits : Limits) (i : ℕ) (gs hs : List Frame) (k : Kind) (t : List ℕ) (x : Beginning) → hs ≡ gs ++ frame.Chunks i k t ∷ [] → t ≡ [] → x ≡ beginning.Chunks k
+pub chunks_open : (limits : Limits) (i : ℕ) (gs hs : List Frame) (k : StringKind) (t : List ℕ) (x : Beginning) → hs ≡ gs ++ frame.Chunks i k t ∷ [] → t ≡ [] → x ≡ beginning.Chunks k
     → due (place hs) ≡ opened limits i (place gs) x
 unfolding opened
 chunks_open limits i gs hs k t x is none which =
@@ -308,22 +308,22 @@ map_opens limits i gs hs members x is none key which =
 
 -- low octets, as the code refuses them
 
-pub float_begun : (limits : Limits) (i : ℕ) (fs gs : List Frame) (r : Stepped) (x : Initial) → gs ≡ fs → r ≡ stepped.Fault (record { kind = low_kind (place gs) 3; at = i }) → x ≡ initial.Float
+pub float_begun : (limits : Limits) (i : ℕ) (fs gs : List Frame) (r : StepOutcome) (x : Initial) → gs ≡ fs → r ≡ step_outcome.Fault (record { kind = low_kind (place gs) 3; at = i }) → x ≡ initial.Float
     → state_of (place fs) r ≡ begun limits i (place fs) x
 float_begun limits i fs gs r x same is which =
-    ap (λ (s : Stepped). state_of (place fs) s) is ∙ ap (λ (hs : List Frame). faulty (low_kind (place hs) 3) i) same ∙ float_low limits i (place fs)
+    ap (λ (s : StepOutcome). state_of (place fs) s) is ∙ ap (λ (hs : List Frame). faulty (low_kind (place hs) 3) i) same ∙ float_low limits i (place fs)
     ∙ ap (λ (y : Initial). begun limits i (place fs) y) (sym which)
 
-pub simple_begun : (limits : Limits) (i : ℕ) (fs gs : List Frame) (r : Stepped) (x : Initial) → gs ≡ fs → r ≡ stepped.Fault (record { kind = low_kind (place gs) 4; at = i }) → x ≡ initial.Simple
+pub simple_begun : (limits : Limits) (i : ℕ) (fs gs : List Frame) (r : StepOutcome) (x : Initial) → gs ≡ fs → r ≡ step_outcome.Fault (record { kind = low_kind (place gs) 4; at = i }) → x ≡ initial.Simple
     → state_of (place fs) r ≡ begun limits i (place fs) x
 simple_begun limits i fs gs r x same is which =
-    ap (λ (s : Stepped). state_of (place fs) s) is ∙ ap (λ (hs : List Frame). faulty (low_kind (place hs) 4) i) same ∙ simple_low limits i (place fs)
+    ap (λ (s : StepOutcome). state_of (place fs) s) is ∙ ap (λ (hs : List Frame). faulty (low_kind (place hs) 4) i) same ∙ simple_low limits i (place fs)
     ∙ ap (λ (y : Initial). begun limits i (place fs) y) (sym which)
 
-pub malformed_begun : (limits : Limits) (i : ℕ) (fs gs : List Frame) (r : Stepped) (x : Initial) → gs ≡ fs → r ≡ stepped.Fault (record { kind = low_kind (place gs) 2; at = i }) → x ≡ initial.Malformed
+pub malformed_begun : (limits : Limits) (i : ℕ) (fs gs : List Frame) (r : StepOutcome) (x : Initial) → gs ≡ fs → r ≡ step_outcome.Fault (record { kind = low_kind (place gs) 2; at = i }) → x ≡ initial.Malformed
     → state_of (place fs) r ≡ begun limits i (place fs) x
 malformed_begun limits i fs gs r x same is which =
-    ap (λ (s : Stepped). state_of (place fs) s) is ∙ ap (λ (hs : List Frame). faulty (low_kind (place hs) 2) i) same ∙ malformed_low limits i (place fs)
+    ap (λ (s : StepOutcome). state_of (place fs) s) is ∙ ap (λ (hs : List Frame). faulty (low_kind (place hs) 2) i) same ∙ malformed_low limits i (place fs)
     ∙ ap (λ (y : Initial). begun limits i (place fs) y) (sym which)
 
 pub fits_at : (b : ℕ) (x : Initial) → x ≡ initial_of b → InitialFits x

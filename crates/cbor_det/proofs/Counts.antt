@@ -1,7 +1,7 @@
 -- No part of an item has more octets, elements or pairs than a spelling of the item has octets.
 use Rattle.std.proofs.Common.{◌≡◌, ℕ, ◌≤◌, max, List, [], ◌∷◌, ◌++◌, length, refl, ap, arith, true, false, length-append, pos, negsuc}
-use Rattle.cbor_det.specs.declared.kind.Kind.{Kind}
-use Rattle.cbor_det.specs.declared.kind.Kind.TheVariants.{ByteString, TextString}
+use Rattle.cbor_det.specs.declared.string_kind.StringKind.{StringKind}
+use Rattle.cbor_det.specs.declared.string_kind.StringKind.TheVariants.{ByteString, TextString}
 use Rattle.cbor_det.specs.Term.{Term, Terms, Pairs, integer, octets, text, array, map, tagged, boolean, no_terms, term, no_pairs, pair, count, pair_count, plus}
 use Rattle.cbor_det.specs.Canonical.{Form, direct, one, two, four, eight, head, shortest, short_head, canon, canon_terms, canon_pairs}
 use Rattle.cbor_det.specs.Spelling.{IsHead, stop, major_of, string, Chunks, no_chunks, chunk, PutsIn, here, later, Spelling, Series, PairSeries, unsigned, negative, definite_string, indefinite_string, definite_array, indefinite_array, definite_map, indefinite_map, under_tag, is_false, is_true, no_items, item, no_members, member}
@@ -57,7 +57,7 @@ pairs_some ps r no_members = omega arith
 pairs_some ps r (member qs more k v u o q series key value puts) =
     let s = spelling_some k o key in let c = count_puts k v qs more puts in let i = pairs_some qs u series in omega (arith, length-append u (o ++ q), length-append o q, s, c, i)
 
-chunks_some : (kind : Kind) (s o : List ℕ) → Chunks kind s o → length s ≤ length o
+chunks_some : (kind : StringKind) (s o : List ℕ) → Chunks kind s o → length s ≤ length o
 chunks_some kind s o no_chunks = omega arith
 chunks_some kind s o (chunk t u q h parts part is) =
     let i = chunks_some kind t q parts in omega (arith, length-append t u, length-append (q ++ h) u, length-append q h, i)
@@ -98,7 +98,7 @@ most_puts : (k v : Term) (ps more : Pairs) → PutsIn k v ps more → pairs_most
 most_puts k v ps more (here qs) = omega arith
 most_puts k v ps more (later l w qs rest puts) = let m = most_puts k v qs rest puts in omega (arith, m)
 
-string_most : (kind : Kind) (s : List ℕ) → most (string kind s) ≡ length s
+string_most : (kind : StringKind) (s : List ℕ) → most (string kind s) ≡ length s
 string_most ByteString s = refl
 string_most TextString s = refl
 

@@ -21,7 +21,7 @@ use Rattle.cbor_det.proofs.Outcome.{Same, whole_begins, faulty_is, limit_is, cut
 over_rest : (limits : Limits) (b : ℕ) (o : List ℕ) (σ τ : State) → Same (σ, b ∷ o) (τ, []) → ⊥
 over_rest limits b o σ τ e = let f : b ∷ o ≡ [] = ap (λ (p : State × List ℕ). p.1) e in cc
 
--- a run goes on behind octets that it took all
+-- a run goes on after octets that it took all
 run_append : (limits : Limits) (o x : List ℕ) (i : ℕ) (σ τ : State) → Same (run limits i σ o) (τ, []) → run limits i σ (o ++ x) ≡ run limits (i + length o) τ x
 run_append limits [] x i σ τ e =
     let f : σ ≡ τ = ap (λ (p : State × List ℕ). p.0) e in
@@ -132,7 +132,7 @@ module _ (limits : Limits) (fs : List Frame) (f : Phase) (taken : ℕ) (before p
         subst P whole (cut_is limits looked (phase_state (place fs2) g) going less ran),
       )
 
--- The same of the front as the code takes it.
+-- The same of the prefix as the code takes it.
 module _ (limits : Limits) (fs : List Frame) (f : Phase) (taken : ℕ) (piece x : List ℕ) (octets : AreOctets piece) (is : x ≡ take (limits.octets - taken) piece)
     (before : List ℕ) (stands : Stands limits fs f taken before) where
   pub done_at : (t : Term) (used : ℕ) → 0 < used → used ≤ length x → run limits taken (phase_state (place fs) f) x ≡ (whole t, drop used x)

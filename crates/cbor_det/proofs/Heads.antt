@@ -31,7 +31,7 @@ module _ (limits : Limits) where
       argument_reads p at m left (i + 1) (256 * acc + b) bs rest (omega arith)
       ∙ (let e : i + 1 + suc left ≡ i + suc (suc left) = omega arith in ap (λ (k : ℕ). run limits k (argued limits k p at m (joined (256 * acc + b) bs)) rest) e)
 
-  -- a head that begins with an octet like this one, and has so many more
+  -- a head that begins with an octet like this one, and has that many more
   with_argument : (p : Place) (m : Major) (left n i b : ℕ) (rest : List ℕ) → AdmitsHead limits p m → initial_of b ≡ Item (Argument m (suc left)) → n < 256 ^ (suc left)
       → run limits i (due p) (b ∷ (octets_of (suc left) n ++ rest)) ≡ run limits (i + suc (suc left)) (argued limits (i + suc (suc left)) p i m n) rest
   unfolding step opened

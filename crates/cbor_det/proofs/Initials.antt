@@ -1,8 +1,8 @@
 -- Initial bytes of heads, and what they begin.
 use Rattle.std.proofs.Common.{◌≡◌, ℕ, ◌+◌, ◌*◌, ◌/◌, ◌%◌, ◌<◌, ◌≤◌, true, refl, ap, ◌∙◌, arith}
 use Rattle.std.proofs.lemmas.Bool.{lt-ltb, le-ltb, ne_eqb, cond-true, cond-false}
-use Rattle.cbor_det.specs.declared.kind.Kind.{Kind}
-use Rattle.cbor_det.specs.declared.kind.Kind.TheVariants.{ByteString, TextString}
+use Rattle.cbor_det.specs.declared.string_kind.StringKind.{StringKind}
+use Rattle.cbor_det.specs.declared.string_kind.StringKind.TheVariants.{ByteString, TextString}
 use Rattle.cbor_det.specs.declared.limits.Limits.{Limits}
 use Rattle.cbor_det.specs.declared.initial.Major.{Major}
 use Rattle.cbor_det.specs.declared.initial.Major.TheVariants.{Unsigned, Negative, String, Array, Map, Tag}
@@ -10,16 +10,16 @@ use Rattle.cbor_det.specs.declared.initial.Beginning.{Beginning}
 use Rattle.cbor_det.specs.declared.initial.Beginning.TheVariants.{Argued, Argument, Chunks, Elements, Members, Bool as Boolean}
 use Rattle.cbor_det.specs.declared.initial.Initial.{Initial}
 use Rattle.cbor_det.specs.declared.initial.Initial.TheVariants.{Item}
-use Rattle.cbor_det.specs.Initial.{number_of_major, headed, headed_or, of_type, initial_of}
+use Rattle.cbor_det.specs.Initial.{number_of_major, head_of, head_or_indefinite, of_type, initial_of}
 use Rattle.cbor_det.specs.Faults.{Place, top, at_chunk, at_element, at_key, at_value, at_content, height, IsChunkPlace, Admits}
 use Rattle.cbor_det.specs.Standing.{AdmitsHead}
 use Rattle.cbor_det.specs.Machine.{begun, item_begun, opened, same_kind, string_head}
 
-pub headed_direct : (m : Major) (n : ℕ) → n < 24 → headed m n ≡ Item (Argued m n)
-headed_direct m n lt = cond-true _ _ _ (lt-ltb n 24 lt)
+pub head_of_direct : (m : Major) (n : ℕ) → n < 24 → head_of m n ≡ Item (Argued m n)
+head_of_direct m n lt = cond-true _ _ _ (lt-ltb n 24 lt)
 
-headed_or_direct : (m : Major) (n : ℕ) (x : Beginning) → n < 24 → headed_or m n x ≡ Item (Argued m n)
-headed_or_direct m n x lt = cond-false _ _ _ (ne_eqb n 31 (λ e. omega arith)) ∙ headed_direct m n lt
+head_or_indefinite_direct : (m : Major) (n : ℕ) (x : Beginning) → n < 24 → head_or_indefinite m n x ≡ Item (Argued m n)
+head_or_indefinite_direct m n x lt = cond-false _ _ _ (ne_eqb n 31 (λ e. omega arith)) ∙ head_of_direct m n lt
 
 at_type : (b k n : ℕ) → b / 32 ≡ k → b % 32 ≡ n → initial_of b ≡ of_type k n
 unfolding initial_of
@@ -27,15 +27,15 @@ at_type b k n q r = ap (λ (t : ℕ). of_type t (b % 32)) q ∙ ap (λ (i : ℕ)
 
 -- the initial byte of a head with its argument
 pub direct_initial : (m : Major) (n : ℕ) → n < 24 → initial_of (32 * number_of_major m + n) ≡ Item (Argued m n)
-direct_initial Unsigned n lt = at_type (32 * 0 + n) 0 n (omega arith) (omega arith) ∙ headed_direct Unsigned n lt
-direct_initial Negative n lt = at_type (32 * 1 + n) 1 n (omega arith) (omega arith) ∙ headed_direct Negative n lt
-direct_initial (String ByteString) n lt = at_type (32 * 2 + n) 2 n (omega arith) (omega arith) ∙ headed_or_direct (String ByteString) n (Chunks ByteString) lt
-direct_initial (String TextString) n lt = at_type (32 * 3 + n) 3 n (omega arith) (omega arith) ∙ headed_or_direct (String TextString) n (Chunks TextString) lt
-direct_initial Array n lt = at_type (32 * 4 + n) 4 n (omega arith) (omega arith) ∙ headed_or_direct Array n Elements lt
-direct_initial Map n lt = at_type (32 * 5 + n) 5 n (omega arith) (omega arith) ∙ headed_or_direct Map n Members lt
-direct_initial Tag n lt = at_type (32 * 6 + n) 6 n (omega arith) (omega arith) ∙ headed_direct Tag n lt
+direct_initial Unsigned n lt = at_type (32 * 0 + n) 0 n (omega arith) (omega arith) ∙ head_of_direct Unsigned n lt
+direct_initial Negative n lt = at_type (32 * 1 + n) 1 n (omega arith) (omega arith) ∙ head_of_direct Negative n lt
+direct_initial (String ByteString) n lt = at_type (32 * 2 + n) 2 n (omega arith) (omega arith) ∙ head_or_indefinite_direct (String ByteString) n (Chunks ByteString) lt
+direct_initial (String TextString) n lt = at_type (32 * 3 + n) 3 n (omega arith) (omega arith) ∙ head_or_indefinite_direct (String TextString) n (Chunks TextString) lt
+direct_initial Array n lt = at_type (32 * 4 + n) 4 n (omega arith) (omega arith) ∙ head_or_indefinite_direct Array n Elements lt
+direct_initial Map n lt = at_type (32 * 5 + n) 5 n (omega arith) (omega arith) ∙ head_or_indefinite_direct Map n Members lt
+direct_initial Tag n lt = at_type (32 * 6 + n) 6 n (omega arith) (omega arith) ∙ head_of_direct Tag n lt
 
--- the initial bytes of heads whose argument comes behind them
+-- the initial bytes of heads whose argument comes after them
 pub one_initial : (m : Major) → initial_of (32 * number_of_major m + 24) ≡ Item (Argument m 1)
 unfolding initial_of
 one_initial Unsigned = refl
@@ -98,11 +98,11 @@ module _ (limits : Limits) where
   pub begun_opens : (p : Place) (i : ℕ) (x : Beginning) → Admits limits p 1 → begun limits i p (Item x) ≡ opened limits i p x
   begun_opens p i x ready = begun_item p i (Item x) ready.0 ∙ item_opens p i x ready.1
 
-  same_same : (kind : Kind) → same_kind kind kind ≡ true
+  same_same : (kind : StringKind) → same_kind kind kind ≡ true
   same_same ByteString = refl
   same_same TextString = refl
 
-  chunk_head : (kind : Kind) (m : Major) (x : Beginning) → m ≡ String kind → IsHeadOf m x → string_head kind (Item x) ≡ true
+  chunk_head : (kind : StringKind) (m : Major) (x : Beginning) → m ≡ String kind → IsHeadOf m x → string_head kind (Item x) ≡ true
   chunk_head kind m (Argued other n) e is = rw (is ∙ e) (same_same kind)
   chunk_head kind m (Argument other left) e is = rw (is ∙ e) (same_same kind)
   chunk_head kind m (Chunks k) e is = absurd is

@@ -23,7 +23,7 @@ cmp_less x y lt = grind (arith, nat_tests)
 cmp_same : (x : ℕ) → nat_cmp x x ≡ Equal
 cmp_same x = grind (arith, nat_tests)
 
--- Of lists of one length, a difference in front decides.
+-- Of lists of one length, a difference before decides.
 less_by : (o : Ordering) (r s : Ordering) → (r ≡ Less → s ≡ Less) → ordering_then o r ≡ Less → ordering_then o s ≡ Less
 less_by Less r s more less = refl
 less_by Equal r s more less = more less

@@ -14,7 +14,7 @@ pub mod BigEndian
 pub mod Views
 pub mod Writes
 pub mod Entries
-pub mod Gives
+pub mod Closing
 pub mod Strings
 pub mod Begins
 pub mod Runs

@@ -59,7 +59,7 @@ first_of ps r (member qs more k v u o q series key value puts) =
           })
     ]
 
--- The first member is one of the pairs, and the others are spelled behind it.
+-- The first member is one of the pairs, and the others are spelled after it.
 front_of : (ps : Pairs) (m : Member) (r : List ℕ) → PairSeries ps ((m.key_octets ++ m.value_octets) ++ r)
     → (qs : Pairs) × PutsIn m.key m.value qs ps × PairSeries qs r
 front_of ps m r series =

@@ -7,7 +7,7 @@ use Rattle.cbor_det.specs.declared.limits.Limits.{Limits}
 use Rattle.cbor_det.specs.Term.{Term}
 use Rattle.cbor_det.specs.Spelling.{Spelling}
 use Rattle.cbor_det.specs.Faults.{top, start, Shows, malformed, float, simple, range, too_deep, not_utf8, doubled, long_string, past_limit, Begins, HasNoItem, IsFault, IsCut}
-use Rattle.cbor_det.specs.Machine.{State, due, whole, faulty, give, run, is_over}
+use Rattle.cbor_det.specs.Machine.{State, due, whole, faulty, item_ended, run, is_over}
 use Rattle.cbor_det.proofs.Completes.{reads}
 use Rattle.cbor_det.proofs.Shown.{shows_runs, ended}
 use Rattle.cbor_det.proofs.Steps.{Ran, run_holds}
@@ -48,7 +48,7 @@ module _ (limits : Limits) where
 
   -- The machine gives the item that an input begins with.
   pub item_runs : (input : List ℕ) (t : Term) (n : ℕ) → Begins limits input t n → run limits 0 (due top) input ≡ (whole t, drop n input)
-  unfolding give
+  unfolding item_ended
   item_runs input t n begins =
       let len : length (take n input) ≡ n = (let l = length-take n input in let w = begins.within in omega (arith, l, w)) in
       ap (λ (x : List ℕ). run limits 0 (due top) x) (sym (take-append-drop n input))
@@ -118,7 +118,8 @@ module _ (limits : Limits) where
         ]
       ]
 
-  -- What a run says. `bs` are the octets that were looked at, up to the limit, and `tail` those behind them.
+  -- What a run says. `bs` are the octets that were looked at, up to the limit, and `tail` those
+  -- after them.
 
   spelled_front : (bs tail front rest : List ℕ) → bs ≡ front ++ rest → take (length bs - length rest) (bs ++ tail) ≡ front
   spelled_front bs tail front rest parts =
@@ -180,7 +181,7 @@ module _ (limits : Limits) where
         lowest = λ j c shows. lowest_of bs rest w.front k a j c short w.parts e w.holds (let Q : List ℕ → Type 0 = λ x. Shows limits x j c in subst Q front shows);
       }
 
-  -- an input of which so many octets were looked at, and neither an item nor a fault was found
+  -- an input of which that many octets were looked at, and neither an item nor a fault was found
   pub open_no_item : (bs : List ℕ) (σ : State) → is_over σ ≡ false → run limits 0 (due top) bs ≡ (σ, []) → HasNoItem limits bs
   open_no_item bs σ going e t n begins = both_ways true (over_of σ (whole t) [] (drop n bs) (sym e ∙ item_runs bs t n begins) going) refl
 

@@ -1,7 +1,7 @@
 -- Runs of the code over pieces, as the machine's.
 use Rattle.std.proofs.Common.{◌≡◌, ℕ, zero, suc, ◌+◌, ◌-◌, ◌*◌, ◌^◌, ◌<◌, ◌≤◌, List, [], ◌∷◌, ◌++◌, length, get_or, take, drop, refl, sym, ap, ◌∙◌, arith, subst, true, false, append_assoc}
 use Rattle.std.proofs.lemmas.List.{append-nil, take-append-drop, drop-drop, drop_all, length-take-le, length-drop}
-use Rattle.cbor_det.specs.declared.kind.Kind.{Kind}
+use Rattle.cbor_det.specs.declared.string_kind.StringKind.{StringKind}
 use Rattle.cbor_det.specs.declared.limits.Limits.{Limits}
 use Rattle.cbor_det.specs.declared.initial.Major.{Major}
 use Rattle.cbor_det.specs.declared.initial.Initial.{Initial}
@@ -38,38 +38,38 @@ above_one left some ne = omega (arith, ne)
 
 -- arguments
 
-pub argue_ends : (limits : Limits) (i : ℕ) (p : Place) (at : ℕ) (m : Major) (left n b : ℕ) (σ : State) → left ≡ 1 → σ ≡ argued limits (i + 1) p at m (256 * n + b)
+pub argument_ends : (limits : Limits) (i : ℕ) (p : Place) (at : ℕ) (m : Major) (left n b : ℕ) (σ : State) → left ≡ 1 → σ ≡ argued limits (i + 1) p at m (256 * n + b)
     → σ ≡ step limits i (argument p at m left n) b
 unfolding step
-argue_ends limits i p at m left n b σ one is = is ∙ ap (λ (k : ℕ). step limits i (argument p at m k n) b) (sym one)
+argument_ends limits i p at m left n b σ one is = is ∙ ap (λ (k : ℕ). step limits i (argument p at m k n) b) (sym one)
 
-pub argue_goes : (limits : Limits) (i : ℕ) (p : Place) (at : ℕ) (m : Major) (left n b : ℕ) → 1 ≤ left → (left ≡ 1 → ⊥) → argument p at m (left - 1) (256 * n + b) ≡ step limits i (argument p at m left n) b
+pub argument_goes : (limits : Limits) (i : ℕ) (p : Place) (at : ℕ) (m : Major) (left n b : ℕ) → 1 ≤ left → (left ≡ 1 → ⊥) → argument p at m (left - 1) (256 * n + b) ≡ step limits i (argument p at m left n) b
 unfolding step
-argue_goes limits i p at m zero n b some ne = absurd (omega arith)
-argue_goes limits i p at m (suc zero) n b some ne = absurd (ne refl)
-argue_goes limits i p at m (suc (suc k)) n b some ne = let e : suc (suc k) - 1 ≡ suc k = omega arith in ap (λ (j : ℕ). argument p at m j (256 * n + b)) e
+argument_goes limits i p at m zero n b some ne = absurd (omega arith)
+argument_goes limits i p at m (suc zero) n b some ne = absurd (ne refl)
+argument_goes limits i p at m (suc (suc k)) n b some ne = let e : suc (suc k) - 1 ≡ suc k = omega arith in ap (λ (j : ℕ). argument p at m j (256 * n + b)) e
 
-pub argue_fits : (left n b : ℕ) → ArgumentFits left n → b < 256 → (256 * n + b < 2 ^ 64) × (256 * n + b < 256 ^ (8 - (left - 1)))
-argue_fits zero n b f small = let g = f.some in absurd (omega (arith, g))
-argue_fits (suc zero) n b f small = let g = f.fits in (omega (arith, g), omega (arith, g))
-argue_fits (suc (suc zero)) n b f small = let g = f.fits in (omega (arith, g), omega (arith, g))
-argue_fits (suc (suc (suc zero))) n b f small = let g = f.fits in (omega (arith, g), omega (arith, g))
-argue_fits (suc (suc (suc (suc zero)))) n b f small = let g = f.fits in (omega (arith, g), omega (arith, g))
-argue_fits (suc (suc (suc (suc (suc zero))))) n b f small = let g = f.fits in (omega (arith, g), omega (arith, g))
-argue_fits (suc (suc (suc (suc (suc (suc zero)))))) n b f small = let g = f.fits in (omega (arith, g), omega (arith, g))
-argue_fits (suc (suc (suc (suc (suc (suc (suc zero))))))) n b f small = let g = f.fits in (omega (arith, g), omega (arith, g))
-argue_fits (suc (suc (suc (suc (suc (suc (suc (suc zero)))))))) n b f small = let g = f.fits in (omega (arith, g), omega (arith, g))
-argue_fits (suc (suc (suc (suc (suc (suc (suc (suc (suc k))))))))) n b f small = let g = f.most in absurd (omega (arith, g))
+pub argument_fits : (left n b : ℕ) → ArgumentFits left n → b < 256 → (256 * n + b < 2 ^ 64) × (256 * n + b < 256 ^ (8 - (left - 1)))
+argument_fits zero n b f small = let g = f.some in absurd (omega (arith, g))
+argument_fits (suc zero) n b f small = let g = f.fits in (omega (arith, g), omega (arith, g))
+argument_fits (suc (suc zero)) n b f small = let g = f.fits in (omega (arith, g), omega (arith, g))
+argument_fits (suc (suc (suc zero))) n b f small = let g = f.fits in (omega (arith, g), omega (arith, g))
+argument_fits (suc (suc (suc (suc zero)))) n b f small = let g = f.fits in (omega (arith, g), omega (arith, g))
+argument_fits (suc (suc (suc (suc (suc zero))))) n b f small = let g = f.fits in (omega (arith, g), omega (arith, g))
+argument_fits (suc (suc (suc (suc (suc (suc zero)))))) n b f small = let g = f.fits in (omega (arith, g), omega (arith, g))
+argument_fits (suc (suc (suc (suc (suc (suc (suc zero))))))) n b f small = let g = f.fits in (omega (arith, g), omega (arith, g))
+argument_fits (suc (suc (suc (suc (suc (suc (suc (suc zero)))))))) n b f small = let g = f.fits in (omega (arith, g), omega (arith, g))
+argument_fits (suc (suc (suc (suc (suc (suc (suc (suc (suc k))))))))) n b f small = let g = f.most in absurd (omega (arith, g))
 
-pub argue_next : (left n b : ℕ) → ArgumentFits left n → b < 256 → (left ≡ 1 → ⊥) → ArgumentFits (left - 1) (256 * n + b)
-argue_next left n b f small ne =
+pub argument_next : (left n b : ℕ) → ArgumentFits left n → b < 256 → (left ≡ 1 → ⊥) → ArgumentFits (left - 1) (256 * n + b)
+argument_next left n b f small ne =
     let some = f.some in
     let most = f.most in
-    record { some = above_one left some ne; most = omega (arith, most); fits = (argue_fits left n b f small).1 }
+    record { some = above_one left some ne; most = omega (arith, most); fits = (argument_fits left n b f small).1 }
 
 -- strings
 
-pub content_part : (limits : Limits) (p : Place) (at : ℕ) (kind : Kind) (left i : ℕ) (came front rest : List ℕ) → length front < left
+pub content_part : (limits : Limits) (p : Place) (at : ℕ) (kind : StringKind) (left i : ℕ) (came front rest : List ℕ) → length front < left
     → run limits i (content p at kind left came) (front ++ rest) ≡ run limits (i + length front) (content p at kind (left - length front) (came ++ front)) rest
 unfolding step
 content_part limits p at kind left i came [] rest lt =
@@ -87,18 +87,18 @@ content_part limits p at kind (suc (suc k)) i came (b ∷ bs) rest lt =
     ∙ ap (λ (j : ℕ). run limits (i + suc (length bs)) (content p at kind j ((came ++ b ∷ []) ++ bs)) rest) f
     ∙ ap (λ (s : List ℕ). run limits (i + suc (length bs)) (content p at kind (suc (suc k) - suc (length bs)) s) rest) (append_assoc came (b ∷ []) bs)
 
-content_all : (limits : Limits) (p : Place) (at : ℕ) (kind : Kind) (left i : ℕ) (came front rest : List ℕ) → 1 ≤ left → length front ≡ left
+content_all : (limits : Limits) (p : Place) (at : ℕ) (kind : StringKind) (left i : ℕ) (came front rest : List ℕ) → 1 ≤ left → length front ≡ left
     → run limits i (content p at kind left came) (front ++ rest) ≡ run limits (i + length front) (string_ended p at kind (came ++ front)) rest
 content_all limits p at kind zero i came front rest some len = absurd (omega arith)
 content_all limits p at kind (suc k) i came front rest some len = content_reads limits p at kind k i came front rest len
 
-pub string_goes : (limits : Limits) (i : ℕ) (p : Place) (at : ℕ) (kind : Kind) (left : ℕ) (came octets after rest : List ℕ)
+pub string_goes : (limits : Limits) (i : ℕ) (p : Place) (at : ℕ) (kind : StringKind) (left : ℕ) (came octets after rest : List ℕ)
     → after ≡ came ++ octets → length octets < left → run limits i (content p at kind left came) (octets ++ rest) ≡ run limits (i + length octets) (content p at kind (left - length octets) after) rest
 string_goes limits i p at kind left came octets after rest joined lt =
     content_part limits p at kind left i came octets rest lt
     ∙ ap (λ (s : List ℕ). run limits (i + length octets) (content p at kind (left - length octets) s) rest) (sym joined)
 
-pub string_stops : (limits : Limits) (i : ℕ) (p : Place) (at : ℕ) (kind : Kind) (left : ℕ) (came octets after rest : List ℕ) (σ : State)
+pub string_stops : (limits : Limits) (i : ℕ) (p : Place) (at : ℕ) (kind : StringKind) (left : ℕ) (came octets after rest : List ℕ) (σ : State)
     → after ≡ came ++ octets → length octets ≡ left → 1 ≤ left → σ ≡ string_ended p at kind after → run limits i (content p at kind left came) (octets ++ rest) ≡ run limits (i + length octets) σ rest
 string_stops limits i p at kind left came octets after rest σ joined all some ends =
     content_all limits p at kind left i came octets rest some all

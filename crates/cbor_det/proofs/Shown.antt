@@ -1,12 +1,12 @@
--- The machine comes to each place where an initial byte is due, and stops at each fault that shows, with that kind or a
--- lower one.
+-- The machine comes to each place where an initial byte is due, and stops at each fault that shows,
+-- with that kind or a lower one.
 use Rattle.std.proofs.Common.{◌≡◌, ◌≢◌, ℕ, zero, suc, ◌+◌, ◌*◌, ◌^◌, ◌<◌, ◌≤◌, ◌⊎◌, List, [], ◌∷◌, ◌++◌, length, refl, sym, ap, ◌∙◌, arith, subst, true, false, Option, Some, None, append_assoc, length-append, inl, inr, ◌/◌}
 use Rattle.std.specs.Str.{IsUtf8, is_utf8}
 use Rattle.std.proofs.lemmas.Str.{IsUtf8-from_is_utf8}
 use Rattle.std.specs.Option.{IfSome}
 use Rattle.std.proofs.lemmas.Bool.{lt-ltb, le-ltb, cond-true, cond-false, false_from_ne_true}
-use Rattle.cbor_det.specs.declared.kind.Kind.{Kind}
-use Rattle.cbor_det.specs.declared.kind.Kind.TheVariants.{ByteString, TextString}
+use Rattle.cbor_det.specs.declared.string_kind.StringKind.{StringKind}
+use Rattle.cbor_det.specs.declared.string_kind.StringKind.TheVariants.{ByteString, TextString}
 use Rattle.cbor_det.specs.declared.limits.Limits.{Limits}
 use Rattle.cbor_det.specs.declared.initial.Major.{Major}
 use Rattle.cbor_det.specs.declared.initial.Major.TheVariants.{Unsigned, Negative, String, Array, Map, Tag}
@@ -18,7 +18,7 @@ use Rattle.cbor_det.specs.Term.{Term, no_terms, no_pairs, count, pair_count, ter
 use Rattle.cbor_det.specs.Canonical.{canon}
 use Rattle.cbor_det.specs.Spelling.{IsHead, stop, opening, major_of}
 use Rattle.cbor_det.specs.Faults.{Place, top, at_chunk, at_element, at_key, at_value, at_content, height, IsChunkPlace, Admits, AdmitsString, Opens, counted, until_break, MoreAreDue, Upto, start, chunk_due, element_due, key_due, value_due, content_due, IsReserved, IsNeverOpen, IsNoChunk, TakesBreak, IsMalformed, IsFloat, IsSimple, HasNoItem, Shows, malformed, float, simple, range, too_deep, not_utf8, doubled, long_string, past_limit, information, major}
-use Rattle.cbor_det.specs.Machine.{State, due, whole, faulty, give, filled_array, filled_map, string_ended, string_begun, argued, opened, broken, begun, item_begun, chunk_begun, string_head, same_kind, run}
+use Rattle.cbor_det.specs.Machine.{State, due, whole, faulty, item_ended, filled_array, filled_map, string_ended, string_begun, argued, opened, broken, begun, item_begun, chunk_begun, string_head, same_kind, run}
 use Rattle.cbor_det.specs.Standing.{AdmitsHead, BeginsHead, one_more, two_more, four_more, eight_more}
 use Rattle.cbor_det.proofs.Initials.{begun_item}
 use Rattle.cbor_det.proofs.Told.{Tells, tells}
@@ -41,7 +41,7 @@ fault_kind Simple = 4
 fault_kind x = 2
 
 -- a head of another type than the string's
-other_kind : (kind other : Kind) → (major_of other ≡ major_of kind → ⊥) → same_kind kind other ≡ false
+other_kind : (kind other : StringKind) → (major_of other ≡ major_of kind → ⊥) → same_kind kind other ≡ false
 other_kind ByteString ByteString ne = absurd (ne refl)
 other_kind ByteString TextString ne = refl
 other_kind TextString ByteString ne = refl
@@ -51,7 +51,7 @@ not_both : (b k n : ℕ) → b ≡ 32 * k + n → n < 28 → (major b ≢ k) ⊎
 not_both b k n is small (inl ne) = ne (omega arith)
 not_both b k n is small (inr high) = omega arith
 
-other_argued : (m : Major) (n b : ℕ) (kind : Kind) → (b ≡ 32 * number_of_major m + n) × (n < 24) → (major b ≢ major_of kind) ⊎ (28 ≤ information b)
+other_argued : (m : Major) (n b : ℕ) (kind : StringKind) → (b ≡ 32 * number_of_major m + n) × (n < 24) → (major b ≢ major_of kind) ⊎ (28 ≤ information b)
     → string_head kind (Item (beginning.Argued m n)) ≡ false
 other_argued Unsigned n b kind t is = refl
 other_argued Negative n b kind t is = refl
@@ -61,14 +61,14 @@ other_argued Tag n b kind t is = refl
 other_argued (String other) n b kind t is =
     other_kind kind other (λ e. not_both b (major_of kind) n (t.0 ∙ ap (λ (k : ℕ). 32 * k + n) e) (let lt = t.1 in omega (arith, lt)) is)
 
--- what a long head tells
+-- what a long head reports
 pub long_tells : (m : Major) (left b : ℕ) → BeginsHead m left b → (n : ℕ) × (b ≡ 32 * number_of_major m + n) × (n < 28) × (24 ≤ n)
 long_tells m left b one_more = (24, refl, omega arith, omega arith)
 long_tells m left b two_more = (25, refl, omega arith, omega arith)
 long_tells m left b four_more = (26, refl, omega arith, omega arith)
 long_tells m left b eight_more = (27, refl, omega arith, omega arith)
 
-other_argument : (m : Major) (left b : ℕ) (kind : Kind) → BeginsHead m left b → (major b ≢ major_of kind) ⊎ (28 ≤ information b)
+other_argument : (m : Major) (left b : ℕ) (kind : StringKind) → BeginsHead m left b → (major b ≢ major_of kind) ⊎ (28 ≤ information b)
     → string_head kind (Item (beginning.Argument m left)) ≡ false
 other_argument Unsigned left b kind t is = refl
 other_argument Negative left b kind t is = refl
@@ -174,7 +174,7 @@ module _ (limits : Limits) where
   admits_deep p d ready = (ready.0, omega (arith, ready.1))
 
   pub upto_runs : (p : Place) (o : List ℕ) → Upto limits p o → length o ≤ limits.octets → (rest : List ℕ) → run limits 0 (due top) (o ++ rest) ≡ run limits (length o) (due p) rest
-  unfolding opened give
+  unfolding opened item_ended
   upto_runs p o start room rest = refl
   upto_runs p o (chunk_due q kind u s r upto ready chunks) room rest =
       let l = length-append u (opening (major_of kind) ∷ r) in
@@ -254,7 +254,7 @@ module _ (limits : Limits) where
       }
 
   -- a chunk is due
-  no_chunk : (a i b : ℕ) (kind : Kind) (s : List ℕ) (p : Place) (x : Initial) → Tells b x → IsNoChunk kind b → chunk_begun limits i a kind s p x ≡ faulty 2 i
+  no_chunk : (a i b : ℕ) (kind : StringKind) (s : List ℕ) (p : Place) (x : Initial) → Tells b x → IsNoChunk kind b → chunk_begun limits i a kind s p x ≡ faulty 2 i
   no_chunk a i b kind s p Break t is = absurd (is.0 t)
   no_chunk a i b kind s p Float t is = refl
   no_chunk a i b kind s p Simple t is = refl
@@ -267,7 +267,7 @@ module _ (limits : Limits) where
   no_chunk a i b kind s p (Item (beginning.Argument m left)) t is = cond-false _ _ _ (other_argument m left b kind t is.1)
 
   -- a float, a simple value or a malformed octet
-  low_chunk : (a i : ℕ) (kind : Kind) (s : List ℕ) (p : Place) (x : Initial) → IsLow x → chunk_begun limits i a kind s p x ≡ faulty 2 i
+  low_chunk : (a i : ℕ) (kind : StringKind) (s : List ℕ) (p : Place) (x : Initial) → IsLow x → chunk_begun limits i a kind s p x ≡ faulty 2 i
   low_chunk a i kind s p Float low = refl
   low_chunk a i kind s p Simple low = refl
   low_chunk a i kind s p Malformed low = refl
@@ -340,8 +340,8 @@ module _ (limits : Limits) where
   deep_by p i b (Item x) t not deep ne =
       record { lower = 6; below = omega arith; is = begun_item limits p i (Item x) not ∙ cond-true _ _ _ (lt-ltb limits.depth (height p + 1) deep) }
 
-  string_admits : (p : Place) (kind : Kind) → AdmitsString limits p kind → AdmitsHead limits p (String kind)
-  string_admits (at_chunk a k s p) kind ready = ap (λ (x : Kind). String x) (sym ready)
+  string_admits : (p : Place) (kind : StringKind) → AdmitsString limits p kind → AdmitsHead limits p (String kind)
+  string_admits (at_chunk a k s p) kind ready = ap (λ (x : StringKind). String x) (sym ready)
   string_admits top kind ready = ready
   string_admits (at_element a all ts p) kind ready = ready
   string_admits (at_key a all ps p) kind ready = ready
@@ -362,11 +362,11 @@ module _ (limits : Limits) where
   too_big i at n m p Map small is big = absurd (omega arith)
   too_big i at n m p Tag small is big = absurd (omega arith)
 
-  too_long : (i at n : ℕ) (p : Place) (kind : Kind) → limits.octets < i + n → argued limits i p at (String kind) n ≡ faulty 9 at
+  too_long : (i at n : ℕ) (p : Place) (kind : StringKind) → limits.octets < i + n → argued limits i p at (String kind) n ≡ faulty 9 at
   unfolding argued
   too_long i at n p kind long = cond-true _ _ _ (lt-ltb limits.octets (i + n) long)
 
-  pub not_long : (i at n : ℕ) (p : Place) (kind : Kind) → i + n ≤ limits.octets → argued limits i p at (String kind) n ≡ string_begun p at kind n
+  pub not_long : (i at n : ℕ) (p : Place) (kind : StringKind) → i + n ≤ limits.octets → argued limits i p at (String kind) n ≡ string_begun p at kind n
   unfolding argued
   not_long i at n p kind fits = cond-false _ _ _ (le-ltb limits.octets (i + n) fits)
 
@@ -387,7 +387,7 @@ module _ (limits : Limits) where
   -- What shows, but where octets up to the limit are wanted.
   pub shows_runs : (o : List ℕ) (k a : ℕ) → Shows limits o k a → length o ≤ limits.octets → (rest : List ℕ)
       → StopsAt o rest k a ⊎ ((k ≡ 9) × (a ≡ length o) × (length o ≡ limits.octets) × HasNoItem limits o)
-  unfolding give
+  unfolding item_ended
   shows_runs o k a (malformed p u b upto is) room rest = inl (byte_stops p u b 2 rest upto room (malformed_stops p (length u) b is))
   shows_runs o k a (float p u b upto is) room rest = let x = float_is b (initial_of b) (tells b) is in inl (byte_stops p u b 3 rest upto room (low_stops p (length u) 3 (initial_of b) x.0 x.1))
   shows_runs o k a (simple p u b upto is) room rest = let x = simple_is b (initial_of b) (tells b) is in inl (byte_stops p u b 4 rest upto room (low_stops p (length u) 4 (initial_of b) x.0 x.1))

@@ -8,8 +8,8 @@ use Rattle.std.proofs.lemmas.Bool.{cond_both, ltb-true, ltb-false, eqb-true, eqb
 use Rattle.wire_base.specs.Numbers.{number_of}
 use Rattle.wire_base.specs.Layout.{AreOctets}
 use Rattle.wire_base.proofs.Spelled.{octets_of-number_of, number_of-below}
-use Rattle.cbor_det.specs.declared.kind.Kind.{Kind}
-use Rattle.cbor_det.specs.declared.kind.Kind.TheVariants.{ByteString, TextString}
+use Rattle.cbor_det.specs.declared.string_kind.StringKind.{StringKind}
+use Rattle.cbor_det.specs.declared.string_kind.StringKind.TheVariants.{ByteString, TextString}
 use Rattle.cbor_det.specs.declared.limits.Limits.{Limits}
 use Rattle.cbor_det.specs.declared.initial.Major.{Major}
 use Rattle.cbor_det.specs.declared.initial.Major.TheVariants.{Unsigned, Negative, String, Array, Map, Tag}
@@ -22,7 +22,7 @@ use Rattle.cbor_det.specs.Term.{Term, Terms, Pairs, integer, array, map, tagged,
 use Rattle.cbor_det.specs.Canonical.{canon, direct, one, two, four, eight}
 use Rattle.cbor_det.specs.Spelling.{IsHead, stop, opening, major_of, IsPart, string, no_chunks, chunk, Rises, PutsIn, Spelling, Series, PairSeries, unsigned, negative, definite_string, definite_array, indefinite_array, definite_map, indefinite_map, under_tag, is_false, is_true, no_items, item, no_members, member}
 use Rattle.cbor_det.specs.Faults.{Place, top, at_chunk, at_element, at_key, at_value, at_content, height, IsChunkPlace, Admits, AdmitsString, Opens, counted, until_break, MoreAreDue, Upto, start, chunk_due, element_due, key_due, value_due, content_due, IsReserved, IsNeverOpen, TakesBreak, IsMalformed, Shows, malformed, float, simple, range, too_deep, not_utf8, doubled, long_string}
-use Rattle.cbor_det.specs.Machine.{State, due, argument, content, whole, faulty, give, is_full, is_held, insert, filled_array, filled_map, is_part, string_given, string_ended, string_begun, argued, opened, broken, item_begun}
+use Rattle.cbor_det.specs.Machine.{State, due, argument, content, whole, faulty, item_ended, is_full, is_held, insert, filled_array, filled_map, is_part, string_given, string_ended, string_begun, argued, opened, broken, item_begun}
 use Rattle.cbor_det.specs.Standing.{AdmitsHead, InArgument, InContent, BeginsHead, one_more, two_more, four_more, eight_more}
 use Rattle.cbor_det.proofs.Told.{Tells}
 use Rattle.cbor_det.proofs.Order.{insert_puts, rises_insert, count_puts, depth_puts, held_is, held_not, free_of}
@@ -98,7 +98,7 @@ module _ (limits : Limits) where
   more_due (Some k) n within free = let ne = eqb-false n k free in below_of n k within ne
 
   array_holds : (p : Place) (all : Option ℕ) (ts : Terms) (o h r : List ℕ) → Upto limits p o → Admits limits p (terms_depth ts + 1) → Opens 4 all h → Series ts r
-      → IfSome all (λ n. count ts ≤ n) → ((s : List ℕ) → Spelling (array ts) s → Holds (o ++ s) (give p (length o) (array ts)))
+      → IfSome all (λ n. count ts ≤ n) → ((s : List ℕ) → Spelling (array ts) s → Holds (o ++ s) (item_ended p (length o) (array ts)))
       → Holds (o ++ (h ++ r)) (filled_array p (length o) all ts)
   array_holds p all ts o h r upto ready opens series within given =
       cond_both (is_full all (count ts)) _ _ (Holds (o ++ (h ++ r)))
@@ -106,7 +106,7 @@ module _ (limits : Limits) where
       (λ free. element_due p all ts o h r upto ready opens series (more_due all (count ts) within free))
 
   map_holds : (p : Place) (all : Option ℕ) (ps : Pairs) (o h r : List ℕ) → Upto limits p o → Admits limits p (pairs_depth ps + 1) → Opens 5 all h → PairSeries ps r → Rises ps
-      → IfSome all (λ n. pair_count ps ≤ n) → ((s : List ℕ) → Spelling (map ps) s → Holds (o ++ s) (give p (length o) (map ps)))
+      → IfSome all (λ n. pair_count ps ≤ n) → ((s : List ℕ) → Spelling (map ps) s → Holds (o ++ s) (item_ended p (length o) (map ps)))
       → Holds (o ++ (h ++ r)) (filled_map p (length o) all ps)
   map_holds p all ps o h r upto ready opens series rises within given =
       cond_both (is_full all (pair_count ps)) _ _ (Holds (o ++ (h ++ r)))
@@ -125,24 +125,24 @@ module _ (limits : Limits) where
   regroup o h x y s = append_assoc (o ++ (h ++ x)) y s ∙ append_assoc o (h ++ x) (y ++ s) ∙ ap (λ (z : List ℕ). o ++ z) (append_assoc h x (y ++ s))
 
   -- An item that ended is taken where it stands.
-  pub give_holds : (p : Place) (q : List ℕ) → Upto limits p q → (s : List ℕ) (t : Term) (at : ℕ) → Admits limits p (depth t) → Spelling t s → at ≡ length q → Holds (q ++ s) (give p at t)
-  unfolding give
-  give_holds p q start s t at ready spelled e = (spelled, omega (arith, ready.1))
-  give_holds p q (chunk_due r kind o u x upto admits _) s t at ready spelled e = absurd (ready.0 tt)
-  give_holds p q (element_due r all ts o h x upto admits opens series more) s t at ready spelled e =
+  pub item_ended_holds : (p : Place) (q : List ℕ) → Upto limits p q → (s : List ℕ) (t : Term) (at : ℕ) → Admits limits p (depth t) → Spelling t s → at ≡ length q → Holds (q ++ s) (item_ended p at t)
+  unfolding item_ended
+  item_ended_holds p q start s t at ready spelled e = (spelled, omega (arith, ready.1))
+  item_ended_holds p q (chunk_due r kind o u x upto admits _) s t at ready spelled e = absurd (ready.0 tt)
+  item_ended_holds p q (element_due r all ts o h x upto admits opens series more) s t at ready spelled e =
       let d = depth_plus ts t in
       let deep : Admits limits r (terms_depth (plus ts t) + 1) = (admits.0, omega (arith, d, admits.1, ready.1)) in
       moved (filled_array r (length o) all (plus ts t)) ((o ++ (h ++ x)) ++ s) (o ++ (h ++ (x ++ s))) (append_assoc o (h ++ x) s ∙ ap (λ (y : List ℕ). o ++ y) (append_assoc h x s))
       (array_holds r all (plus ts t) o h (x ++ s) upto deep opens (item ts t x s series spelled) (one_more_within all ts t more)
-      (λ y z. give_holds r o upto y (array (plus ts t)) (length o) deep z refl))
-  give_holds p q (key_due r all ps o h x upto admits opens series rises more) s t at ready spelled e =
+      (λ y z. item_ended_holds r o upto y (array (plus ts t)) (length o) deep z refl))
+  item_ended_holds p q (key_due r all ps o h x upto admits opens series rises more) s t at ready spelled e =
       let deep : Admits limits r (depth t + 1) = (admits.0, omega (arith, ready.1)) in
       let here : Upto limits (at_key (length o) all ps r) (o ++ (h ++ x)) = key_due r all ps o h x upto admits opens series rises more in
       cond_both (is_held ps (canon t)) _ _ (Holds ((o ++ (h ++ x)) ++ s))
       (λ held. let P : ℕ → Type 0 = λ a. Shows limits ((o ++ (h ++ x)) ++ s) 8 a in
       subst P (sym e) (doubled r (length o) all ps (o ++ (h ++ x)) s t here deep spelled (held_is ps (canon t) held)))
       (λ free. value_due r (length o) all ps t (o ++ (h ++ x)) s here deep spelled (held_not ps (canon t) free))
-  give_holds p q (value_due r map_at all ps k u y (key_due r1 all1 ps1 o h x upto admits opens series rises more) deep key free) s t at ready spelled e =
+  item_ended_holds p q (value_due r map_at all ps k u y (key_due r1 all1 ps1 o h x upto admits opens series rises more) deep key free) s t at ready spelled e =
       let off = free_of ps (canon k) free in
       let puts = insert_puts k t ps off in
       let d = depth_puts k t ps (insert k t ps) puts in
@@ -150,14 +150,14 @@ module _ (limits : Limits) where
       moved (filled_map r (length o) all (insert k t ps)) (((o ++ (h ++ x)) ++ y) ++ s) (o ++ (h ++ (x ++ (y ++ s)))) (regroup o h x y s)
       (map_holds r all (insert k t ps) o h (x ++ (y ++ s)) upto down opens (member ps (insert k t ps) k t x y s series key spelled puts)
       (rises_insert k t ps rises off) (one_pair_within all k t ps (insert k t ps) puts more)
-      (λ z w. give_holds r o upto z (map (insert k t ps)) (length o) down w refl))
-  give_holds p q (content_due r n o h upto admits is) s t at ready spelled e =
-      moved (give r (length o) (tagged n t)) ((o ++ h) ++ s) (o ++ (h ++ s)) (append_assoc o h s)
-      (give_holds r o upto (h ++ s) (tagged n t) (length o) (admits.0, omega (arith, ready.1)) (under_tag n t h s is spelled) refl)
+      (λ z w. item_ended_holds r o upto z (map (insert k t ps)) (length o) down w refl))
+  item_ended_holds p q (content_due r n o h upto admits is) s t at ready spelled e =
+      moved (item_ended r (length o) (tagged n t)) ((o ++ h) ++ s) (o ++ (h ++ s)) (append_assoc o h s)
+      (item_ended_holds r o upto (h ++ s) (tagged n t) (length o) (admits.0, omega (arith, ready.1)) (under_tag n t h s is spelled) refl)
 
   -- strings
 
-  chunk_holds : (a : ℕ) (k : Kind) (t : List ℕ) (p : Place) (q : List ℕ) → Upto limits (at_chunk a k t p) q → (s h : List ℕ) → IsPart k s → IsHead (major_of k) (length s) h
+  chunk_holds : (a : ℕ) (k : StringKind) (t : List ℕ) (p : Place) (q : List ℕ) → Upto limits (at_chunk a k t p) q → (s h : List ℕ) → IsPart k s → IsHead (major_of k) (length s) h
       → Upto limits (at_chunk a k (t ++ s) p) (q ++ (h ++ s))
   chunk_holds a k t p q (chunk_due r kind o u x upto admits parts) s h part is =
       let e : (o ++ opening (major_of k) ∷ x) ++ (h ++ s) ≡ o ++ opening (major_of k) ∷ ((x ++ h) ++ s) =
@@ -165,23 +165,23 @@ module _ (limits : Limits) where
       let P : List ℕ → Type 0 = λ z. Upto limits (at_chunk (length o) k (u ++ s) r) z in
       subst P (sym e) (chunk_due r k o (u ++ s) ((x ++ h) ++ s) upto admits (chunk u s x h parts part is))
 
-  same_string : (k kind : Kind) → String kind ≡ String k → kind ≡ k
+  same_string : (k kind : StringKind) → String kind ≡ String k → kind ≡ k
   same_string k kind e = cc
 
-  item_given : (p : Place) (q : List ℕ) (kind : Kind) (s h : List ℕ) (at : ℕ) → Upto limits p q → Admits limits p 1 → IsPart kind s → IsHead (major_of kind) (length s) h → at ≡ length q
+  item_given : (p : Place) (q : List ℕ) (kind : StringKind) (s h : List ℕ) (at : ℕ) → Upto limits p q → Admits limits p 1 → IsPart kind s → IsHead (major_of kind) (length s) h → at ≡ length q
       → Holds (q ++ (h ++ s)) (string_given p at kind s)
   item_given p q kind s h at upto ready part is e =
       let P : State → Type 0 = λ σ. Holds (q ++ (h ++ s)) σ in
       let d = string_depth kind s in
       subst P (sym (string_item limits p at kind s ready.0))
-      (give_holds p q upto (h ++ s) (string kind s) at (ready.0, omega (arith, d, ready.1)) (definite_string kind s h part is) e)
+      (item_ended_holds p q upto (h ++ s) (string kind s) at (ready.0, omega (arith, d, ready.1)) (definite_string kind s h part is) e)
 
-  given_holds : (p : Place) (q : List ℕ) (kind : Kind) (s h : List ℕ) (at : ℕ) → Upto limits p q → AdmitsHead limits p (String kind) → IsPart kind s → IsHead (major_of kind) (length s) h → at ≡ length q
+  given_holds : (p : Place) (q : List ℕ) (kind : StringKind) (s h : List ℕ) (at : ℕ) → Upto limits p q → AdmitsHead limits p (String kind) → IsPart kind s → IsHead (major_of kind) (length s) h → at ≡ length q
       → Holds (q ++ (h ++ s)) (string_given p at kind s)
   given_holds (at_chunk a k t p) q kind s h at upto ready part is e =
       let f = same_string k kind ready in
-      let P : Kind → Type 0 = λ x. IsPart x s in
-      let R : Kind → Type 0 = λ x. IsHead (major_of x) (length s) h in
+      let P : StringKind → Type 0 = λ x. IsPart x s in
+      let R : StringKind → Type 0 = λ x. IsHead (major_of x) (length s) h in
       chunk_holds a k t p q upto s h (subst P f part) (subst R f is)
   given_holds top q kind s h at upto ready part is e = item_given top q kind s h at upto ready part is e
   given_holds (at_element a all ts p) q kind s h at upto ready part is e = item_given (at_element a all ts p) q kind s h at upto ready part is e
@@ -189,7 +189,7 @@ module _ (limits : Limits) where
   given_holds (at_value a all ps k p) q kind s h at upto ready part is e = item_given (at_value a all ps k p) q kind s h at upto ready part is e
   given_holds (at_content a n p) q kind s h at upto ready part is e = item_given (at_content a n p) q kind s h at upto ready part is e
 
-  head_admits : (p : Place) (kind : Kind) → AdmitsHead limits p (String kind) → AdmitsString limits p kind
+  head_admits : (p : Place) (kind : StringKind) → AdmitsHead limits p (String kind) → AdmitsString limits p kind
   head_admits (at_chunk a k t p) kind ready = sym (same_string k kind ready)
   head_admits top kind ready = ready
   head_admits (at_element a all ts p) kind ready = ready
@@ -197,16 +197,16 @@ module _ (limits : Limits) where
   head_admits (at_value a all ps k p) kind ready = ready
   head_admits (at_content a n p) kind ready = ready
 
-  part_of : (kind : Kind) (s : List ℕ) → is_part kind s ≡ true → IsPart kind s
+  part_of : (kind : StringKind) (s : List ℕ) → is_part kind s ≡ true → IsPart kind s
   part_of ByteString s e = tt
   part_of TextString s e = IsUtf8-from_is_utf8 s e
 
-  bad_part : (kind : Kind) (p : Place) (q s h : List ℕ) → Upto limits p q → AdmitsHead limits p (String kind) → IsHead (major_of kind) (length s) h → is_part kind s ≡ false
+  bad_part : (kind : StringKind) (p : Place) (q s h : List ℕ) → Upto limits p q → AdmitsHead limits p (String kind) → IsHead (major_of kind) (length s) h → is_part kind s ≡ false
       → Shows limits (q ++ (h ++ s)) 7 (length q)
   bad_part ByteString p q s h upto ready is e = absurd (both_ways true e refl)
   bad_part TextString p q s h upto ready is e = not_utf8 p q h s upto (head_admits p TextString ready) is (λ u. both_ways _ e (is_utf8-from_IsUtf8 s u))
 
-  pub ended_holds : (p : Place) (q : List ℕ) (kind : Kind) (s h : List ℕ) (at : ℕ) → Upto limits p q → AdmitsHead limits p (String kind) → IsHead (major_of kind) (length s) h → at ≡ length q
+  pub ended_holds : (p : Place) (q : List ℕ) (kind : StringKind) (s h : List ℕ) (at : ℕ) → Upto limits p q → AdmitsHead limits p (String kind) → IsHead (major_of kind) (length s) h → at ≡ length q
       → Holds (q ++ (h ++ s)) (string_ended p at kind s)
   unfolding string_ended
   ended_holds p q kind s h at upto ready is e =
@@ -214,7 +214,7 @@ module _ (limits : Limits) where
       (λ good. given_holds p q kind s h at upto ready (part_of kind s good) is e)
       (λ bad. let P : ℕ → Type 0 = λ a. Shows limits (q ++ (h ++ s)) 7 a in subst P (sym e) (bad_part kind p q s h upto ready is bad))
 
-  begun_string : (p : Place) (q : List ℕ) (kind : Kind) (n : ℕ) (h : List ℕ) → Upto limits p q → AdmitsHead limits p (String kind) → IsHead (major_of kind) n h
+  begun_string : (p : Place) (q : List ℕ) (kind : StringKind) (n : ℕ) (h : List ℕ) → Upto limits p q → AdmitsHead limits p (String kind) → IsHead (major_of kind) n h
       → length q + length h + n ≤ limits.octets → Holds (q ++ h) (string_begun p (length q) kind n)
   begun_string p q kind zero h upto ready is room =
       moved (string_ended p (length q) kind []) (q ++ h) (q ++ (h ++ [])) (ap (λ (z : List ℕ). q ++ z) (sym (append-nil h))) (ended_holds p q kind [] h (length q) upto ready is refl)
@@ -223,7 +223,7 @@ module _ (limits : Limits) where
 
   -- heads
 
-  no_string : (p : Place) (m : Major) → ((kind : Kind) → m ≡ String kind → ⊥) → AdmitsHead limits p m → Admits limits p 1
+  no_string : (p : Place) (m : Major) → ((kind : StringKind) → m ≡ String kind → ⊥) → AdmitsHead limits p m → Admits limits p 1
   no_string top m ne ready = ready
   no_string (at_chunk a k t p) m ne ready = absurd (ne k ready)
   no_string (at_element a all ts p) m ne ready = ready
@@ -231,19 +231,19 @@ module _ (limits : Limits) where
   no_string (at_value a all ps k p) m ne ready = ready
   no_string (at_content a n p) m ne ready = ready
 
-  unsigned_not : (kind : Kind) → Unsigned ≡ String kind → ⊥
+  unsigned_not : (kind : StringKind) → Unsigned ≡ String kind → ⊥
   unsigned_not kind e = cc
 
-  negative_not : (kind : Kind) → Negative ≡ String kind → ⊥
+  negative_not : (kind : StringKind) → Negative ≡ String kind → ⊥
   negative_not kind e = cc
 
-  array_not : (kind : Kind) → Array ≡ String kind → ⊥
+  array_not : (kind : StringKind) → Array ≡ String kind → ⊥
   array_not kind e = cc
 
-  map_not : (kind : Kind) → Map ≡ String kind → ⊥
+  map_not : (kind : StringKind) → Map ≡ String kind → ⊥
   map_not kind e = cc
 
-  tag_not : (kind : Kind) → Tag ≡ String kind → ⊥
+  tag_not : (kind : StringKind) → Tag ≡ String kind → ⊥
   tag_not kind e = cc
 
   pub argued_holds : (p : Place) (q h : List ℕ) (m : Major) (n : ℕ) → Upto limits p q → AdmitsHead limits p m → IsHead (number_of_major m) n h
@@ -252,12 +252,12 @@ module _ (limits : Limits) where
   argued_holds p q h Unsigned n upto ready is =
       let one = no_string p Unsigned unsigned_not ready in
       cond_both (nat_lt n (2 ^ 63)) _ _ (Holds (q ++ h))
-      (λ e. give_holds p q upto h (integer (pos n)) (length q) one (unsigned n h (ltb-true n (2 ^ 63) e) is) refl)
+      (λ e. item_ended_holds p q upto h (integer (pos n)) (length q) one (unsigned n h (ltb-true n (2 ^ 63) e) is) refl)
       (λ e. range p q n h 0 upto one (omega arith) is (ltb-false n (2 ^ 63) e))
   argued_holds p q h Negative n upto ready is =
       let one = no_string p Negative negative_not ready in
       cond_both (nat_lt n (2 ^ 63)) _ _ (Holds (q ++ h))
-      (λ e. give_holds p q upto h (integer (negsuc n)) (length q) one (negative n h (ltb-true n (2 ^ 63) e) is) refl)
+      (λ e. item_ended_holds p q upto h (integer (negsuc n)) (length q) one (negative n h (ltb-true n (2 ^ 63) e) is) refl)
       (λ e. range p q n h 1 upto one (omega arith) is (ltb-false n (2 ^ 63) e))
   argued_holds p q h (String kind) n upto ready is =
       cond_both (nat_lt limits.octets (length q + length h + n)) _ _ (Holds (q ++ h))
@@ -266,11 +266,11 @@ module _ (limits : Limits) where
   argued_holds p q h Array n upto ready is =
       let one = no_string p Array array_not ready in
       moved (filled_array p (length q) (Some n) no_terms) (q ++ h) (q ++ (h ++ [])) (ap (λ (z : List ℕ). q ++ z) (sym (append-nil h)))
-      (array_holds p (Some n) no_terms q h [] upto one (counted n h is) no_items (omega arith) (λ s z. give_holds p q upto s (array no_terms) (length q) one z refl))
+      (array_holds p (Some n) no_terms q h [] upto one (counted n h is) no_items (omega arith) (λ s z. item_ended_holds p q upto s (array no_terms) (length q) one z refl))
   argued_holds p q h Map n upto ready is =
       let one = no_string p Map map_not ready in
       moved (filled_map p (length q) (Some n) no_pairs) (q ++ h) (q ++ (h ++ [])) (ap (λ (z : List ℕ). q ++ z) (sym (append-nil h)))
-      (map_holds p (Some n) no_pairs q h [] upto one (counted n h is) no_members tt (omega arith) (λ s z. give_holds p q upto s (map no_pairs) (length q) one z refl))
+      (map_holds p (Some n) no_pairs q h [] upto one (counted n h is) no_members tt (omega arith) (λ s z. item_ended_holds p q upto s (map no_pairs) (length q) one z refl))
   argued_holds p q h Tag n upto ready is = content_due p n q h upto (no_string p Tag tag_not ready) is
 
   -- the initial byte of a head
@@ -292,9 +292,9 @@ module _ (limits : Limits) where
   opened_holds p q b beginning.Members upto ready t =
       moved (due (at_key (length q) None no_pairs p)) (q ++ b ∷ []) (q ++ (opening 5 ∷ [] ++ [])) (ap (λ (x : ℕ). q ++ x ∷ []) t) (key_due p None no_pairs q (opening 5 ∷ []) [] upto ready until_break no_members tt tt)
   opened_holds p q b (beginning.Bool false) upto ready t =
-      moved (give p (length q) (boolean false)) (q ++ b ∷ []) (q ++ 0xf4 ∷ []) (ap (λ (x : ℕ). q ++ x ∷ []) t) (give_holds p q upto (0xf4 ∷ []) (boolean false) (length q) ready is_false refl)
+      moved (item_ended p (length q) (boolean false)) (q ++ b ∷ []) (q ++ 0xf4 ∷ []) (ap (λ (x : ℕ). q ++ x ∷ []) t) (item_ended_holds p q upto (0xf4 ∷ []) (boolean false) (length q) ready is_false refl)
   opened_holds p q b (beginning.Bool true) upto ready t =
-      moved (give p (length q) (boolean true)) (q ++ b ∷ []) (q ++ 0xf5 ∷ []) (ap (λ (x : ℕ). q ++ x ∷ []) t) (give_holds p q upto (0xf5 ∷ []) (boolean true) (length q) ready is_true refl)
+      moved (item_ended p (length q) (boolean true)) (q ++ b ∷ []) (q ++ 0xf5 ∷ []) (ap (λ (x : ℕ). q ++ x ∷ []) t) (item_ended_holds p q upto (0xf5 ∷ []) (boolean true) (length q) ready is_true refl)
 
   -- where an item may stand
   malformed_at : (p : Place) (b : ℕ) → ¬ IsChunkPlace p → IsReserved b ⊎ IsNeverOpen b ⊎ ((b ≡ stop) × ¬ TakesBreak p) → IsMalformed p b
@@ -313,17 +313,17 @@ module _ (limits : Limits) where
   break_shows : (p : Place) (q : List ℕ) (b : ℕ) → Upto limits p q → ¬ IsChunkPlace p → b ≡ stop → ¬ TakesBreak p → Shows limits (q ++ b ∷ []) 2 (length q)
   break_shows p q b upto not is takes = malformed p q b upto (malformed_at p b not (inr (inr (is, takes))))
 
-  broken_array : (a : ℕ) (ts : Terms) (p : Place) (q : List ℕ) (b : ℕ) → Upto limits (at_element a None ts p) q → b ≡ stop → Holds (q ++ b ∷ []) (give p a (array ts))
+  broken_array : (a : ℕ) (ts : Terms) (p : Place) (q : List ℕ) (b : ℕ) → Upto limits (at_element a None ts p) q → b ≡ stop → Holds (q ++ b ∷ []) (item_ended p a (array ts))
   broken_array a ts p q b (element_due r all us o h x upto admits until_break series more) is =
-      moved (give r (length o) (array us)) ((o ++ (opening 4 ∷ [] ++ x)) ++ b ∷ []) (o ++ (opening 4 ∷ (x ++ stop ∷ [])))
+      moved (item_ended r (length o) (array us)) ((o ++ (opening 4 ∷ [] ++ x)) ++ b ∷ []) (o ++ (opening 4 ∷ (x ++ stop ∷ [])))
       (append_assoc o (opening 4 ∷ x) (b ∷ []) ∙ ap (λ (z : ℕ). o ++ (opening 4 ∷ (x ++ z ∷ []))) is)
-      (give_holds r o upto (opening 4 ∷ (x ++ stop ∷ [])) (array us) (length o) admits (indefinite_array us x series) refl)
+      (item_ended_holds r o upto (opening 4 ∷ (x ++ stop ∷ [])) (array us) (length o) admits (indefinite_array us x series) refl)
 
-  broken_map : (a : ℕ) (ps : Pairs) (p : Place) (q : List ℕ) (b : ℕ) → Upto limits (at_key a None ps p) q → b ≡ stop → Holds (q ++ b ∷ []) (give p a (map ps))
+  broken_map : (a : ℕ) (ps : Pairs) (p : Place) (q : List ℕ) (b : ℕ) → Upto limits (at_key a None ps p) q → b ≡ stop → Holds (q ++ b ∷ []) (item_ended p a (map ps))
   broken_map a ps p q b (key_due r all us o h x upto admits until_break series rises more) is =
-      moved (give r (length o) (map us)) ((o ++ (opening 5 ∷ [] ++ x)) ++ b ∷ []) (o ++ (opening 5 ∷ (x ++ stop ∷ [])))
+      moved (item_ended r (length o) (map us)) ((o ++ (opening 5 ∷ [] ++ x)) ++ b ∷ []) (o ++ (opening 5 ∷ (x ++ stop ∷ [])))
       (append_assoc o (opening 5 ∷ x) (b ∷ []) ∙ ap (λ (z : ℕ). o ++ (opening 5 ∷ (x ++ z ∷ []))) is)
-      (give_holds r o upto (opening 5 ∷ (x ++ stop ∷ [])) (map us) (length o) admits (indefinite_map us x rises series) refl)
+      (item_ended_holds r o upto (opening 5 ∷ (x ++ stop ∷ [])) (map us) (length o) admits (indefinite_map us x rises series) refl)
 
   not_none : (n : ℕ) → Some n ≡ None → ⊥
   not_none n e = cc

@@ -9,7 +9,7 @@ use Rattle.cbor_det.specs.declared.initial.Initial.{Initial}
 use Rattle.cbor_det.specs.declared.initial.Initial.TheVariants.{Item}
 use Rattle.cbor_det.specs.declared.initial.Major.{Major}
 use Rattle.cbor_det.specs.declared.initial.Major.TheVariants.{String}
-use Rattle.cbor_det.specs.declared.kind.Kind.{Kind}
+use Rattle.cbor_det.specs.declared.string_kind.StringKind.{StringKind}
 use Rattle.cbor_det.specs.declared.limits.Limits.{Limits}
 use Rattle.cbor_det.specs.Initial.{initial_of}
 use Rattle.cbor_det.specs.Faults.{Place, top, start}
@@ -69,11 +69,11 @@ module _ (limits : Limits) where
       ∙ argument_part p (length w.before) m w.size (length w.before + 1) 0 w.came (omega (arith, len, some)))))
 
   -- a string's head, and the octets of the string that came
-  content_begins : (p : Place) (at : ℕ) (kind : Kind) (n : ℕ) → 1 ≤ n → string_begun p at kind n ≡ content p at kind n []
+  content_begins : (p : Place) (at : ℕ) (kind : StringKind) (n : ℕ) → 1 ≤ n → string_begun p at kind n ≡ content p at kind n []
   content_begins p at kind zero some = absurd (omega arith)
   content_begins p at kind (suc n) some = refl
 
-  content_runs : (o : List ℕ) (p : Place) (at : ℕ) (kind : Kind) (left : ℕ) (came : List ℕ) → length o ≤ limits.octets → InContent limits o p at kind left came
+  content_runs : (o : List ℕ) (p : Place) (at : ℕ) (kind : StringKind) (left : ℕ) (came : List ℕ) → length o ≤ limits.octets → InContent limits o p at kind left came
       → run limits 0 (due top) o ≡ (content p at kind left came, [])
   content_runs o p at kind left came short w =
       let l = length-append w.before (w.h ++ came) in

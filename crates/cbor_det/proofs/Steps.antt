@@ -5,8 +5,8 @@ use Rattle.std.proofs.lemmas.List.Sums.{fold_push}
 use Rattle.std.proofs.lemmas.Bool.{cond_both, both_ways}
 use Rattle.wire_base.specs.Numbers.{number_of}
 use Rattle.wire_base.specs.Layout.{AreOctets}
-use Rattle.cbor_det.specs.declared.kind.Kind.{Kind}
-use Rattle.cbor_det.specs.declared.kind.Kind.TheVariants.{ByteString, TextString}
+use Rattle.cbor_det.specs.declared.string_kind.StringKind.{StringKind}
+use Rattle.cbor_det.specs.declared.string_kind.StringKind.TheVariants.{ByteString, TextString}
 use Rattle.cbor_det.specs.declared.limits.Limits.{Limits}
 use Rattle.cbor_det.specs.declared.initial.Major.{Major}
 use Rattle.cbor_det.specs.declared.initial.Major.TheVariants.{Unsigned, Negative, String, Array, Map, Tag}
@@ -16,46 +16,46 @@ use Rattle.cbor_det.specs.declared.initial.Initial.TheVariants.{Item, Break, Flo
 use Rattle.cbor_det.specs.Initial.{initial_of, number_of_major}
 use Rattle.cbor_det.specs.Spelling.{IsHead, stop, opening, major_of, string, indefinite_string}
 use Rattle.cbor_det.specs.Faults.{Place, top, at_chunk, at_element, at_key, at_value, at_content, IsNoChunk, Upto, chunk_due, Shows, malformed, IsReserved, IsNeverOpen, major}
-use Rattle.cbor_det.specs.Machine.{State, due, argument, content, whole, faulty, give, string_ended, argued, opened, begun, chunk_begun, string_head, same_kind, step, run, is_over}
+use Rattle.cbor_det.specs.Machine.{State, due, argument, content, whole, faulty, item_ended, string_ended, argued, opened, begun, chunk_begun, string_head, same_kind, step, run, is_over}
 use Rattle.cbor_det.proofs.Told.{Tells, tells}
 use Rattle.cbor_det.proofs.Shown.{long_tells}
 use Rattle.cbor_det.proofs.Completes.{string_depth, chunks_part, string_item, string_ends}
 use Rattle.cbor_det.specs.Standing.{InArgument, InContent}
-use Rattle.cbor_det.proofs.Sound.{are_push, long_head, no_stop, Holds, moved, give_holds, argued_holds, ended_holds, direct_head, starts_argument, item_holds}
+use Rattle.cbor_det.proofs.Sound.{are_push, long_head, no_stop, Holds, moved, item_ended_holds, argued_holds, ended_holds, direct_head, starts_argument, item_holds}
 
-same_is : (kind other : Kind) → same_kind kind other ≡ true → other ≡ kind
+same_is : (kind other : StringKind) → same_kind kind other ≡ true → other ≡ kind
 same_is ByteString ByteString e = refl
 same_is ByteString TextString e = absurd (both_ways false refl e)
 same_is TextString ByteString e = absurd (both_ways false refl e)
 same_is TextString TextString e = refl
 
-same_not : (kind other : Kind) → same_kind kind other ≡ false → major_of other ≢ major_of kind
+same_not : (kind other : StringKind) → same_kind kind other ≡ false → major_of other ≢ major_of kind
 same_not ByteString ByteString e f = both_ways true e refl
 same_not ByteString TextString e f = omega (arith, f)
 same_not TextString ByteString e f = omega (arith, f)
 same_not TextString TextString e f = both_ways true e refl
 
-argued_is : (kind : Kind) (m : Major) (n : ℕ) → string_head kind (Item (beginning.Argued m n)) ≡ true → m ≡ String kind
+argued_is : (kind : StringKind) (m : Major) (n : ℕ) → string_head kind (Item (beginning.Argued m n)) ≡ true → m ≡ String kind
 argued_is kind Unsigned n e = absurd (both_ways false refl e)
 argued_is kind Negative n e = absurd (both_ways false refl e)
 argued_is kind Array n e = absurd (both_ways false refl e)
 argued_is kind Map n e = absurd (both_ways false refl e)
 argued_is kind Tag n e = absurd (both_ways false refl e)
-argued_is kind (String other) n e = ap (λ (k : Kind). String k) (same_is kind other e)
+argued_is kind (String other) n e = ap (λ (k : StringKind). String k) (same_is kind other e)
 
-argument_is : (kind : Kind) (m : Major) (n : ℕ) → string_head kind (Item (beginning.Argument m n)) ≡ true → m ≡ String kind
+argument_is : (kind : StringKind) (m : Major) (n : ℕ) → string_head kind (Item (beginning.Argument m n)) ≡ true → m ≡ String kind
 argument_is kind Unsigned n e = absurd (both_ways false refl e)
 argument_is kind Negative n e = absurd (both_ways false refl e)
 argument_is kind Array n e = absurd (both_ways false refl e)
 argument_is kind Map n e = absurd (both_ways false refl e)
 argument_is kind Tag n e = absurd (both_ways false refl e)
-argument_is kind (String other) n e = ap (λ (k : Kind). String k) (same_is kind other e)
+argument_is kind (String other) n e = ap (λ (k : StringKind). String k) (same_is kind other e)
 
-string_major : (kind : Kind) → (2 ≤ major_of kind) × (major_of kind ≤ 3)
+string_major : (kind : StringKind) → (2 ≤ major_of kind) × (major_of kind ≤ 3)
 string_major ByteString = (omega arith, omega arith)
 string_major TextString = (omega arith, omega arith)
 
-argued_not : (kind : Kind) (m : Major) (n : ℕ) → string_head kind (Item (beginning.Argued m n)) ≡ false → number_of_major m ≢ major_of kind
+argued_not : (kind : StringKind) (m : Major) (n : ℕ) → string_head kind (Item (beginning.Argued m n)) ≡ false → number_of_major m ≢ major_of kind
 argued_not kind Unsigned n e f = let k = string_major kind in omega (arith, f, k)
 argued_not kind Negative n e f = let k = string_major kind in omega (arith, f, k)
 argued_not kind Array n e f = let k = string_major kind in omega (arith, f, k)
@@ -63,7 +63,7 @@ argued_not kind Map n e f = let k = string_major kind in omega (arith, f, k)
 argued_not kind Tag n e f = let k = string_major kind in omega (arith, f, k)
 argued_not kind (String other) n e f = same_not kind other e f
 
-argument_not : (kind : Kind) (m : Major) (n : ℕ) → string_head kind (Item (beginning.Argument m n)) ≡ false → number_of_major m ≢ major_of kind
+argument_not : (kind : StringKind) (m : Major) (n : ℕ) → string_head kind (Item (beginning.Argument m n)) ≡ false → number_of_major m ≢ major_of kind
 argument_not kind Unsigned n e f = let k = string_major kind in omega (arith, f, k)
 argument_not kind Negative n e f = let k = string_major kind in omega (arith, f, k)
 argument_not kind Array n e f = let k = string_major kind in omega (arith, f, k)
@@ -79,30 +79,30 @@ never_stop b e (inl m) = omega (arith, e, m)
 never_stop b e (inr (inl m)) = omega (arith, e, m)
 never_stop b e (inr (inr m)) = omega (arith, e, m)
 
-reserved_no : (b : ℕ) (kind : Kind) → b < 256 → IsReserved b ⊎ IsNeverOpen b ⊎ (256 ≤ b) → IsNoChunk kind b
+reserved_no : (b : ℕ) (kind : StringKind) → b < 256 → IsReserved b ⊎ IsNeverOpen b ⊎ (256 ≤ b) → IsNoChunk kind b
 reserved_no b kind small (inl r) = ((λ e. omega (arith, e, r.1)), inr r.0)
 reserved_no b kind small (inr (inl r)) = ((λ e. never_stop b e r.1), inr (let e = r.0 in omega (arith, e)))
 reserved_no b kind small (inr (inr r)) = absurd (omega arith)
 
-seven_no : (b : ℕ) (kind : Kind) → b ≢ stop → b / 32 ≡ 7 → IsNoChunk kind b
+seven_no : (b : ℕ) (kind : StringKind) → b ≢ stop → b / 32 ≡ 7 → IsNoChunk kind b
 seven_no b kind ne seven = let k = string_major kind in (ne, inl (λ e. omega (arith, e, seven, k)))
 
 module _ (limits : Limits) where
-  -- a break behind chunks
-  chunks_end : (a : ℕ) (kind : Kind) (s : List ℕ) (p : Place) (q : List ℕ) (b : ℕ) → Upto limits (at_chunk a kind s p) q → b ≡ stop → Holds limits (q ++ b ∷ []) (string_ended p a kind s)
+  -- a break after chunks
+  chunks_end : (a : ℕ) (kind : StringKind) (s : List ℕ) (p : Place) (q : List ℕ) (b : ℕ) → Upto limits (at_chunk a kind s p) q → b ≡ stop → Holds limits (q ++ b ∷ []) (string_ended p a kind s)
   chunks_end a kind s p q b (chunk_due r k o u y upto admits parts) is =
       let P : State → Type 0 = λ σ. Holds limits ((o ++ opening (major_of k) ∷ y) ++ b ∷ []) σ in
       let d = string_depth k u in
-      let e : string_ended r (length o) k u ≡ give r (length o) (string k u) = string_ends limits r (length o) k u (chunks_part k u y parts) ∙ string_item limits r (length o) k u admits.0 in
+      let e : string_ended r (length o) k u ≡ item_ended r (length o) (string k u) = string_ends limits r (length o) k u (chunks_part k u y parts) ∙ string_item limits r (length o) k u admits.0 in
       subst P (sym e)
-      (moved limits (give r (length o) (string k u)) ((o ++ opening (major_of k) ∷ y) ++ b ∷ []) (o ++ (opening (major_of k) ∷ (y ++ stop ∷ [])))
+      (moved limits (item_ended r (length o) (string k u)) ((o ++ opening (major_of k) ∷ y) ++ b ∷ []) (o ++ (opening (major_of k) ∷ (y ++ stop ∷ [])))
       (append_assoc o (opening (major_of k) ∷ y) (b ∷ []) ∙ ap (λ (z : ℕ). o ++ (opening (major_of k) ∷ (y ++ z ∷ []))) is)
-      (give_holds limits r o upto (opening (major_of k) ∷ (y ++ stop ∷ [])) (string k u) (length o) (admits.0, omega (arith, d, admits.1)) (indefinite_string k u y parts) refl))
+      (item_ended_holds limits r o upto (opening (major_of k) ∷ (y ++ stop ∷ [])) (string k u) (length o) (admits.0, omega (arith, d, admits.1)) (indefinite_string k u y parts) refl))
 
-  chunk_fault : (a : ℕ) (kind : Kind) (s : List ℕ) (p : Place) (q : List ℕ) (b : ℕ) → Upto limits (at_chunk a kind s p) q → IsNoChunk kind b → Shows limits (q ++ b ∷ []) 2 (length q)
+  chunk_fault : (a : ℕ) (kind : StringKind) (s : List ℕ) (p : Place) (q : List ℕ) (b : ℕ) → Upto limits (at_chunk a kind s p) q → IsNoChunk kind b → Shows limits (q ++ b ∷ []) 2 (length q)
   chunk_fault a kind s p q b upto is = malformed (at_chunk a kind s p) q b upto is
 
-  chunk_begun_holds : (a : ℕ) (kind : Kind) (s : List ℕ) (p : Place) (q : List ℕ) (b : ℕ) (x : Initial) → Upto limits (at_chunk a kind s p) q → b < 256 → Tells b x
+  chunk_begun_holds : (a : ℕ) (kind : StringKind) (s : List ℕ) (p : Place) (q : List ℕ) (b : ℕ) (x : Initial) → Upto limits (at_chunk a kind s p) q → b < 256 → Tells b x
       → Holds limits (q ++ b ∷ []) (chunk_begun limits (length q) a kind s p x)
   unfolding opened
   chunk_begun_holds a kind s p q b Break upto small t = chunks_end a kind s p q b upto t
@@ -173,7 +173,7 @@ module _ (limits : Limits) where
         are = are_push w.came b w.are small;
       }
 
-  content_ends : (o : List ℕ) (b : ℕ) (p : Place) (at : ℕ) (kind : Kind) (s : List ℕ) → InContent limits o p at kind (suc zero) s → Holds limits (o ++ b ∷ []) (string_ended p at kind (s ++ b ∷ []))
+  content_ends : (o : List ℕ) (b : ℕ) (p : Place) (at : ℕ) (kind : StringKind) (s : List ℕ) → InContent limits o p at kind (suc zero) s → Holds limits (o ++ b ∷ []) (string_ended p at kind (s ++ b ∷ []))
   content_ends o b p at kind s w =
       let l = length-append s (b ∷ []) in
       let all : w.all ≡ length (s ++ b ∷ []) = (let len = w.len in omega (arith, l, len)) in
@@ -182,7 +182,7 @@ module _ (limits : Limits) where
       (ap (λ (z : List ℕ). z ++ b ∷ []) w.parts ∙ append_assoc w.before (w.h ++ s) (b ∷ []) ∙ ap (λ (z : List ℕ). w.before ++ z) (append_assoc w.h s (b ∷ [])))
       (ended_holds limits p w.before kind (s ++ b ∷ []) w.h at w.upto w.ready (subst P all w.is) w.at_is)
 
-  content_goes : (o : List ℕ) (b : ℕ) (p : Place) (at : ℕ) (kind : Kind) (left : ℕ) (s : List ℕ) → InContent limits o p at kind (suc (suc left)) s → InContent limits (o ++ b ∷ []) p at kind (suc left) (s ++ b ∷ [])
+  content_goes : (o : List ℕ) (b : ℕ) (p : Place) (at : ℕ) (kind : StringKind) (left : ℕ) (s : List ℕ) → InContent limits o p at kind (suc (suc left)) s → InContent limits (o ++ b ∷ []) p at kind (suc left) (s ++ b ∷ [])
   content_goes o b p at kind left s w =
       let l = length-append s (b ∷ []) in
       record {

@@ -1,15 +1,15 @@
--- What an initial byte tells of its octet.
+-- What an initial byte reports of its octet.
 use Rattle.std.proofs.Common.{◌≡◌, ℕ, ◌+◌, ◌*◌, ◌/◌, ◌%◌, ◌<◌, ◌≤◌, ◌⊎◌, true, false, refl, sym, ap, ◌∙◌, arith, inl, inr, subst}
 use Rattle.std.specs.Prelude.{◌==◌, nat_lt, nat_le, ◌&&◌}
 use Rattle.std.proofs.lemmas.Bool.{cond_both, eqb-true, eqb-false, ltb-true, ltb-false, leb-true, leb-false, and_parts, and_cases, cases_lt}
-use Rattle.cbor_det.specs.declared.kind.Kind.TheVariants.{ByteString, TextString}
+use Rattle.cbor_det.specs.declared.string_kind.StringKind.TheVariants.{ByteString, TextString}
 use Rattle.cbor_det.specs.declared.initial.Major.{Major}
 use Rattle.cbor_det.specs.declared.initial.Major.TheVariants.{Unsigned, Negative, String, Array, Map, Tag}
 use Rattle.cbor_det.specs.declared.initial.Beginning.{Beginning}
 use Rattle.cbor_det.specs.declared.initial.Beginning.TheVariants.{Argued, Argument, Chunks, Elements, Members, Bool as Boolean}
 use Rattle.cbor_det.specs.declared.initial.Initial.{Initial}
 use Rattle.cbor_det.specs.declared.initial.Initial.TheVariants.{Item, Break, Float, Simple, Malformed}
-use Rattle.cbor_det.specs.Initial.{number_of_major, headed, headed_or, simple_or_float, of_type, initial_of}
+use Rattle.cbor_det.specs.Initial.{number_of_major, head_of, head_or_indefinite, simple_or_float, of_type, initial_of}
 use Rattle.cbor_det.specs.Spelling.{stop, opening, major_of}
 use Rattle.cbor_det.specs.Standing.{BeginsHead, one_more, two_more, four_more, eight_more}
 use Rattle.cbor_det.specs.Faults.{IsReserved, IsNeverOpen, IsFloat, IsSimple, information}
@@ -38,8 +38,8 @@ rest_tells m b n is small (inl lt) high n4 n5 n6 n7 =
 rest_tells m b n is small (inr never) high n4 n5 n6 n7 = inr (inl never)
 
 -- a head that is no indefinite length, or of a type that has none
-headed_tells : (m : Major) (b n : ℕ) → b ≡ 32 * number_of_major m + n → n < 32 → (n < 31) ⊎ IsNeverOpen b → Tells b (headed m n)
-headed_tells m b n is small never =
+head_of_tells : (m : Major) (b n : ℕ) → b ≡ 32 * number_of_major m + n → n < 32 → (n < 31) ⊎ IsNeverOpen b → Tells b (head_of m n)
+head_of_tells m b n is small never =
     cond_both (nat_lt n 24) _ _ (Tells b) (λ e. (is, ltb-true n 24 e)) (λ e0.
     cond_both (n == 24) _ _ (Tells b) (λ e. long_at m b n 1 24 is (eqb-true n 24 e) one_more) (λ e1.
     cond_both (n == 25) _ _ (Tells b) (λ e. long_at m b n 2 25 is (eqb-true n 25 e) two_more) (λ e2.
@@ -59,9 +59,9 @@ below_25 n small (inr gt) (inl lt) ne = omega arith
 below_25 n small (inr gt) (inr lt) ne = absurd (ne (omega arith))
 
 -- a type that has an indefinite length
-or_tells : (m : Major) (b n : ℕ) (x : Beginning) → b ≡ 32 * number_of_major m + n → n < 32 → (n ≡ 31 → Tells b (Item x)) → Tells b (headed_or m n x)
+or_tells : (m : Major) (b n : ℕ) (x : Beginning) → b ≡ 32 * number_of_major m + n → n < 32 → (n ≡ 31 → Tells b (Item x)) → Tells b (head_or_indefinite m n x)
 or_tells m b n x is small opens =
-    cond_both (n == 31) _ _ (Tells b) (λ e. opens (eqb-true n 31 e)) (λ e. headed_tells m b n is small (inl (below_31 n small (eqb-false n 31 e))))
+    cond_both (n == 31) _ _ (Tells b) (λ e. opens (eqb-true n 31 e)) (λ e. head_of_tells m b n is small (inl (below_31 n small (eqb-false n 31 e))))
 
 simple_tells : (b n : ℕ) → b ≡ 32 * 7 + n → n < 32 → Tells b (simple_or_float n)
 simple_tells b n is small =
@@ -96,13 +96,13 @@ past b t n is n0 n1 n2 n3 n4 n5 n6 n7 = let high : 8 ≤ t = omega (arith, n0, n
 
 type_tells : (b t n : ℕ) → b ≡ 32 * t + n → n < 32 → Tells b (of_type t n)
 type_tells b t n is small =
-    cond_both (t == 0) _ _ (Tells b) (λ e. let f = eqb-true t 0 e in headed_tells Unsigned b n (omega (arith, f)) small (never b n 0 (omega (arith, f)) small (inl refl))) (λ e0.
-    cond_both (t == 1) _ _ (Tells b) (λ e. let f = eqb-true t 1 e in headed_tells Negative b n (omega (arith, f)) small (never b n 1 (omega (arith, f)) small (inr (inl refl)))) (λ e1.
+    cond_both (t == 0) _ _ (Tells b) (λ e. let f = eqb-true t 0 e in head_of_tells Unsigned b n (omega (arith, f)) small (never b n 0 (omega (arith, f)) small (inl refl))) (λ e0.
+    cond_both (t == 1) _ _ (Tells b) (λ e. let f = eqb-true t 1 e in head_of_tells Negative b n (omega (arith, f)) small (never b n 1 (omega (arith, f)) small (inr (inl refl)))) (λ e1.
     cond_both (t == 2) _ _ (Tells b) (λ e. let f = eqb-true t 2 e in or_tells (String ByteString) b n (Chunks ByteString) (omega (arith, f)) small (λ g. omega (arith, f, g))) (λ e2.
     cond_both (t == 3) _ _ (Tells b) (λ e. let f = eqb-true t 3 e in or_tells (String TextString) b n (Chunks TextString) (omega (arith, f)) small (λ g. omega (arith, f, g))) (λ e3.
     cond_both (t == 4) _ _ (Tells b) (λ e. let f = eqb-true t 4 e in or_tells Array b n Elements (omega (arith, f)) small (λ g. omega (arith, f, g))) (λ e4.
     cond_both (t == 5) _ _ (Tells b) (λ e. let f = eqb-true t 5 e in or_tells Map b n Members (omega (arith, f)) small (λ g. omega (arith, f, g))) (λ e5.
-    cond_both (t == 6) _ _ (Tells b) (λ e. let f = eqb-true t 6 e in headed_tells Tag b n (omega (arith, f)) small (never b n 6 (omega (arith, f)) small (inr (inr refl)))) (λ e6.
+    cond_both (t == 6) _ _ (Tells b) (λ e. let f = eqb-true t 6 e in head_of_tells Tag b n (omega (arith, f)) small (never b n 6 (omega (arith, f)) small (inr (inr refl)))) (λ e6.
     cond_both (t == 7) _ _ (Tells b) (λ e. let f = eqb-true t 7 e in simple_tells b n (omega (arith, f)) small) (λ e7.
     inr (inr (past b t n is (eqb-false t 0 e0) (eqb-false t 1 e1) (eqb-false t 2 e2) (eqb-false t 3 e3) (eqb-false t 4 e4) (eqb-false t 5 e5) (eqb-false t 6 e6) (eqb-false t 7 e7)))))))))))
 

@@ -3,15 +3,15 @@ use Rattle.std.proofs.Common.{◌≡◌, ℕ, ◌+◌, ◌^◌, ◌<◌, ◌≤�
 use Rattle.std.specs.Prelude.{nat_lt}
 use Rattle.std.proofs.lemmas.List.{append-nil, take_at}
 use Rattle.std.proofs.lemmas.Bool.{cond_both, ltb-true}
-use Rattle.cbor_det.specs.declared.kind.Kind.{Kind}
-use Rattle.cbor_det.specs.declared.kind.Kind.TheVariants.{ByteString, TextString}
+use Rattle.cbor_det.specs.declared.string_kind.StringKind.{StringKind}
+use Rattle.cbor_det.specs.declared.string_kind.StringKind.TheVariants.{ByteString, TextString}
 use Rattle.cbor_det.specs.declared.limits.Limits.{Limits}
 use Rattle.cbor_det.specs.Term.{Term, Terms, Pairs, integer, octets, text, array, map, tagged, boolean, no_terms, term, no_pairs, pair, count, pair_count, plus, depth}
 use Rattle.cbor_det.specs.Canonical.{Form, direct, one, two, four, eight, bound, shortest, short_head, canon, canon_terms, canon_pairs}
 use Rattle.cbor_det.specs.Spelling.{IsHead, IsPart, string, PutsIn, here, later, Spelling, Series, PairSeries, unsigned, negative, definite_string, indefinite_string, definite_array, indefinite_array, definite_map, indefinite_map, under_tag, is_false, is_true, no_items, item, no_members, member}
 use Rattle.cbor_det.specs.Faults.{top, Begins}
 use Rattle.cbor_det.specs.Proper.{IsProper, AreProper, ArePairsProper}
-use Rattle.cbor_det.specs.Machine.{due, whole, give, run}
+use Rattle.cbor_det.specs.Machine.{due, whole, item_ended, run}
 use Rattle.cbor_det.proofs.Completes.{reads, chunks_part}
 use Rattle.cbor_det.proofs.Shown.{ended}
 use Rattle.cbor_det.proofs.Counts.{most, terms_most, pairs_most, spelled_most, canon_most}
@@ -39,7 +39,7 @@ below_bound eight = omega arith
 pub head_small : (major n : ℕ) (h : List ℕ) → IsHead major n h → n < 2 ^ 64
 head_small major n h is = let b = below_bound is.form in let f = is.fits in omega (arith, b, f)
 
--- series with one more in front
+-- series with one more before
 
 series_cons : (t : Term) (o : List ℕ) → Spelling t o → (ts : Terms) (r : List ℕ) → Series ts r → Series (term t ts) (o ++ r)
 series_cons t o spelled ts r no_items = let P : List ℕ → Type 0 = λ x. Series (term t no_terms) x in subst P (sym (append-nil o)) (item no_terms t [] o no_items spelled)
@@ -73,13 +73,13 @@ each_pairs : (ps : Pairs) → EachPair ps → PairSeries ps (canon_pairs ps)
 each_pairs no_pairs each = no_members
 each_pairs (pair k v ps) each = pairs_cons k v (canon k) (canon v) each.0 each.1 ps (canon_pairs ps) (each_pairs ps each.2)
 
-string_written : (kind : Kind) (s : List ℕ) → IsPart kind s → length s < 2 ^ 64 → Spelling (string kind s) (canon (string kind s))
+string_written : (kind : StringKind) (s : List ℕ) → IsPart kind s → length s < 2 ^ 64 → Spelling (string kind s) (canon (string kind s))
 string_written ByteString s part small = definite_string ByteString s (short_head 2 (length s)) part (short_is 2 (length s) small)
 string_written TextString s part small = definite_string TextString s (short_head 3 (length s)) part (short_is 3 (length s) small)
 
 -- proper items
 
-string_proper : (kind : Kind) (s : List ℕ) → IsPart kind s → IsProper (string kind s)
+string_proper : (kind : StringKind) (s : List ℕ) → IsPart kind s → IsProper (string kind s)
 string_proper ByteString s part = tt
 string_proper TextString s part = part
 
@@ -116,7 +116,8 @@ mutual
       proper_puts k v qs more puts (pairs_proper qs u series) (spelled_proper k o key) (spelled_proper v q value)
 
 mutual
-  -- A proper item is spelled by its canonical spelling, where each part has fewer than 2 ^ 64 of them.
+  -- A proper item is spelled by its canonical spelling, where each part has fewer than 2 ^ 64 of
+  -- them.
   pub few_spelled : (t : Term) → IsProper t → most t < 2 ^ 64 → Spelling t (canon t)
   few_spelled (integer (pos n)) proper few = unsigned n (short_head 0 n) proper (short_is 0 n (let l : n < 2 ^ 63 = proper in omega (arith, l)))
   few_spelled (integer (negsuc n)) proper few = negative n (short_head 1 n) proper (short_is 1 n (let l : n < 2 ^ 63 = proper in omega (arith, l)))
@@ -155,7 +156,7 @@ proper_spelled t proper small = few_spelled t proper (let l = canon_most t in om
 -- unambiguous and prefix-free
 
 reads_whole : (limits : Limits) (t : Term) (o x : List ℕ) → Spelling t o → length o ≤ limits.octets → depth t ≤ limits.depth → run limits 0 (due top) (o ++ x) ≡ (whole t, x)
-unfolding give
+unfolding item_ended
 reads_whole limits t o x spelled room deep =
     reads limits t o spelled top 0 x ((λ e. e), omega arith) (omega arith) ∙ ended limits (0 + length o) t x
 
@@ -165,7 +166,8 @@ one_item t u o q x y first second e =
     let limits : Limits = record { octets = length o + length q; depth = depth t + depth u } in
     same_whole t u x y (sym (reads_whole limits t o x first (omega arith) (omega arith)) ∙ ap (λ (z : List ℕ). run limits 0 (due top) z) e ∙ reads_whole limits u q y second (omega arith) (omega arith))
 
--- Two proper items with one canonical spelling are one, where each part has fewer than 2 ^ 64 of them.
+-- Two proper items with one canonical spelling are one, where each part has fewer than 2 ^ 64 of
+-- them.
 pub few_same : (t u : Term) → IsProper t → IsProper u → most t < 2 ^ 64 → most u < 2 ^ 64 → canon t ≡ canon u → t ≡ u
 few_same t u first second few less e =
     (one_item t u (canon t) (canon u) [] [] (few_spelled t first few) (few_spelled u second less) (ap (λ (z : List ℕ). z ++ []) e)).0

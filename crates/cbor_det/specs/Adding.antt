@@ -9,8 +9,8 @@ use Rattle.cbor_det.specs.Canonical.{canon}
 use Rattle.cbor_det.specs.Spelling.{PutsIn}
 use Rattle.cbor_det.specs.Faults.{keys}
 
--- The key was not held, and the pairs are as before with this one among them; or they are as before, `Doubled` exactly where
--- the key was held.
+-- The key was not held, and the pairs are as before with this one among them; or they are as
+-- before, `Doubled` exactly where the key was held.
 abbrev pub IsAdded : {A : Type 0} → Term → Term → Result A PairRefused → Pairs → Pairs → Type 0
 IsAdded k v (Ok done) before after = (¬ Contains (keys before) (canon k)) × PutsIn k v before after
 IsAdded k v (Err refused.Doubled) before after = Contains (keys before) (canon k) × (after ≡ before)

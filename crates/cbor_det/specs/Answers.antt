@@ -13,7 +13,7 @@ abbrev pub IsRefusal : Limits → List ℕ → CborRefused → Type 0
 IsRefusal limits input (refused.Fault f) = IsFault limits input f.kind f.at ⊎ ((f.kind ≡ 1) × (f.at ≡ length input) × IsCut limits input)
 IsRefusal limits input refused.Memory = Unit {0}
 
--- The answer is this item with so many octets, unless memory ran out.
+-- The answer is this item with that many octets, unless memory ran out.
 abbrev pub GivesItem : Term → ℕ → Result (Item × ℕ) CborRefused → Type 0
 GivesItem t n (Ok read) = (view read.0 ≡ t) × (read.1 ≡ n)
 GivesItem t n (Err (refused.Fault f)) = ⊥

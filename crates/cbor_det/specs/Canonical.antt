@@ -3,7 +3,8 @@ use Rattle.std.specs.Prelude.{ℕ, ◌+◌, ◌*◌, ◌^◌, pos, negsuc, true,
 use Rattle.wire_base.specs.Numbers.{octets_of}
 use Rattle.cbor_det.specs.Term.{Term, Terms, Pairs, integer, octets, text, array, map, tagged, boolean, no_terms, term, no_pairs, pair, count, pair_count}
 
--- How the argument of a head is spelled (section 3): in the initial byte itself, or in so many octets behind it.
+-- How the argument of a head is spelled (section 3): in the initial byte itself, or in that many
+-- octets after it.
 pub data Form : Type 0 where
   direct : Form
   one : Form
@@ -19,7 +20,8 @@ bound two = 2 ^ 16
 bound four = 2 ^ 32
 bound eight = 2 ^ 64
 
--- A head is the initial byte, with the major type and what says where the argument is, and the octets of the argument.
+-- A head is the initial byte, with the major type and what says where the argument is, and the
+-- octets of the argument.
 abbrev pub head : Form → ℕ → ℕ → List ℕ
 head direct major n = (32 * major + n) ∷ []
 head one major n = (32 * major + 24) ∷ octets_of 1 n

@@ -29,7 +29,7 @@ IsSpentAt progress.OutOfMemory = Unit {0}
 IsSpentAt (progress.Reading reading) = ⊥
 IsSpentAt (progress.Failed f) = ⊥
 
--- The feed has answered want of memory.
+-- The feed has answered that memory ran out.
 abbrev pub IsSpent : CborFeed → Type 0
 IsSpent feed = IsSpentAt feed.progress
 
@@ -42,12 +42,13 @@ IsReleasedAt (progress.Reading reading) frames = Unit {0}
 IsReleasedAt (progress.Failed f) frames = frames ≡ []
 IsReleasedAt progress.OutOfMemory frames = frames ≡ []
 
--- Where the feed has answered a fault or want of memory, it holds nothing of the arrays and maps that were open.
+-- Where the feed has answered a fault or that memory ran out, it holds nothing of the arrays and
+-- maps that were open.
 abbrev pub IsReleased : CborFeed → Type 0
 IsReleased feed = IsReleasedAt feed.progress feed.stack.items
 
--- The answer for a piece behind octets that were taken, and the feed afterwards: More exactly where the joined octets are
--- neither an item nor a fault, and behind an item the next one begins.
+-- The answer for a piece after octets that were taken, and the feed afterwards: More exactly where
+-- the joined octets are neither an item nor a fault, and after an item the next one begins.
 abbrev pub IsFed : Limits → List ℕ → List ℕ → CborFed → CborFeed → Type 0
 IsFed limits before piece fed.More new = IsCut limits (before ++ piece) × HasTaken new (before ++ piece)
 IsFed limits before piece (fed.Done item used) new =

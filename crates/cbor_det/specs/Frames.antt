@@ -1,11 +1,12 @@
--- The state of the machine as the code has it, at the place of its frames, and what fits the types of the code.
+-- The state of the machine as the code has it, at the place of its frames, and what fits the types
+-- of the code.
 use Rattle.std.specs.Prelude.{◌≡◌, ◌<◌, ◌≤◌, ◌-◌, ◌^◌, ℕ, List, ◌++◌, Option, Some, None}
 use Rattle.std.specs.Coded.{Unit-prop, le_prop}
 use Rattle.cbor_det.specs.declared.frame.Phase.{Phase}
 use Rattle.cbor_det.specs.declared.frame.Phase.TheVariants as phase
-use Rattle.cbor_det.specs.declared.frame.Stepped.{Stepped}
-use Rattle.cbor_det.specs.declared.frame.Stepped.TheVariants as stepped
-use Rattle.cbor_det.specs.declared.kind.Kind.{Kind}
+use Rattle.cbor_det.specs.declared.frame.StepOutcome.{StepOutcome}
+use Rattle.cbor_det.specs.declared.frame.StepOutcome.TheVariants as step_outcome
+use Rattle.cbor_det.specs.declared.string_kind.StringKind.{StringKind}
 use Rattle.cbor_det.specs.View.{view}
 use Rattle.cbor_det.specs.Faults.{Place, at_chunk}
 use Rattle.cbor_det.specs.declared.initial.Beginning.{Beginning}
@@ -19,10 +20,10 @@ phase_state p phase.Due = due p
 phase_state p (phase.Head head) = argument p head.at head.major head.left head.number
 phase_state p (phase.String string) = content p string.at string.kind string.left string.came
 
-abbrev pub state_of : Place → Stepped → State
-state_of p (stepped.Goes phase) = phase_state p phase
-state_of p (stepped.Whole item) = whole (view item)
-state_of p (stepped.Fault fault) = faulty fault.kind fault.at
+abbrev pub state_of : Place → StepOutcome → State
+state_of p (step_outcome.Goes phase) = phase_state p phase
+state_of p (step_outcome.Whole item) = whole (view item)
+state_of p (step_outcome.Fault fault) = faulty fault.kind fault.at
 
 -- An argument has 8 octets at most, so it fits 64 bits.
 pub record ArgumentFits (left number : ℕ) : Type 0 where
@@ -35,25 +36,25 @@ Fits phase.Due = Unit {0}
 Fits (phase.Head head) = ArgumentFits head.left head.number
 Fits (phase.String string) = 1 ≤ string.left
 
--- The octets that are taken at once are one, or so many of a definite string.
+-- The octets that are taken at once are one, or that many of a definite string.
 abbrev pub Takes : Phase → ℕ → Type 0
 Takes phase.Due count = count ≡ 1
 Takes (phase.Head head) count = count ≡ 1
 Takes (phase.String string) count = (1 ≤ count) × (count ≤ string.left)
 
-abbrev pub StepFits : Stepped → Type 0
-StepFits (stepped.Goes phase) = Fits phase
-StepFits (stepped.Whole item) = Unit {0}
-StepFits (stepped.Fault fault) = Unit {0}
+abbrev pub StepFits : StepOutcome → Type 0
+StepFits (step_outcome.Goes phase) = Fits phase
+StepFits (step_outcome.Whole item) = Unit {0}
+StepFits (step_outcome.Fault fault) = Unit {0}
 
--- An item ends behind an octet.
-abbrev pub EndsBehindSome : Stepped → ℕ → Type 0
-EndsBehindSome (stepped.Goes phase) used = Unit {0}
-EndsBehindSome (stepped.Whole item) used = 0 < used
-EndsBehindSome (stepped.Fault fault) used = Unit {0}
+-- An item ends after an octet.
+abbrev pub EndsBehindSome : StepOutcome → ℕ → Type 0
+EndsBehindSome (step_outcome.Goes phase) used = Unit {0}
+EndsBehindSome (step_outcome.Whole item) used = 0 < used
+EndsBehindSome (step_outcome.Fault fault) used = Unit {0}
 
 -- the kind of the string of which a chunk is due
-abbrev pub chunk_kind : Place → Option Kind
+abbrev pub chunk_kind : Place → Option StringKind
 chunk_kind (at_chunk at kind joined round) = Some kind
 chunk_kind p = None
 

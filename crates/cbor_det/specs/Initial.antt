@@ -1,6 +1,6 @@
 -- What an initial byte says: RFC 8949, section 3, and appendix B.
 use Rattle.std.specs.Prelude.{ℕ, ◌/◌, ◌%◌, ◌==◌, ◌&&◌, false, true, nat_lt, nat_le, if◌then◌else◌}
-use Rattle.cbor_det.specs.declared.kind.Kind.TheVariants.{ByteString, TextString}
+use Rattle.cbor_det.specs.declared.string_kind.StringKind.TheVariants.{ByteString, TextString}
 use Rattle.cbor_det.specs.declared.initial.Major.{Major}
 use Rattle.cbor_det.specs.declared.initial.Major.TheVariants.{Unsigned, Negative, String, Array, Map, Tag}
 use Rattle.cbor_det.specs.declared.initial.Beginning.{Beginning}
@@ -18,8 +18,8 @@ number_of_major Map = 5
 number_of_major Tag = 6
 
 -- the head of a type, from its additional information
-abbrev pub headed : Major → ℕ → Initial
-headed major information =
+abbrev pub head_of : Major → ℕ → Initial
+head_of major information =
     if nat_lt information 24 then Item (Argued major information)
     else if information == 24 then Item (Argument major 1)
     else if information == 25 then Item (Argument major 2)
@@ -28,8 +28,8 @@ headed major information =
     else Malformed
 
 -- the head of a type that may have an indefinite length
-abbrev pub headed_or : Major → ℕ → Beginning → Initial
-headed_or major information indefinite = if information == 31 then Item indefinite else headed major information
+abbrev pub head_or_indefinite : Major → ℕ → Beginning → Initial
+head_or_indefinite major information indefinite = if information == 31 then Item indefinite else head_of major information
 
 -- major type 7
 abbrev pub simple_or_float : ℕ → Initial
@@ -43,13 +43,13 @@ simple_or_float information =
 
 abbrev pub of_type : ℕ → ℕ → Initial
 of_type type information =
-    if type == 0 then headed Unsigned information
-    else if type == 1 then headed Negative information
-    else if type == 2 then headed_or (String ByteString) information (Chunks ByteString)
-    else if type == 3 then headed_or (String TextString) information (Chunks TextString)
-    else if type == 4 then headed_or Array information Elements
-    else if type == 5 then headed_or Map information Members
-    else if type == 6 then headed Tag information
+    if type == 0 then head_of Unsigned information
+    else if type == 1 then head_of Negative information
+    else if type == 2 then head_or_indefinite (String ByteString) information (Chunks ByteString)
+    else if type == 3 then head_or_indefinite (String TextString) information (Chunks TextString)
+    else if type == 4 then head_or_indefinite Array information Elements
+    else if type == 5 then head_or_indefinite Map information Members
+    else if type == 6 then head_of Tag information
     else if type == 7 then simple_or_float information
     else Malformed
 

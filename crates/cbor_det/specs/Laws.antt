@@ -13,7 +13,7 @@ use Rattle.cbor_det.specs.Proper.{IsProper}
 abbrev pub OneItem : Type 0
 OneItem = (t u : Term) (o q x y : List ℕ) → Spelling t o → Spelling u q → o ++ x ≡ q ++ y → (t ≡ u) × (x ≡ y)
 
--- A member of a map, as it comes: a spelling of its key, and behind it one of its value.
+-- A member of a map, as it comes: a spelling of its key, and after it one of its value.
 pub record Member : Type 0 where
   pub key : Term
   pub value : Term
@@ -27,7 +27,8 @@ abbrev pub joined : List Member → List ℕ
 joined [] = []
 joined (m ∷ ms) = (m.key_octets ++ m.value_octets) ++ joined ms
 
--- The order in which the members of a map come does not matter: in each other order they spell the same pairs.
+-- The order in which the members of a map come does not matter: in each other order they spell the
+-- same pairs.
 abbrev pub OrderIsFree : Type 0
 OrderIsFree = (ps : Pairs) (ms ns : List Member) → IsPermutation ms ns → PairSeries ps (joined ms) → PairSeries ps (joined ns)
 

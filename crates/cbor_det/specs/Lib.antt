@@ -1,6 +1,7 @@
 pub mod Term
 pub mod Canonical
 pub mod Spelling
+pub mod FaultKinds
 pub mod Faults
 pub mod Proper
 pub mod Initial
@@ -9,10 +10,10 @@ pub mod View
 pub mod Open
 pub mod Held
 pub mod Frames
-pub mod Giving
+pub mod Absorbing
 pub mod Answers
 pub mod Standing
-pub mod Coming
+pub mod Pieces
 pub mod Feeding
 pub mod Laws
 pub mod Lookup

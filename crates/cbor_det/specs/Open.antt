@@ -24,8 +24,8 @@ entries_view (e ∷ es) = pair (view (out-Pair e.1).key) (view (out-Pair e.1).va
 abbrev pub AreSpelled : List Entry → Type 0
 AreSpelled es = All (λ (e : Entry). e.0.items ≡ canon (view (out-Pair e.1).key)) es
 
--- What an open map makes of an item. Where no key is due it is a key: false where that is held, and else its value is due.
--- Where one is due it is the value of that key.
+-- What an open map makes of an item. Where no key is due it is a key: false where that is held, and
+-- else its value is due. Where one is due it is the value of that key.
 abbrev pub IsTaken : Pairs → Option Term → Term → Bool → Pairs → Option Term → Type 0
 IsTaken ps None k free more next = (free ≡ not (is_held ps (canon k))) × (free ≡ true → (more ≡ ps) × (next ≡ Some k))
 IsTaken ps (Some k) v free more next = (free ≡ true) × (more ≡ insert k v ps) × (next ≡ None)

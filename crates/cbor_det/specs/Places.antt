@@ -28,7 +28,7 @@ abbrev pub IsFound : Term → List Pair → Option ℕ → Type 0
 IsFound k xs None = Contains (keys (listed xs)) (canon k)
 IsFound k xs (Some place) = IsPlace k xs place
 
--- how many pairs at the front have keys that are below this one
+-- how many pairs at the start have keys that are below this one
 abbrev pub front_length : Term → List Pair → ℕ
 front_length k [] = 0
 front_length k (x ∷ xs) = if is_above k (pair_view x).0 then suc (front_length k xs) else 0

@@ -1,6 +1,7 @@
 //! What begins or ends at an initial byte.
 
 ghost use Rattle.std.specs.Prelude.{◌≡◌, ◌<◌, ℕ, IfOk};
+ghost use Rattle.cbor_det.specs.FaultKinds.{fault_number};
 ghost use Rattle.cbor_det.specs.Faults.{Place};
 ghost use Rattle.cbor_det.specs.Standing.{inside, place};
 ghost use Rattle.cbor_det.specs.Frames.{state_of, StepFits, chunk_kind, low_kind, end_state, BeginFits};
@@ -8,56 +9,59 @@ ghost use Rattle.cbor_det.specs.Machine.{begun, due, opened, step, string_head};
 ghost use Rattle.cbor_det.specs.declared.initial.Initial.TheVariants as initial;
 ghost use Rattle.cbor_det.specs.declared.initial.Beginning.TheVariants as beginning;
 ghost use Rattle.cbor_det.specs.declared.initial.Major.TheVariants as major;
-ghost use Rattle.cbor_det.specs.declared.frame.Stepped.TheVariants as stepped;
+ghost use Rattle.cbor_det.specs.declared.frame.StepOutcome.TheVariants as step_outcome;
 
-use crate::fault::{CborFault, DEPTH, FLOAT, MALFORMED, SIMPLE};
-use crate::frame::{Frame, PartialHead, Phase, Stepped};
-use crate::give::{give, opens};
-use crate::head::argued;
+use crate::fault::{CborFault, CborFaultKind};
+use crate::frame::{Frame, PartialHead, Phase, StepOutcome};
+use crate::head::item_from_head;
 use crate::initial::{Beginning, Initial, Major, initial_of};
 use crate::item::Item;
-use crate::kind::Kind;
 use crate::limits::Limits;
+use crate::nesting::{close_item, open_frame};
 use crate::string::string_ended;
+use crate::string_kind::StringKind;
 use std::alloc::Global;
 use wire_base::Memory;
 
 /// Begins or ends what an initial byte says, after `taken` octets of the item.
-pub(crate) fn begun(
+pub(crate) fn read_initial_byte(
     alloc: Global,
     limits: Limits,
     taken: u64,
     stack: &mut Vec<Frame>,
     octet: u8,
-) -> Result<Stepped, Memory>
+) -> Result<StepOutcome, Memory>
     requires room { taken < limits.octets }
     ensures stepped { IfOk result (λ came. state_of (place stack.new.items) came ≡ step limits taken (due (place stack.old.items)) octet) }
     ensures fits { IfOk result StepFits }
 {
     match initial_of(octet) {
-        Initial::Item(beginning) => begin(alloc, limits, taken, stack, beginning),
-        Initial::Break => end(alloc, taken, stack),
-        Initial::Float => Ok(refused(stack.as_slice(), taken, FLOAT)),
-        Initial::Simple => Ok(refused(stack.as_slice(), taken, SIMPLE)),
-        Initial::Malformed => Ok(refused(stack.as_slice(), taken, MALFORMED)),
+        Initial::Item(beginning) => start_item(alloc, limits, taken, stack, beginning),
+        Initial::Break => read_break(alloc, taken, stack),
+        Initial::Float => Ok(refused(stack.as_slice(), taken, CborFaultKind::Float)),
+        Initial::Simple => Ok(refused(stack.as_slice(), taken, CborFaultKind::Simple)),
+        Initial::Malformed => Ok(refused(stack.as_slice(), taken, CborFaultKind::Malformed)),
     }
 }
 
 /// A fault of this kind, or a malformed chunk where a chunk is due.
-fn refused(stack: &[Frame], at: u64, kind: u8) -> Stepped
-    ensures fault { result ≡ stepped.Fault (record { kind = low_kind (place stack.now) kind; at = at }) }
+fn refused(stack: &[Frame], at: u64, kind: CborFaultKind) -> StepOutcome
+    ensures fault { result ≡ step_outcome.Fault (record { kind = low_kind (place stack.now) (fault_number kind); at = at }) }
 {
     match chunk_due(stack) {
-        None => Stepped::Fault(CborFault { kind, at }),
-        Some(_) => Stepped::Fault(CborFault {
-            kind: MALFORMED,
+        None => StepOutcome::Fault(CborFault {
+            kind: kind as u8,
+            at,
+        }),
+        Some(_) => StepOutcome::Fault(CborFault {
+            kind: CborFaultKind::Malformed as u8,
             at,
         }),
     }
 }
 
 /// The kind of the string of which a chunk is due; `None` where an item is.
-pub(crate) fn chunk_due(stack: &[Frame]) -> Option<Kind>
+pub(crate) fn chunk_due(stack: &[Frame]) -> Option<StringKind>
     ensures kind { result ≡ chunk_kind (place stack.now) }
 {
     match stack.last() {
@@ -67,7 +71,7 @@ pub(crate) fn chunk_due(stack: &[Frame]) -> Option<Kind>
 }
 
 /// The kind of the string that is open.
-fn kind_of(frame: &Frame) -> Option<Kind>
+fn kind_of(frame: &Frame) -> Option<StringKind>
     ensures kind { (p : Place) → result ≡ chunk_kind (inside p frame.now) }
 {
     match frame {
@@ -79,13 +83,13 @@ fn kind_of(frame: &Frame) -> Option<Kind>
 }
 
 /// Begins an item, or a chunk where one is due.
-fn begin(
+fn start_item(
     alloc: Global,
     limits: Limits,
     taken: u64,
     stack: &mut Vec<Frame>,
     beginning: Beginning,
-) -> Result<Stepped, Memory>
+) -> Result<StepOutcome, Memory>
     requires room { taken < limits.octets }
     requires head { BeginFits beginning }
     ensures begun { IfOk result
@@ -96,27 +100,27 @@ fn begin(
     match due {
         Some(kind) => {
             if !is_chunk(kind, beginning) {
-                return Ok(Stepped::Fault(CborFault {
-                    kind: MALFORMED,
+                return Ok(StepOutcome::Fault(CborFault {
+                    kind: CborFaultKind::Malformed as u8,
                     at: taken,
                 }));
             }
-            opened(alloc, limits, taken, stack, beginning)
+            start_allowed_item(alloc, limits, taken, stack, beginning)
         }
         None => {
             if stack.len() as u64 >= u64::from(limits.depth) {
-                return Ok(Stepped::Fault(CborFault {
-                    kind: DEPTH,
+                return Ok(StepOutcome::Fault(CborFault {
+                    kind: CborFaultKind::Depth as u8,
                     at: taken,
                 }));
             }
-            opened(alloc, limits, taken, stack, beginning)
+            start_allowed_item(alloc, limits, taken, stack, beginning)
         }
     }
 }
 
 /// Whether this is the head of a chunk of the kind.
-fn is_chunk(kind: Kind, beginning: Beginning) -> bool
+fn is_chunk(kind: StringKind, beginning: Beginning) -> bool
     ensures chunk { result ≡ string_head kind (initial.Item beginning) }
 {
     match beginning {
@@ -130,7 +134,7 @@ fn is_chunk(kind: Kind, beginning: Beginning) -> bool
 }
 
 /// Whether the major type is that of strings of the kind.
-fn is_string(kind: Kind, major: Major) -> bool
+fn is_string(kind: StringKind, major: Major) -> bool
     ensures argued { (n : ℕ) → result ≡ string_head kind (initial.Item (beginning.Argued major n)) }
     ensures argument { (left : ℕ) → result ≡ string_head kind (initial.Item (beginning.Argument major left)) }
 {
@@ -146,20 +150,20 @@ fn is_string(kind: Kind, major: Major) -> bool
 
 /// Begins what may stand here.
 #[tactic(auto, unfolding(crate::specs::Machine::opened))]
-fn opened(
+fn start_allowed_item(
     alloc: Global,
     limits: Limits,
     taken: u64,
     stack: &mut Vec<Frame>,
     beginning: Beginning,
-) -> Result<Stepped, Memory>
+) -> Result<StepOutcome, Memory>
     requires room { taken < limits.octets }
     requires head { BeginFits beginning }
     ensures opened { IfOk result (λ came. state_of (place stack.new.items) came ≡ opened limits taken (place stack.old.items) beginning) }
     ensures fits { IfOk result StepFits }
 {
     match beginning {
-        Beginning::Argued(major, argument) => argued(
+        Beginning::Argued(major, argument) => item_from_head(
             alloc,
             limits,
             taken + 1,
@@ -168,38 +172,39 @@ fn opened(
             major,
             argument,
         ),
-        Beginning::Argument(major, left) => Ok(Stepped::Goes(Phase::Head(PartialHead::new(
+        Beginning::Argument(major, left) => Ok(StepOutcome::Goes(Phase::Head(PartialHead::new(
             taken, major, left,
         )))),
-        Beginning::Chunks(kind) => opens(stack, Frame::chunks(alloc, taken, kind)),
-        Beginning::Elements => opens(stack, Frame::elements(alloc, taken, None)),
-        Beginning::Members => opens(stack, Frame::map(alloc, taken, None)),
-        Beginning::Bool(value) => give(alloc, stack, taken, Item::Bool(value)),
+        Beginning::Chunks(kind) => open_frame(stack, Frame::chunks(alloc, taken, kind)),
+        Beginning::Elements => open_frame(stack, Frame::elements(alloc, taken, None)),
+        Beginning::Members => open_frame(stack, Frame::map(alloc, taken, None)),
+        Beginning::Bool(value) => close_item(alloc, stack, taken, Item::Bool(value)),
     }
 }
 
-/// Ends the innermost construct by a break at the offset `taken`; a fault where a break ends nothing.
-fn end(alloc: Global, taken: u64, stack: &mut Vec<Frame>) -> Result<Stepped, Memory>
+/// Ends the innermost construct by a break at the offset `taken`; a fault where a break ends
+/// nothing.
+fn read_break(alloc: Global, taken: u64, stack: &mut Vec<Frame>) -> Result<StepOutcome, Memory>
     ensures ended { IfOk result (λ came. state_of (place stack.new.items) came ≡ end_state taken (place stack.old.items)) }
     ensures fits { IfOk result StepFits }
 {
     match stack.pop() {
-        None => Ok(Stepped::Fault(CborFault {
-            kind: MALFORMED,
+        None => Ok(StepOutcome::Fault(CborFault {
+            kind: CborFaultKind::Malformed as u8,
             at: taken,
         })),
-        Some(frame) => end_of(alloc, taken, stack, frame),
+        Some(frame) => end_frame(alloc, taken, stack, frame),
     }
 }
 
 /// Ends `frame`, inside of what is open.
 #[tactic(auto, unfolding(crate::specs::Machine::broken))]
-fn end_of(
+fn end_frame(
     alloc: Global,
     taken: u64,
     stack: &mut Vec<Frame>,
     frame: Frame,
-) -> Result<Stepped, Memory>
+) -> Result<StepOutcome, Memory>
     ensures ended { IfOk result (λ came. state_of (place stack.new.items) came ≡ end_state taken (inside (place stack.old.items) frame)) }
     ensures fits { IfOk result StepFits }
 {
@@ -209,7 +214,7 @@ fn end_of(
             if all.is_some() {
                 return Ok(unended(taken));
             }
-            give(alloc, stack, at, Item::Array(items))
+            close_item(alloc, stack, at, Item::Array(items))
         }
         Frame::Map { at, all, members } => {
             if all.is_some() {
@@ -219,18 +224,18 @@ fn end_of(
                 return Ok(unended(taken));
             }
             let mut members = members;
-            give(alloc, stack, at, Item::Map(members.take_pairs(alloc)?))
+            close_item(alloc, stack, at, Item::Map(members.take_pairs(alloc)?))
         }
         Frame::Content { .. } => Ok(unended(taken)),
     }
 }
 
 /// A break that ends nothing.
-fn unended(at: u64) -> Stepped
-    ensures fault { result ≡ stepped.Fault (record { kind = 2; at = at }) }
+fn unended(at: u64) -> StepOutcome
+    ensures fault { result ≡ step_outcome.Fault (record { kind = 2; at = at }) }
 {
-    Stepped::Fault(CborFault {
-        kind: MALFORMED,
+    StepOutcome::Fault(CborFault {
+        kind: CborFaultKind::Malformed as u8,
         at,
     })
 }

@@ -16,7 +16,8 @@ pub const LARGEST: Limits = Limits {
     depth: 64,
 };
 
-/// Whether `bytes` are the canonical spelling of an item within the largest limits, and nothing more.
+/// Whether `bytes` are the canonical spelling of an item within the largest limits, and nothing
+/// more.
 pub fn is_canonical(alloc: Global, bytes: &[u8]) -> Result<bool, Memory>
     ensures canonical { IfOk result (λ canonical. IsTrue canonical ↔ IsCanonical largest bytes.now) }
 {

@@ -10,7 +10,7 @@ use crate::fault::CborFault;
 use crate::frame::{Frame, Phase};
 use crate::item::Item;
 use crate::limits::Limits;
-use crate::piece::{Came, read_on};
+use crate::piece::{PieceOutcome, read_on};
 use std::alloc::Global;
 use std::mem;
 
@@ -19,11 +19,12 @@ use std::mem;
 pub enum CborFed {
     /// The octets so far are neither an item nor a fault.
     More,
-    /// An item, and how many octets of the piece it took. What follows them belongs to the next item.
+    /// An item, and how many octets of the piece it took. What follows them belongs to the next
+    /// item.
     Done(Item, usize),
     /// The octets so far show a fault. The feed answers it from now on.
     Fault(CborFault),
-    /// Want of memory. The feed answers it from now on.
+    /// Out of memory. The feed answers it from now on.
     Memory,
 }
 
@@ -41,11 +42,12 @@ pub(crate) enum Progress {
     Reading(Reading),
     /// It has answered a fault.
     Failed(CborFault),
-    /// It has answered want of memory.
+    /// It has answered that memory ran out.
     OutOfMemory,
 }
 
-/// A reader of items from octets that come in pieces. Its answers depend on the joined pieces alone.
+/// A reader of items from octets that come in pieces. Its answers depend on the joined pieces
+/// alone.
 #[derive(Drop)]
 pub struct CborFeed {
     limits: Limits,
@@ -76,8 +78,9 @@ impl CborFeed {
         }
     }
 
-    /// Takes the next piece of the octets. Offsets of faults count from the first octet of the item, whatever the
-    /// pieces were. Behind a fault or want of memory it holds nothing of the item.
+    /// Takes the next piece of the octets. Offsets of faults count from the first octet of the
+    /// item, whatever the pieces were. After a fault or running out of memory it holds nothing of
+    /// the item.
     pub fn feed(&mut self, piece: &[u8]) -> CborFed
         ensures fed { (before : List ℕ) → HasTaken self.old before → IsFed (limits_of self.old) before piece.now result self.new }
         ensures stays { (f : CborFault) → HasFailed self.old f → (result ≡ fed.Fault f) × HasFailed self.new f }
@@ -98,7 +101,8 @@ impl CborFeed {
         }
     }
 
-    /// Takes the next piece, where `phase` is what is read. The feed stands as one that is out of memory.
+    /// Takes the next piece, where `phase` is what is read. The feed stands as one that is out of
+    /// memory.
     fn read(&mut self, phase: Phase, piece: &[u8]) -> CborFed
         requires fits { Fits phase }
         requires spent { IsSpent self.old }
@@ -121,18 +125,18 @@ impl CborFeed {
                 CborFed::Memory
             }
             Ok(came) => match came {
-                Came::More(phase, taken) => {
+                PieceOutcome::More(phase, taken) => {
                     self.taken = taken;
                     self.progress = Progress::Reading(Reading { phase });
                     CborFed::More
                 }
-                Came::Done(item, used) => {
+                PieceOutcome::Done(item, used) => {
                     self.taken = 0;
                     self.stack.clear();
                     self.progress = Progress::Reading(Reading { phase: Phase::Due });
                     CborFed::Done(item, used)
                 }
-                Came::Fault(found) => {
+                PieceOutcome::Fault(found) => {
                     self.stack.clear();
                     self.progress = Progress::Failed(found);
                     CborFed::Fault(found)

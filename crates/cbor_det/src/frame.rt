@@ -8,19 +8,19 @@ ghost use Rattle.cbor_det.specs.Term.{no_terms, no_pairs};
 use crate::fault::CborFault;
 use crate::initial::Major;
 use crate::item::{Item, Items};
-use crate::kind::Kind;
 use crate::members::Members;
+use crate::string_kind::StringKind;
 use std::alloc::Global;
 use wire_base::{List, Octets};
 
-/// A construct that is open, with what stands in it whole. `at` is the offset of its initial byte, and `all` is how many
-/// items or pairs its head counts, or `None` where a break ends it.
+/// A construct that is open, with what stands in it whole. `at` is the offset of its initial byte,
+/// and `all` is how many items or pairs its head counts, or `None` where a break ends it.
 #[derive(Drop)]
 pub(crate) enum Frame {
     /// A string of indefinite length, with its chunks so far.
     Chunks {
         at: u64,
-        kind: Kind,
+        kind: StringKind,
         joined: Octets,
     },
     /// An array.
@@ -44,7 +44,7 @@ pub(crate) enum Frame {
 
 impl Frame {
     /// A string of indefinite length with no chunk so far. It takes no memory.
-    pub(crate) fn chunks(alloc: Global, at: u64, kind: Kind) -> Self
+    pub(crate) fn chunks(alloc: Global, at: u64, kind: StringKind) -> Self
         ensures made { (p : Place) → inside p result ≡ at_chunk at kind [] p }
     {
         let joined = List::new(alloc);
@@ -68,7 +68,8 @@ impl Frame {
     }
 }
 
-/// A head, begun at the offset `at`, of whose argument `left` more octets are due; those that came stand for `number`.
+/// A head, begun at the offset `at`, of whose argument `left` more octets are due; those that came
+/// stand for `number`.
 #[derive(Drop)]
 pub(crate) struct PartialHead {
     pub(crate) at: u64,
@@ -91,11 +92,12 @@ impl PartialHead {
     }
 }
 
-/// A definite string, begun at the offset `at`, of which `left` more octets are due behind those that came.
+/// A definite string, begun at the offset `at`, of which `left` more octets are due after those
+/// that came.
 #[derive(Drop)]
 pub(crate) struct PartialString {
     pub(crate) at: u64,
-    pub(crate) kind: Kind,
+    pub(crate) kind: StringKind,
     pub(crate) left: u64,
     pub(crate) came: Octets,
 }
@@ -113,7 +115,7 @@ pub(crate) enum Phase {
 
 /// What came of some octets.
 #[derive(Drop)]
-pub(crate) enum Stepped {
+pub(crate) enum StepOutcome {
     /// Neither an item nor a fault.
     Goes(Phase),
     /// An item ended, and all round it.

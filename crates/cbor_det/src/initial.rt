@@ -1,9 +1,9 @@
 //! The initial byte of an item (RFC 8949, section 3).
 
 ghost use Rattle.std.specs.Prelude.{◌≡◌, ◌<◌};
-ghost use Rattle.cbor_det.specs.Initial.{initial_of, number_of_major, simple_or_float, headed, headed_or};
+ghost use Rattle.cbor_det.specs.Initial.{initial_of, number_of_major, simple_or_float, head_of, head_or_indefinite};
 
-use crate::kind::Kind;
+use crate::string_kind::StringKind;
 
 /// The major types whose heads have an argument (RFC 8949, section 3.1).
 #[derive(Clone, Copy, Debug, PartialEq, Eq)]
@@ -13,7 +13,7 @@ pub(crate) enum Major {
     /// Major type 1.
     Negative,
     /// Major types 2 and 3.
-    String(Kind),
+    String(StringKind),
     /// Major type 4.
     Array,
     /// Major type 5.
@@ -31,8 +31,8 @@ impl Major {
         match self {
             Major::Unsigned => 0,
             Major::Negative => 1,
-            Major::String(Kind::ByteString) => 2,
-            Major::String(Kind::TextString) => 3,
+            Major::String(StringKind::ByteString) => 2,
+            Major::String(StringKind::TextString) => 3,
             Major::Array => 4,
             Major::Map => 5,
             Major::Tag => 6,
@@ -45,10 +45,10 @@ impl Major {
 pub(crate) enum Beginning {
     /// A head with its argument.
     Argued(Major, u64),
-    /// A head whose argument comes in so many octets.
+    /// A head whose argument comes in that many octets.
     Argument(Major, u8),
     /// A string of indefinite length.
-    Chunks(Kind),
+    Chunks(StringKind),
     /// An array of indefinite length.
     Elements,
     /// A map of indefinite length.
@@ -79,29 +79,29 @@ pub(crate) fn initial_of(byte: u8) -> Initial
 {
     let information = byte % 32;
     match byte / 32 {
-        0 => headed(Major::Unsigned, information),
-        1 => headed(Major::Negative, information),
-        2 => headed_or(
-            Major::String(Kind::ByteString),
+        0 => head_of(Major::Unsigned, information),
+        1 => head_of(Major::Negative, information),
+        2 => head_or_indefinite(
+            Major::String(StringKind::ByteString),
             information,
-            Beginning::Chunks(Kind::ByteString),
+            Beginning::Chunks(StringKind::ByteString),
         ),
-        3 => headed_or(
-            Major::String(Kind::TextString),
+        3 => head_or_indefinite(
+            Major::String(StringKind::TextString),
             information,
-            Beginning::Chunks(Kind::TextString),
+            Beginning::Chunks(StringKind::TextString),
         ),
-        4 => headed_or(Major::Array, information, Beginning::Elements),
-        5 => headed_or(Major::Map, information, Beginning::Members),
-        6 => headed(Major::Tag, information),
+        4 => head_or_indefinite(Major::Array, information, Beginning::Elements),
+        5 => head_or_indefinite(Major::Map, information, Beginning::Members),
+        6 => head_of(Major::Tag, information),
         7 => simple_or_float(information),
         _ => Initial::Malformed,
     }
 }
 
 /// The head of a type, with its additional information.
-fn headed(major: Major, information: u8) -> Initial
-    ensures says { result ≡ headed major information }
+fn head_of(major: Major, information: u8) -> Initial
+    ensures says { result ≡ head_of major information }
 {
     match information {
         0..=23 => Initial::Item(Beginning::Argued(major, u64::from(information))),
@@ -114,13 +114,13 @@ fn headed(major: Major, information: u8) -> Initial
 }
 
 /// The head of a type that may have an indefinite length.
-fn headed_or(major: Major, information: u8, indefinite: Beginning) -> Initial
-    ensures says { result ≡ headed_or major information indefinite }
+fn head_or_indefinite(major: Major, information: u8, indefinite: Beginning) -> Initial
+    ensures says { result ≡ head_or_indefinite major information indefinite }
 {
     if information == 31 {
         return Initial::Item(indefinite);
     }
-    headed(major, information)
+    head_of(major, information)
 }
 
 /// Major type 7.

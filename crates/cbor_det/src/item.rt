@@ -8,8 +8,9 @@ use wire_base::{Boxed, List, Memory, Octets, Text, TryCopy};
 /// Items in order.
 pub type Items = List<Item>;
 
-/// A data item (RFC 8949, section 2). It is proper where the keys of each of its maps rise strictly in bytewise order of
-/// their canonical spellings: what is read is, and what is built by `Pairs::add`.
+/// A data item (RFC 8949, section 2). It is proper where the keys of each of its maps rise strictly
+/// in bytewise order of their canonical spellings: what is read is, and what is built by
+/// `Pairs::add`.
 #[cycle(item)]
 #[derive(Debug, Drop)]
 pub enum Item {

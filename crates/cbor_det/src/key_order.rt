@@ -1,4 +1,5 @@
-//! The order of keys that are integers, in bytewise order of their canonical spellings (RFC 8949, section 4.2.1).
+//! The order of keys that are integers, in bytewise order of their canonical spellings (RFC 8949,
+//! section 4.2.1).
 
 ghost use Rattle.std.specs.Bool.{OnTrue};
 ghost use Rattle.std.specs.Prelude.{◌≡◌, true};
@@ -8,7 +9,8 @@ ghost use Rattle.cbor_det.specs.View.{view};
 
 use crate::item::Item;
 
-/// Whether both items are integers, and the first one's canonical spelling is above the second's. Nothing is spelled to tell.
+/// Whether both items are integers, and the first one's canonical spelling is above the second's.
+/// Nothing is spelled to find this out.
 pub(crate) fn is_integer_above(first: &Item, second: &Item) -> bool
     ensures above { OnTrue result (is_above (view first.now) (view second.now) ≡ true) }
 {
@@ -21,7 +23,7 @@ pub(crate) fn is_integer_above(first: &Item, second: &Item) -> bool
     }
 }
 
-/// The numbers from 0 on rise, and behind them those below 0 fall.
+/// The numbers from 0 on rise, and after them those below 0 fall.
 fn is_number_above(first: i64, second: i64) -> bool
     ensures above { result ≡ is_above (integer first) (integer second) }
 {

@@ -1,4 +1,5 @@
-//! Laws of spellings, faults and canonical spellings. The functions do nothing: their contracts are the laws.
+//! Laws of spellings, faults and canonical spellings. The functions do nothing: their contracts are
+//! the laws.
 
 ghost use Rattle.cbor_det.specs.Laws.{OneItem, OrderIsFree, SpelledIsProper, SpelledIsWritten, ProperIsWritten, OneCanonical, WrittenIsRead, ItemIsOne, FaultIsOne, NotBoth, EachHasOutcome};
 

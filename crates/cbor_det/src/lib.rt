@@ -1,16 +1,30 @@
-//! Items of the Concise Binary Object Representation (CBOR, RFC 8949): a reader and a feed that take any spelling of an
-//! item within limits, and a writer of the one canonical spelling (core deterministic encoding, section 4.2.1).
+//! Items of the Concise Binary Object Representation (CBOR, RFC 8949): a reader and a feed that
+//! take any spelling of an item within limits, and a writer of the one canonical spelling (core
+//! deterministic encoding, section 4.2.1).
 //!
-//! It stands on `wire_base`, and on `thiserror` for the texts of errors. The crates above rest on `found` and `refused` of
-//! `read_item`, on `canonical` of `write_item`, on `empty`, `put`, `value`, `others`, `len` and `key` of the methods of `Pairs`, on
-//! `equal` of the copies of items and pairs, and on `laws`; their proofs also on the lemmas of `proofs/Order`, `Outcome`, `Outcomes`,
-//! `Written`, `Adds`, `Entries` and `Views`. `CborFeed` (`fed`, `stays`, `spent`, `released`), `is_canonical` and `Pairs::add` (`added`,
-//! `proper`) are there for other callers.
+//! It stands on `wire_base`, and on `thiserror` for the texts of errors. Who calls whom:
 //!
-//! The words of these clauses are in `specs/`: `Term` and `View` (items), `Canonical`, `Spelling` and `Proper`, `Faults`, `Answers`
-//! (of a reader), `Standing` and `Feeding` (of a feed: where a reader stands, by the octets that were taken), `Lookup` and `Adding`
-//! (of pairs), `Laws`. The others are the private means of proof: the machine of `Machine` and `Frames`, which the code follows and
-//! the laws in `proofs/` tie to `Spelling`, `Faults` and `Standing` in both directions.
+//! ```text
+//! read_item, CborFeed::feed       read, feed    octets to items
+//! └─ run_piece                    step          as many octets as there are
+//!    ├─ read_initial_byte         begin         what an initial byte begins or ends
+//!    │  └─ head_of, initial_of    initial       what an initial byte says (section 3)
+//!    ├─ item_from_head            head          what a head with its argument begins
+//!    └─ string_ended              string        a definite string: an item or a chunk
+//!       └─ open_frame, close_item nesting       what is open around, from the stack of `frame`
+//!          └─ Members             members       the pairs of an open map
+//! write_item, Pairs::add, put     write, pairs  items to octets; pairs in order of their keys
+//! ```
+//!
+//! The crates above rest on `found` and `refused` of `read_item`, on `canonical` of `write_item`,
+//! on the clauses of the methods of `Pairs` except `add`, on `equal` of copies, and on `laws`.
+//! Their proofs also cite lemmas of `proofs/`.
+//!
+//! The words of the clauses are in `specs/`: `Term` and `View` (items), `Canonical`, `Spelling` and
+//! `Proper`, `Faults` and `FaultKinds`, `Answers` (of a reader), `Standing` and `Feeding` (of a
+//! feed), `Lookup` and `Adding` (of pairs), `Laws`. The others are the private means of proof: the
+//! machine of `Machine` and `Frames`, which the code follows and the laws in `proofs/` tie to
+//! `Spelling`, `Faults` and `Standing` in both directions.
 #![tactic(auto)]
 
 mod begin;
@@ -18,30 +32,27 @@ mod canonical;
 mod fault;
 mod feed;
 mod frame;
-mod give;
 mod head;
 mod initial;
 mod item;
 mod key_order;
-mod kind;
 pub mod laws;
 mod limits;
 mod members;
+mod nesting;
 mod pairs;
 mod piece;
 mod read;
 mod step;
 mod string;
+mod string_kind;
 mod write;
 
 pub use canonical::{LARGEST, is_canonical};
-pub use fault::{CborFault, CborRefused};
+pub use fault::{CborFault, CborFaultKind, CborRefused};
 pub use feed::{CborFed, CborFeed};
 pub use item::{Item, Items, Pairs};
 pub use limits::Limits;
 pub use pairs::PairRefused;
 pub use read::read_item;
 pub use write::write_item;
-
-#[cfg(test)]
-mod tests;

@@ -10,9 +10,9 @@ ghost use Rattle.cbor_det.specs.Spelling.{Rises};
 ghost use Rattle.cbor_det.specs.Term.{no_pairs};
 ghost use Rattle.cbor_det.specs.View.{view, pairs_view, listed};
 
-use crate::give::is_full;
 use crate::item::{Item, Pair, Pairs};
 use crate::key_order::is_integer_above;
+use crate::nesting::is_full;
 use crate::write::spell;
 use std::alloc::Global;
 use std::collections::BTreeMap;
@@ -52,8 +52,8 @@ impl Key {
     }
 }
 
-/// Pairs whose keys are integers that came in rising order, or one pair whose key is any item; and the key whose value is
-/// due. No key is spelled here.
+/// Pairs whose keys are integers that came in rising order, or one pair whose key is any item; and
+/// the key whose value is due. No key is spelled here.
 #[derive(Drop)]
 pub(crate) struct Rising {
     pairs: List<Pair>,
@@ -61,8 +61,9 @@ pub(crate) struct Rising {
     ghost rises: { RisesTo (listed pairs) (option_map view key) } by { rises_to_prop (listed pairs) (option_map view key) },
 }
 
-/// Pairs whose keys came in any order, under their keys' canonical spellings, so that each key is found among n others in
-/// steps that grow with log n; and the key whose value is due. Each key was spelled once.
+/// Pairs whose keys came in any order, under their keys' canonical spellings, so that each key is
+/// found among n others in steps that grow with log n; and the key whose value is due. Each key was
+/// spelled once.
 #[derive(Drop)]
 pub(crate) struct Ordered {
     entries: BTreeMap<Vec<u8>, Pair>,
@@ -73,7 +74,8 @@ pub(crate) struct Ordered {
 /// The pairs of a map that is still read, in order of their keys' canonical spellings.
 #[derive(Drop)]
 pub(crate) enum Members {
-    /// As long as one key has come, or all are integers that rise, as they do in a canonical spelling.
+    /// As long as one key has come, or all are integers that rise, as they do in a canonical
+    /// spelling.
     Rising(Rising),
     /// From the first key on that is not so.
     Ordered(Ordered),
@@ -91,8 +93,8 @@ impl Rising {
         }
     }
 
-    /// Whether the item is a value that is due, the first key, or an integer above the last key, which is one too. Nothing is
-    /// spelled to tell.
+    /// Whether the item is a value that is due, the first key, or an integer above the last key,
+    /// which is one too. Nothing is spelled to find this out.
     fn admits(&self, item: &Item) -> bool
         ensures admits { OnTrue result (MayCome (listed self.now.pairs) (option_map view self.now.key) (view item.now)) }
         ensures key { OnFalse result (self.now.key ≡ None) }
@@ -126,7 +128,7 @@ impl Ordered {
     ghost use Rattle.cbor_det.specs.Held.{key_view};
 
     /// The same pairs, and a key is due.
-    fn of(alloc: Global, pairs: List<Pair>) -> Result<Self, Memory>
+    fn from_pairs(alloc: Global, pairs: List<Pair>) -> Result<Self, Memory>
         requires rises { Rises (listed pairs) }
         ensures same { IfOk result (λ made. entries_view made.entries.entries ≡ listed pairs) }
         ensures key { IfOk result (λ made. made.key ≡ None) }
@@ -210,7 +212,8 @@ impl Members {
         }
     }
 
-    /// Takes a key, which is spelled, and so are those that came before it, if they were not; false where it is held.
+    /// Takes a key, which is spelled, and so are those that came before it, if they were not; false
+    /// where it is held.
     fn take_spelled(&mut self, alloc: Global, item: Item) -> Result<bool, Memory>
         requires key { due_key self.old ≡ None }
         ensures taken { IfOk result
@@ -220,7 +223,7 @@ impl Members {
             Members::Ordered(ordered) => ordered.take(alloc, item),
             Members::Rising(rising) => {
                 let pairs = mem::replace(&mut rising.pairs, List::new(alloc));
-                let mut ordered = Ordered::of(alloc, pairs)?;
+                let mut ordered = Ordered::from_pairs(alloc, pairs)?;
                 let free = ordered.take(alloc, item)?;
                 *self = Members::Ordered(ordered);
                 Ok(free)

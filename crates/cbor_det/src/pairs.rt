@@ -28,7 +28,7 @@ pub enum PairRefused {
     /// An equal key is held.
     #[error("the key is held already")]
     Doubled,
-    /// Want of memory.
+    /// Out of memory.
     #[error("out of memory")]
     Memory,
 }
@@ -83,7 +83,8 @@ impl Pairs {
         }
     }
 
-    /// The value under the key that is this unsigned integer; `None` exactly where there is no such key.
+    /// The value under the key that is this unsigned integer; `None` exactly where there is no such
+    /// key.
     pub fn under(&self, key: u64) -> Option<&Item>
         ensures value { option_map (λ item. view item.now) result ≡ value_under key (pairs_view self.now) }
     {
@@ -95,7 +96,8 @@ impl Pairs {
         None
     }
 
-    /// A copy of the pairs whose keys are none of these unsigned integers; `Memory` where there is no room for it.
+    /// A copy of the pairs whose keys are none of these unsigned integers; `Memory` where there is
+    /// no room for it.
     pub fn other_than(&self, keys: &[u32]) -> Result<Pairs, Memory>
         ensures others { IfOk result (λ made. pairs_view made ≡ other_than keys.now (pairs_view self.now)) }
     {
@@ -110,14 +112,15 @@ impl Pairs {
         Ok(Pairs { pairs: others })
     }
 
-    /// Puts a pair before the first whose key's canonical spelling is not below its own: among rising pairs that do not hold
-    /// the key, at its place. It is looked for from the front. At `Memory` the pairs are as they were.
+    /// Puts a pair before the first whose key's canonical spelling is not below its own: among
+    /// rising pairs that do not hold the key, at its place. It is looked for from the start. At
+    /// `Memory` the pairs are as they were.
     ///
-    /// It does not look whether the key is held: the caller sees to it that it is not. Where it is, the pairs hold it twice, and
-    /// are proper no more. `add` looks.
+    /// It does not look whether the key is held: the caller sees to it that it is not. Where it is,
+    /// the pairs hold it twice, and are proper no more. `add` looks.
     pub fn put(&mut self, key: Item, value: Item) -> Result<(), Memory>
         ensures put { OnOk result (pairs_view self.new ≡ put (view key) (view value) (pairs_view self.old)) }
-        ensures kept { OnErr result (pairs_view self.new ≡ pairs_view self.old) }
+        ensures unchanged { OnErr result (pairs_view self.new ≡ pairs_view self.old) }
     {
         let key = Key::new(self.pairs.allocator(), key)?;
         let place = front_length(self.pairs.allocator(), self.pairs.as_slice(), &key)?;
@@ -125,8 +128,9 @@ impl Pairs {
         self.pairs.insert(place, Pair { key, value })
     }
 
-    /// Puts a pair at its place in the order of the keys' canonical spellings. `Doubled` exactly where an equal key is held;
-    /// `Memory` where there is no room. A refused pair is dropped, and the pairs are as they were.
+    /// Puts a pair at its place in the order of the keys' canonical spellings. `Doubled` exactly
+    /// where an equal key is held; `Memory` where there is no room. A refused pair is dropped, and
+    /// the pairs are as they were.
     pub fn add(&mut self, key: Item, value: Item) -> Result<(), PairRefused>
         requires pairs { IsProperMap (pairs_view self.old) }
         requires key { IsProper (view key) }
@@ -170,7 +174,7 @@ fn is_one_of(item: &Item, numbers: &[u32]) -> bool
     false
 }
 
-/// How many pairs at the front have keys below this one.
+/// How many pairs at the start have keys below this one.
 fn front_length(alloc: Global, pairs: &[Pair], key: &Key) -> Result<usize, Memory>
     ensures front { IfOk result (λ place. place ≡ front_length (view key.now.item) pairs.now) }
     ensures within { IfOk result (λ place. place ≤ length pairs.now) }

@@ -1,4 +1,4 @@
-//! Reading an item from the front of octets.
+//! Reading an item from the start of octets.
 
 ghost use Rattle.std.specs.Prelude.{◌≡◌, ◌≤◌, ◌^◌, ℕ, IfOk, IfErr, if◌then◌else◌, length, nat_lt, take};
 ghost use Rattle.cbor_det.specs.Answers.{IsRefusal, GivesItem, GivesFault};
@@ -6,15 +6,16 @@ ghost use Rattle.cbor_det.specs.Faults.{Begins, IsFault, IsCut};
 ghost use Rattle.cbor_det.specs.Term.{Term};
 ghost use Rattle.cbor_det.specs.View.{view};
 
-use crate::fault::{CborFault, CborRefused, TOO_LONG, TRUNCATED};
-use crate::frame::{Phase, Stepped};
+use crate::fault::{CborFault, CborFaultKind, CborRefused};
+use crate::frame::{Phase, StepOutcome};
 use crate::item::Item;
 use crate::limits::Limits;
 use crate::step::run_piece;
 use std::alloc::Global;
 
-/// The item whose spelling `bytes` begin with, and the number of its octets. `Fault` exactly where there is none within
-/// the limits, with the fault that shows first, or kind 1 where `bytes` are cut short; `Memory` where there is no room.
+/// The item whose spelling `bytes` begin with, and the number of its octets. `Fault` exactly where
+/// there is none within the limits, with the fault that shows first, or kind 1 where `bytes` are
+/// cut short; `Memory` where there is no room.
 pub fn read_item(alloc: Global, bytes: &[u8], limits: Limits) -> Result<(Item, usize), CborRefused>
     requires octets { limits.octets ≤ 2 ^ 24 }
     requires depth { limits.depth ≤ 64 }
@@ -36,13 +37,16 @@ fn read_front(alloc: Global, bytes: &[u8], limits: Limits) -> Result<(Item, usiz
     let front = up_to(bytes, limits.octets);
     let (stepped, used) = run_piece(alloc, limits, 0, &mut stack, Phase::Due, front)?;
     match stepped {
-        Stepped::Whole(item) => Ok((item, used)),
-        Stepped::Fault(fault) => Err(CborRefused::Fault(fault)),
-        Stepped::Goes(_) => Err(CborRefused::Fault(unfinished(bytes.len() as u64, limits.octets))),
+        StepOutcome::Whole(item) => Ok((item, used)),
+        StepOutcome::Fault(fault) => Err(CborRefused::Fault(fault)),
+        StepOutcome::Goes(_) => Err(CborRefused::Fault(unfinished(
+            bytes.len() as u64,
+            limits.octets,
+        ))),
     }
 }
 
-/// The front of `bytes`, of at most `limit` octets.
+/// The prefix of `bytes`, of at most `limit` octets.
 pub(crate) fn up_to(bytes: &[u8], limit: u64) -> &[u8]
     ensures front { result.now ≡ take limit bytes.now }
 {
@@ -56,12 +60,12 @@ fn unfinished(len: u64, limit: u64) -> CborFault
 {
     if len < limit {
         return CborFault {
-            kind: TRUNCATED,
+            kind: CborFaultKind::Truncated as u8,
             at: len,
         };
     }
     CborFault {
-        kind: TOO_LONG,
+        kind: CborFaultKind::TooLong as u8,
         at: limit,
     }
 }

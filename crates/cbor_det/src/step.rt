@@ -6,16 +6,16 @@ ghost use Rattle.cbor_det.specs.Standing.{place};
 ghost use Rattle.cbor_det.specs.Frames.{state_of, phase_state, ArgumentFits, Fits, StepFits, EndsBehindSome, Takes};
 ghost use Rattle.cbor_det.specs.Machine.{argument, content, run, step};
 
-use crate::begin::begun;
-use crate::frame::{Frame, PartialHead, PartialString, Phase, Stepped};
-use crate::head::argued;
+use crate::begin::read_initial_byte;
+use crate::frame::{Frame, PartialHead, PartialString, Phase, StepOutcome};
+use crate::head::item_from_head;
 use crate::limits::Limits;
 use crate::string::string_ended;
 use std::alloc::Global;
 use wire_base::Memory;
 
-/// Reads a piece, behind `taken` octets of the item, until an item or a fault ends it, and tells how many octets of it
-/// were read.
+/// Reads a piece, after `taken` octets of the item, until an item or a fault ends it, and reports
+/// how many octets of it were read.
 pub(crate) fn run_piece(
     alloc: Global,
     limits: Limits,
@@ -23,7 +23,7 @@ pub(crate) fn run_piece(
     stack: &mut Vec<Frame>,
     phase: Phase,
     piece: &[u8],
-) -> Result<(Stepped, usize), Memory>
+) -> Result<(StepOutcome, usize), Memory>
     requires small { limits.octets ≤ 2 ^ 24 }
     requires room { taken + length piece.now ≤ limits.octets }
     requires fits { Fits phase }
@@ -42,15 +42,15 @@ pub(crate) fn run_piece(
         let stepped = advance(alloc, limits, taken + used as u64, stack, phase, front)?;
         used += count;
         match stepped {
-            Stepped::Goes(next) => phase = next,
-            Stepped::Whole(item) => return Ok((Stepped::Whole(item), used)),
-            Stepped::Fault(fault) => return Ok((Stepped::Fault(fault), used)),
+            StepOutcome::Goes(next) => phase = next,
+            StepOutcome::Whole(item) => return Ok((StepOutcome::Whole(item), used)),
+            StepOutcome::Fault(fault) => return Ok((StepOutcome::Fault(fault), used)),
         }
     }
-    Ok((Stepped::Goes(phase), used))
+    Ok((StepOutcome::Goes(phase), used))
 }
 
-/// How many of so many octets are taken at once: one, or as much of a string as there is.
+/// How many of the octets are taken at once: one, or as much of a string as is there.
 fn taken_at_once(phase: &Phase, there: usize) -> usize
     requires some { 0 < there }
     requires fits { Fits phase.now }
@@ -72,7 +72,7 @@ fn advance(
     stack: &mut Vec<Frame>,
     phase: Phase,
     octets: &[u8],
-) -> Result<Stepped, Memory>
+) -> Result<StepOutcome, Memory>
     requires small { limits.octets ≤ 2 ^ 24 }
     requires room { taken + length octets.now ≤ limits.octets }
     requires fits { Fits phase }
@@ -83,21 +83,21 @@ fn advance(
     ensures fits { IfOk result StepFits }
 {
     match phase {
-        Phase::Due => begun(alloc, limits, taken, stack, octets[0]),
-        Phase::Head(head) => argue(alloc, limits, taken, stack, head, octets[0]),
+        Phase::Due => read_initial_byte(alloc, limits, taken, stack, octets[0]),
+        Phase::Head(head) => read_argument_octet(alloc, limits, taken, stack, head, octets[0]),
         Phase::String(string) => take_content(alloc, stack, string, octets),
     }
 }
 
 /// Reads one octet of an argument.
-fn argue(
+fn read_argument_octet(
     alloc: Global,
     limits: Limits,
     taken: u64,
     stack: &mut Vec<Frame>,
     head: PartialHead,
     octet: u8,
-) -> Result<Stepped, Memory>
+) -> Result<StepOutcome, Memory>
     requires room { taken < limits.octets }
     requires fits { ArgumentFits head.left head.number }
     ensures stepped { IfOk result
@@ -113,9 +113,9 @@ fn argue(
     } = head;
     let number = 256 * number + u64::from(octet);
     if left == 1 {
-        return argued(alloc, limits, taken + 1, stack, at, major, number);
+        return item_from_head(alloc, limits, taken + 1, stack, at, major, number);
     }
-    Ok(Stepped::Goes(Phase::Head(PartialHead {
+    Ok(StepOutcome::Goes(Phase::Head(PartialHead {
         at,
         major,
         left: left - 1,
@@ -129,7 +129,7 @@ fn take_content(
     stack: &mut Vec<Frame>,
     string: PartialString,
     octets: &[u8],
-) -> Result<Stepped, Memory>
+) -> Result<StepOutcome, Memory>
     requires some { 1 ≤ length octets.now }
     requires left { length octets.now ≤ string.left }
     ensures ran { IfOk result
@@ -150,7 +150,7 @@ fn take_content(
     if left == 0 {
         return string_ended(alloc, stack, at, kind, came);
     }
-    Ok(Stepped::Goes(Phase::String(PartialString {
+    Ok(StepOutcome::Goes(Phase::String(PartialString {
         at,
         kind,
         left,

@@ -8,11 +8,11 @@ ghost use Rattle.cbor_det.specs.Frames.{state_of, StepFits, chunk_kind, chunk_jo
 ghost use Rattle.cbor_det.specs.Machine.{string_ended, is_part};
 
 use crate::begin::chunk_due;
-use crate::fault::{CborFault, NOT_UTF8};
-use crate::frame::{Frame, Phase, Stepped};
-use crate::give::give;
+use crate::fault::{CborFault, CborFaultKind};
+use crate::frame::{Frame, Phase, StepOutcome};
 use crate::item::Item;
-use crate::kind::Kind;
+use crate::nesting::close_item;
+use crate::string_kind::StringKind;
 use std::alloc::Global;
 use std::str::from_utf8;
 use wire_base::{Memory, Octets, Text};
@@ -22,9 +22,9 @@ pub(crate) fn string_ended(
     alloc: Global,
     stack: &mut Vec<Frame>,
     at: u64,
-    kind: Kind,
+    kind: StringKind,
     octets: Octets,
-) -> Result<Stepped, Memory>
+) -> Result<StepOutcome, Memory>
     ensures ended { IfOk result (λ came. state_of (place stack.new.items) came ≡ string_ended (place stack.old.items) at kind octets) }
     ensures fits { IfOk result StepFits }
 {
@@ -38,21 +38,24 @@ pub(crate) fn string_ended(
 fn chunk_ended(
     stack: &mut Vec<Frame>,
     at: u64,
-    kind: Kind,
+    kind: StringKind,
     octets: Octets,
-) -> Result<Stepped, Memory>
+) -> Result<StepOutcome, Memory>
     requires chunk { chunk_kind (place stack.old.items) ≢ None }
     ensures ended { IfOk result (λ came. state_of (place stack.new.items) came ≡ string_ended (place stack.old.items) at kind octets) }
     ensures fits { IfOk result StepFits }
 {
     if !is_part(kind, octets.as_slice()) {
-        return Ok(Stepped::Fault(CborFault { kind: NOT_UTF8, at }));
+        return Ok(StepOutcome::Fault(CborFault {
+            kind: CborFaultKind::NotUtf8 as u8,
+            at,
+        }));
     }
     join_chunk(stack, octets.as_slice())?;
-    Ok(Stepped::Goes(Phase::Due))
+    Ok(StepOutcome::Goes(Phase::Due))
 }
 
-/// Puts the octets behind those of the string that is open.
+/// Puts the octets after those of the string that is open.
 fn join_chunk(stack: &mut Vec<Frame>, octets: &[u8]) -> Result<(), Memory>
     ensures joined { OnOk result (place stack.new.items ≡ chunk_joined (place stack.old.items) octets.now) }
 {
@@ -62,7 +65,7 @@ fn join_chunk(stack: &mut Vec<Frame>, octets: &[u8]) -> Result<(), Memory>
     }
 }
 
-/// Puts the octets behind those of the construct, where it is a string.
+/// Puts the octets after those of the construct, where it is a string.
 fn join(frame: &mut Frame, octets: &[u8]) -> Result<(), Memory>
     ensures joined { OnOk result ((p : Place) → inside p frame.new ≡ chunk_joined (inside p frame.old) octets.now) }
 {
@@ -79,20 +82,23 @@ fn string_item(
     alloc: Global,
     stack: &mut Vec<Frame>,
     at: u64,
-    kind: Kind,
+    kind: StringKind,
     octets: Octets,
-) -> Result<Stepped, Memory>
+) -> Result<StepOutcome, Memory>
     requires item { chunk_kind (place stack.old.items) ≡ None }
     ensures ended { IfOk result (λ came. state_of (place stack.new.items) came ≡ string_ended (place stack.old.items) at kind octets) }
     ensures fits { IfOk result StepFits }
 {
     match kind {
-        Kind::ByteString => give(alloc, stack, at, Item::Bytes(octets)),
-        Kind::TextString => {
+        StringKind::ByteString => close_item(alloc, stack, at, Item::Bytes(octets)),
+        StringKind::TextString => {
             let text = text_of(octets);
             match text {
-                Some(text) => give(alloc, stack, at, Item::Text(text)),
-                None => Ok(Stepped::Fault(CborFault { kind: NOT_UTF8, at })),
+                Some(text) => close_item(alloc, stack, at, Item::Text(text)),
+                None => Ok(StepOutcome::Fault(CborFault {
+                    kind: CborFaultKind::NotUtf8 as u8,
+                    at,
+                })),
             }
         }
     }
@@ -109,12 +115,12 @@ fn text_of(octets: Octets) -> Option<Text>
 }
 
 /// Whether the octets may be a string of this kind.
-fn is_part(kind: Kind, octets: &[u8]) -> bool
+fn is_part(kind: StringKind, octets: &[u8]) -> bool
     ensures part { result ≡ is_part kind octets.now }
 {
     match kind {
-        Kind::ByteString => true,
-        Kind::TextString => match from_utf8(octets) {
+        StringKind::ByteString => true,
+        StringKind::TextString => match from_utf8(octets) {
             Ok(_) => true,
             Err(_) => false,
         },

@@ -10,13 +10,14 @@ ghost use Rattle.std.specs.Prelude.{map};
 
 use crate::initial::Major;
 use crate::item::{Item, Pairs};
-use crate::kind::Kind;
+use crate::string_kind::StringKind;
 use std::alloc::Global;
 use wire_base::{List, Memory, Octets};
 
-/// The canonical spelling of the item: shortest arguments, definite lengths, and the pairs of maps in bytewise order of
-/// their keys' spellings, in which a proper item holds them. The item is at most 64 deep, as what is read is. What is not proper is
-/// written in the order in which it holds its pairs. `Memory` where there is no room for the spelling.
+/// The canonical spelling of the item: shortest arguments, definite lengths, and the pairs of maps
+/// in bytewise order of their keys' spellings, in which a proper item holds them. The item is at
+/// most 64 deep, as what is read is. What is not proper is written in the order in which it holds
+/// its pairs. `Memory` where there is no room for the spelling.
 pub fn write_item(alloc: Global, item: &Item) -> Result<Octets, Memory>
     requires depth { depth (view item.now) ≤ 64 }
     ensures canonical { IfOk result (λ written. written ≡ canon (view item.now)) }
@@ -33,15 +34,15 @@ pub(crate) fn spell(alloc: Global, item: &Item) -> Result<Octets, Memory>
     Ok(out)
 }
 
-/// Puts the item behind what was written. It calls itself as deep as the item is.
+/// Puts the item after what was written. It calls itself as deep as the item is.
 #[cycle(put)]
 fn put_item(out: &mut Octets, item: &Item) -> Result<(), Memory>
-    ensures puts { OnOk result (out.new ≡ out.old ++ canon (view item.now)) }
+    ensures appended { OnOk result (out.new ≡ out.old ++ canon (view item.now)) }
 {
     match item {
         Item::Int(number) => put_integer(out, *number),
-        Item::Bytes(octets) => put_string(out, Kind::ByteString, octets.as_slice()),
-        Item::Text(text) => put_string(out, Kind::TextString, text.as_str().as_bytes()),
+        Item::Bytes(octets) => put_string(out, StringKind::ByteString, octets.as_slice()),
+        Item::Text(text) => put_string(out, StringKind::TextString, text.as_str().as_bytes()),
         Item::Array(items) => {
             put_head(out, Major::Array, items.len() as u64)?;
             Ok(put_items(out, items)?)
@@ -60,7 +61,7 @@ fn put_item(out: &mut Octets, item: &Item) -> Result<(), Memory>
 
 #[cycle(put)]
 fn put_items(out: &mut Octets, items: &List<Item>) -> Result<(), Memory>
-    ensures puts { OnOk result (out.new ≡ out.old ++ canon_terms (terms_of (map view items.now))) }
+    ensures appended { OnOk result (out.new ≡ out.old ++ canon_terms (terms_of (map view items.now))) }
 {
     for item in items.as_slice() {
         put_item(out, item)?;
@@ -70,7 +71,7 @@ fn put_items(out: &mut Octets, items: &List<Item>) -> Result<(), Memory>
 
 #[cycle(put)]
 fn put_pairs(out: &mut Octets, pairs: &Pairs) -> Result<(), Memory>
-    ensures puts { OnOk result (out.new ≡ out.old ++ canon_pairs (pairs_view pairs.now)) }
+    ensures appended { OnOk result (out.new ≡ out.old ++ canon_pairs (pairs_view pairs.now)) }
 {
     for pair in pairs.pairs.as_slice() {
         put_item(out, &pair.key)?;
@@ -80,7 +81,7 @@ fn put_pairs(out: &mut Octets, pairs: &Pairs) -> Result<(), Memory>
 }
 
 fn put_integer(out: &mut Octets, number: i64) -> Result<(), Memory>
-    ensures puts { OnOk result (out.new ≡ out.old ++ canon (integer number)) }
+    ensures appended { OnOk result (out.new ≡ out.old ++ canon (integer number)) }
 {
     if number >= 0 {
         put_head(out, Major::Unsigned, number as u64)
@@ -89,8 +90,8 @@ fn put_integer(out: &mut Octets, number: i64) -> Result<(), Memory>
     }
 }
 
-fn put_string(out: &mut Octets, kind: Kind, octets: &[u8]) -> Result<(), Memory>
-    ensures puts { OnOk result (out.new ≡ out.old ++ (short_head (major_of kind) (length octets.now) ++ octets.now)) }
+fn put_string(out: &mut Octets, kind: StringKind, octets: &[u8]) -> Result<(), Memory>
+    ensures appended { OnOk result (out.new ≡ out.old ++ (short_head (major_of kind) (length octets.now) ++ octets.now)) }
 {
     put_head(out, Major::String(kind), octets.len() as u64)?;
     out.extend(octets)
@@ -99,7 +100,7 @@ fn put_string(out: &mut Octets, kind: Kind, octets: &[u8]) -> Result<(), Memory>
 /// Puts a head with its argument in the shortest form.
 #[tactic(auto, using(crate::proofs::BigEndian::be_one, crate::proofs::BigEndian::be_two, crate::proofs::BigEndian::be_four, crate::proofs::BigEndian::be_eight))]
 fn put_head(out: &mut Octets, major: Major, argument: u64) -> Result<(), Memory>
-    ensures puts { OnOk result (out.new ≡ out.old ++ short_head (number_of_major major) argument) }
+    ensures appended { OnOk result (out.new ≡ out.old ++ short_head (number_of_major major) argument) }
 {
     let high = 32 * major.number();
     if argument < 24 {
@@ -118,7 +119,7 @@ fn put_head(out: &mut Octets, major: Major, argument: u64) -> Result<(), Memory>
 }
 
 fn put_argument(out: &mut Octets, initial: u8, argument: &[u8]) -> Result<(), Memory>
-    ensures puts { OnOk result (out.new ≡ out.old ++ initial ∷ argument.now) }
+    ensures appended { OnOk result (out.new ≡ out.old ++ initial ∷ argument.now) }
 {
     out.push(initial)?;
     out.extend(argument)

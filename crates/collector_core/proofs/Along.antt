@@ -65,7 +65,7 @@ kept_within chronicle legal =
     along chronicle.start (λ (k : Chronicle). fold trim_after 1 k.entries ≤ last_eid k + 1) (kept_step chronicle.start) [] chronicle.entries legal.follow (omega arith) in
     omega (arith, trims, legal.start.cap.0)
 
--- ---- what has moved is behind
+-- ---- what has moved is after
 
 or_cases : (a b : Bool) → (a || b) ≡ true → (a ≡ true) ⊎ (b ≡ true)
 or_cases true b is = inl refl

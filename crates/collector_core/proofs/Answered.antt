@@ -117,7 +117,7 @@ module _ (epoch : Epoch) (earliest count : ℕ) (numbered : AreNumberedFrom 1 ep
   numbers : AreNumberedFrom (1 + (earliest - 1)) (drop (earliest - 1) epoch.events)
   numbers = numbered_drop 1 (earliest - 1) epoch.events numbered
 
-  -- Up to which event identifier so many of them go.
+  -- Up to which event identifier that many of them go.
   consulted_is : (left : List Event) → drop count (drop (earliest - 1) epoch.events) ≡ left
       → (consulted_before left (length epoch.events) ≤ length epoch.events) × (take count (drop (earliest - 1) epoch.events) ≡ take (consulted_before left (length epoch.events) - (earliest - 1)) (drop (earliest - 1) epoch.events))
   consulted_is [] e =

@@ -103,7 +103,7 @@ one_deletion stamp id state x y one two =
     one_record : (a b : Record) → Some a ≡ Some b → a ≡ b
     one_record a b is = cc
 
--- What is told is said of the entry.
+-- What is reported is said of the entry.
 pub told_id : (stamp : List ℕ) (content : Content) (state : State) (result : Result ℕ BookError) → IfOk result (λ id. id ≡ state.next)
     → IfOk result (λ id. (made : Entry) → IsCreation state.last state.next stamp content made → Creates stamp content id state made)
 told_id stamp content state (Ok id) is = λ made at. (is, at)

@@ -1,4 +1,4 @@
--- What a book holds behind a change of one record.
+-- What a book holds after a change of one record.
 use Rattle.std.proofs.Common.{◌≡◌, ℕ, ◌+◌, ◌-◌, ◌<◌, ◌≤◌, eqb, leb, ltb, cond, not, Bool, true, false, Option, Some, None, List, [], ◌∷◌, ◌++◌, length, get_or, set, take, drop, refl, sym, ap, ◌∙◌, subst, arith, length-append, leb-false, ltb-false, ne_eqb}
 use Rattle.std.specs.Prelude.{is_some, remove}
 use Rattle.std.specs.List.Sorted.{IsStrictlyIncreasing}
@@ -224,7 +224,7 @@ place_allowed last next octets id place rs is more at =
 pub fresh : (next octets : ℕ) (rs : List Record) → IsBook next octets rs → record_of next rs ≡ None
 fresh next octets rs is = none_before next rs [] (climbs (ids rs ++ next ∷ []) is.rising)
 
--- The other records are those before and behind its place.
+-- The other records are those before and after its place.
 pub others_at : (next octets id place : ℕ) (rs : List Record) → IsBook next octets rs → (at : IsPlaceOf rs id (Some place)) → others_than id rs ≡ at.0 ++ at.2
 others_at next octets id place rs is at =
     let up : Climbs (ids (at.0 ++ at.1 ∷ at.2) ++ next ∷ []) = climbs (ids (at.0 ++ at.1 ∷ at.2) ++ next ∷ []) (subst (λ (l : List Record). IsStrictlyIncreasing (ids l ++ next ∷ [])) at.3 is.rising) in

@@ -44,7 +44,7 @@ module _ (log : Log) (is : IsLog log) (targets : List (List ℕ)) (earliest : �
       ∙ ap (wanted_events targets) (sym (one_more (eid - earliest) (events_from earliest log.events)))
       ∙ ap (λ (n : ℕ). wanted_events targets (take n (events_from earliest log.events))) (sym k)
 
-  -- Behind the last, all.
+  -- After the last, all.
   pub chosen_all : (eid : ℕ) (so_far : List Event) → log.last + 1 ≤ eid → so_far ≡ wanted_events targets (take (eid - earliest) (events_from earliest log.events)) → so_far ≡ wanted_events targets (events_from earliest log.events)
   chosen_all eid so_far past before =
       let long : length (events_from earliest log.events) ≤ eid - earliest = omega (arith, ap length from, length-drop (earliest - log.first) log.events, is.count, past, kept) in

@@ -1,4 +1,4 @@
--- What an entry behind a chronicle changes, and that legal chronicles stay honest.
+-- What an entry after a chronicle changes, and that legal chronicles stay honest.
 use Rattle.std.proofs.Common.{◌≡◌, ◌≢◌, ◌⊎◌, inl, inr, ℕ, ◌+◌, ◌<◌, ◌≤◌, ◌^◌, false, List, [], ◌∷◌, ◌++◌, length, get_or, refl, sym, ap, ◌∙◌, subst, append_assoc, arith, length-append}
 use Rattle.std.specs.Prelude.{All, AllPairs, fold, max}
 use Rattle.std.proofs.lemmas.Bool.{cases_lt}

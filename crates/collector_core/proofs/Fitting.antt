@@ -1,4 +1,4 @@
--- How many events fit into a report, and what is told of them.
+-- How many events fit into a report, and what is reported of them.
 use Rattle.std.proofs.Common.{◌≡◌, inl, inr, ℕ, zero, suc, ◌+◌, ◌<◌, ◌≤◌, leb, Bool, true, false, List, [], ◌∷◌, length, get_or, take, drop, refl, sym, ap, ◌∙◌, subst, arith, take-take}
 use Rattle.std.specs.Prelude.{max, min}
 use Rattle.std.specs.List.{sum_by}
@@ -20,7 +20,7 @@ use Rattle.collector_core.specs.Answering.{consulted_before, events_report, fron
 use Rattle.collector_core.specs.Meaning.{LongestFrontIsTold}
 use Rattle.collector_core.specs.BookAnswer.{inventory_of}
 use Rattle.collector_core.specs.Borrowed.{values}
-use Rattle.collector_core.specs.Carried.{event_of_kind}
+use Rattle.collector_core.specs.ReportContent.{event_of_kind}
 
 -- ---- sizes
 
@@ -115,7 +115,7 @@ module _ (request : Request) (point : Point) (es : List Event) (most : ℕ) wher
       let same : sum_by (event_size request.kind) (take (count + 1) (take k es)) ≡ sum_by (event_size request.kind) (take (count + 1) es) = ap (sum_by (event_size request.kind)) (take-take (count + 1) k es (omega (arith, above))) in
       lt-leb (report_size (events_report request point es k)) most (omega (arith, events_report_size request point es k, more (omega (arith, above, under)), grows, same)))
 
-  -- What is told, by the events from the front and those that are left out.
+  -- What is reported, by the events from the start and those that are left out.
   pub told_is : (count : ℕ) → count ≡ min (max (longest (front_fits request point es most) (length es)) 1) (length es)
       → told request point es most ≡ events_report request point es count
   told_is count is =

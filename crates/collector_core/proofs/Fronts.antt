@@ -1,4 +1,4 @@
--- Fronts of legal chronicles are legal.
+-- Prefixes of legal chronicles are legal.
 use Rattle.std.proofs.Common.{ℕ, ◌+◌, List, [], ◌∷◌, ◌++◌, take, drop, refl, sym, ap, ◌∙◌, subst, append_assoc, arith, length-append, take-append-drop}
 use Rattle.std.proofs.lemmas.List.{append-nil}
 use Rattle.swima_model.specs.declared.event.Event.{Event}

@@ -1,4 +1,4 @@
--- What answered from the history of a chronicle does so behind further entries.
+-- What answered from the history of a chronicle does so after further entries.
 use Rattle.std.proofs.Common.{◌≡◌, inl, inr, ℕ, ◌+◌, ◌<◌, ◌≤◌, ◌&&◌, leb, List, [], ◌∷◌, ◌++◌, length, take, refl, sym, ap, ◌∙◌, subst, append_assoc, arith, length-append}
 use Rattle.std.specs.Prelude.{Contains, fold, nat_le}
 use Rattle.std.proofs.lemmas.Bool.{lt-leb}
@@ -82,7 +82,7 @@ same_live later epoch r count kind within =
     ∙ ap (λ (es : List Event). records_of_kind kind (live r.after.base es)) (take-append-le count epoch.events r.rest within)
     ∙ ap (λ (rs : List Record). records_of_kind kind (live rs (take count epoch.events))) r.base
 
--- Numbered events behind a place are not told up to it.
+-- Numbered events after a place are not reported up to it.
 numbered_rest : (n : ℕ) (xs ys : List Event) → AreNumberedFrom n (xs ++ ys) → AreNumberedFrom (n + length xs) ys
 numbered_rest n [] ys are =
     let e : n ≡ n + 0 = omega arith in

@@ -24,3 +24,4 @@ pub mod Owning
 pub mod Fits
 pub mod Limits
 pub mod WrittenAnswers
+pub mod Borrowed

@@ -10,7 +10,7 @@ use Rattle.swima_model.specs.declared.event.Action.TheVariants.{Creation, Deleti
 use Rattle.swima_model.specs.declared.event.Event.{Event}
 use Rattle.swima_model.specs.declared.record.Content.{Content}
 use Rattle.swima_model.specs.declared.record.Record.{Record}
-use Rattle.swima_model.specs.History.{AreNumberedFrom, Epoch, IsHonestEpoch, does_not_fit}
+use Rattle.swima_model.specs.History.{AreNumberedFrom, Epoch, IsHonestEpoch, is_contradiction}
 use Rattle.swima_model.specs.Live.{is_deletion, is_mentioned, last_mentions, live, record_of, unmentioned}
 use Rattle.swima_model.proofs.Placing.{in_order_permutation}
 use Rattle.collector_core.specs.declared.chronicle.Entry.{Entry}
@@ -90,7 +90,7 @@ first_within start legal =
 
 -- The record of an event is a new one, or one that is live.
 subject_within : (chronicle : Chronicle) (action : Action) (subject : Record) → All IsWithin (live_now chronicle) → IsSubject chronicle action subject
-    → does_not_fit action (is_some (record_of subject.id (live_now chronicle))) ≡ false → subject.id < 2 ^ 32
+    → is_contradiction action (is_some (record_of subject.id (live_now chronicle))) ≡ false → subject.id < 2 ^ 32
 subject_within chronicle Creation subject all is agrees = omega (arith, is.1)
 subject_within chronicle Deletion subject all is agrees = found_within subject.id (live_now chronicle) all agrees
 subject_within chronicle Alteration subject all is agrees = found_within subject.id (live_now chronicle) all agrees

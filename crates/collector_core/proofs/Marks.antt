@@ -1,4 +1,4 @@
--- Entries behind a chronicle, and places in it.
+-- Entries after a chronicle, and places in it.
 use Rattle.std.proofs.Common.{◌≡◌, ℕ, ◌+◌, ◌≤◌, List, [], ◌∷◌, ◌++◌, length, take, refl, sym, ap, ◌∙◌, append_assoc, arith, length-append, take_all}
 use Rattle.std.specs.Prelude.{map}
 use Rattle.std.proofs.lemmas.List.{length-map, take_at}
@@ -16,7 +16,7 @@ others_append (x ∷ xs) ys one two = (one.0, others_append xs ys one.1 two)
 
 -- ---- places
 
--- The chronicle with the first of further entries is a front of that with all.
+-- The chronicle with the first of further entries is a prefix of that with all.
 pub front_behind : (chronicle : Chronicle) (xs ys : List Mark) → front (extended chronicle (entries (xs ++ ys))) (length chronicle.entries + length xs) ≡ extended chronicle (entries xs)
 front_behind chronicle xs ys =
     let all : chronicle.entries ++ entries (xs ++ ys) ≡ (chronicle.entries ++ entries xs) ++ entries ys = ap (λ (zs : List Entry). chronicle.entries ++ zs) (entries_append xs ys) ∙ sym (append_assoc chronicle.entries (entries xs) (entries ys)) in
@@ -35,12 +35,12 @@ pub rise_between : (low lower high higher : ℕ) (places : List ℕ) → lower �
 rise_between low lower high higher [] below above rise = tt
 rise_between low lower high higher (p ∷ ps) below above rise = (omega (arith, below, rise.0), omega (arith, above, rise.1), rise_between p p high higher ps (omega arith) above rise.2)
 
--- Places that rise still do so many further on.
+-- Places that rise still do that many further on.
 pub rise_on : (more low high lower : ℕ) (places : List ℕ) → lower ≤ more + low → Rise low high places → Rise lower (more + high) (map (λ (p : ℕ). more + p) places)
 rise_on more low high lower [] below rise = tt
 rise_on more low high lower (p ∷ ps) below rise = (omega (arith, below, rise.0), omega (arith, rise.1), rise_on more p high (more + p) ps (omega arith) rise.2)
 
--- Further places behind places that rise.
+-- Further places after places that rise.
 pub rise_join : (low high more : ℕ) (places further : List ℕ) → low ≤ high → Rise low high places → Rise 0 more further → Rise low (high + more) (places ++ map (λ (p : ℕ). high + p) further)
 rise_join low high more [] further within rise on = rise_on high 0 more low further (omega (arith, within)) on
 rise_join low high more (p ∷ ps) further within rise on = (rise.0, omega (arith, rise.1), rise_join p high more ps further rise.1 rise.2 on)
@@ -61,7 +61,7 @@ behind_within chronicle xs low (q ∷ qs) rise = (
   behind_within chronicle xs q qs rise.2,
 )
 
--- Steps behind a longer chronicle.
+-- Steps after a longer chronicle.
 pub behind_more : (chronicle : Chronicle) (xs : List Mark) (steps : List ℕ) → behind (extended chronicle (entries xs)) steps ≡ behind chronicle (map (λ (q : ℕ). length xs + q) steps)
 behind_more chronicle xs [] = refl
 behind_more chronicle xs (q ∷ qs) =

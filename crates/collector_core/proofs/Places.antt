@@ -1,4 +1,4 @@
--- Records of rising identifiers: the place of one, and what is live behind one event more.
+-- Records of rising identifiers: the place of one, and what is live after one event more.
 use Rattle.std.proofs.Common.{◌≡◌, inl, inr, ℕ, zero, suc, ◌+◌, ◌<◌, ◌≤◌, eqb, cond, not, Bool, true, false, Option, Some, None, List, [], ◌∷◌, ◌++◌, length, get_or, take, drop, refl, sym, ap, ◌∙◌, subst, append_assoc, arith, eq-eqb, ne_eqb}
 use Rattle.std.specs.Prelude.{Result, Ok, Err}
 use Rattle.std.specs.Option.{option_or}
@@ -91,7 +91,7 @@ none_or (Some r) = refl
 record_append : (id : ℕ) (xs ys : List Record) → record_of id (xs ++ ys) ≡ option_or (record_of id xs) (record_of id ys)
 record_append id xs ys = find-append (λ (r : Record). eqb r.id id) xs ys
 
--- ---- a record with others before and behind it
+-- ---- a record with others before and after it
 
 module _ (before : List Record) (held : Record) (after : List Record) (next : ℕ) (up : Climbs (ids (before ++ held ∷ after) ++ next ∷ [])) where
   seam : ids (before ++ held ∷ after) ++ next ∷ [] ≡ ids before ++ held.id ∷ (ids after ++ next ∷ [])

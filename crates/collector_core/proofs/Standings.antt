@@ -1,4 +1,4 @@
--- A book behind an entry stands for the chronicle with that entry.
+-- A book after an entry stands for the chronicle with that entry.
 use Rattle.std.proofs.Common.{◌≡◌, ℕ, ◌+◌, ◌-◌, ◌<◌, ◌≤◌, ◌^◌, eqb, leb, ltb, cond, not, Bool, true, false, Option, Some, None, List, [], ◌∷◌, ◌++◌, length, refl, sym, ap, ◌∙◌, subst, arith, length-append, eqb-true, leb-false, ltb-false}
 use Rattle.std.specs.Prelude.{fold, max, Result, Ok, Err, OnOk, is_some}
 use Rattle.std.proofs.lemmas.Bool.{eqb-false}
@@ -29,7 +29,7 @@ use Rattle.collector_core.proofs.Chronicles.{current_more, trims_more, next_more
 
 -- ---- events
 
--- The next identifier behind an event.
+-- The next identifier after an event.
 next_step : (m next id : ℕ) (action : Action) → next ≡ m + 1 → (action ≡ Creation → id ≡ next) → next_after action next ≡ fold max m (created_by action id ++ []) + 1
 next_step m next id Creation is new = omega (arith, is, new refl)
 next_step m next id Deletion is new = is
@@ -139,7 +139,7 @@ module _ (T : Type 0) (says at : Entry → Type 0) (refusal there : Option BookE
   enters_ok : refusal ≡ None → (made : Entry) → at made → new ≡ book_after old made → Stands (book_after old made) (extended chronicle (made ∷ [])) → (there ≡ None) × ((made : Entry) × at made × Stands new (extended chronicle (made ∷ [])))
   enters_ok none made says_so is behind = (sym same ∙ none, (made, says_so, subst (λ (book : BookView). Stands book (extended chronicle (made ∷ []))) (sym is) behind))
 
--- An error that is not want of memory is the refusal.
+-- An error that is not running out of memory is the refusal.
 pub changes_err : (T : Type 0) (says : Entry → Type 0) (refusal : Option BookError) (old new : BookView) (error : BookError) → (error ≡ refused.Memory → ⊥) → refusal ≡ Some error → new ≡ old → Changes {T = T} says refusal old (Err error) new
 changes_err T says refusal old new refused.Memory not is same = absurd (not refl)
 changes_err T says refusal old new (refused.EidsSpent n) not is same = (is, same)

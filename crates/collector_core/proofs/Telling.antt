@@ -1,4 +1,4 @@
--- What a report of an answer tells is within the limits of reports.
+-- What a report of an answer reports is within the limits of reports.
 use Rattle.std.proofs.Common.{◌≡◌, ℕ, ◌-◌, ◌≤◌, ◌&&◌, ◌||◌, Bool, true, false, eqb, leb, ltb, cond, List, [], ◌∷◌, length, take, drop, refl, sym, ap, ◌∙◌, subst, arith, length-take}
 use Rattle.std.specs.Prelude.{All, filter, nat_le}
 use Rattle.std.proofs.lemmas.Bool.{eqb-false, leb-true, ltb-false, or_parts}

@@ -17,7 +17,7 @@ use Rattle.swima_model.specs.declared.event.Event.{Event}
 use Rattle.swima_model.specs.declared.record.Record.{Record}
 use Rattle.collector_core.specs.Answering.{is_wanted, wanted_events, wanted_records}
 use Rattle.collector_core.specs.Borrowed.{values}
-use Rattle.collector_core.specs.Wanted.{Rises}
+use Rattle.collector_core.specs.OctetOrder.{Rises}
 
 -- ---- what is asked for
 

@@ -133,10 +133,7 @@ answers_are_read_back chronicle request most report legal number small e =
     let told : CanBeTold most report = answers_can_be_told chronicle request most report legal e in
     let carried : IsCarried report = answer_is_carried chronicle request most legal number report (eqb request.earliest 0 || ltb request.earliest (first_kept chronicle)) e told in
     record {
-      count = omega (arith, told.count);
-      size = omega (arith, told.size, small);
-      stamps = told.stamps;
-      consulted = told.consulted;
+      fits = record { count = omega (arith, told.count); within = omega (arith, told.size, small); stamps = told.stamps; consulted = told.consulted };
       writable = carried.0;
       same = λ base. written_is_read base report carried.0 ∙ ap Ok (carried_is_report report carried.1);
     }

@@ -41,13 +41,13 @@ abbrev pub consulted_before : List Event → ℕ → ℕ
 consulted_before [] last = last
 consulted_before (event ∷ later) last = event.eid - 1
 
--- The report of so many of the events from the front.
+-- The report of that many of the events from the start.
 abbrev pub events_report : Request → Point → List Event → ℕ → Report
 events_report request point events count =
     Events request.kind false request.id point (consulted_before (drop count events) point.eid)
     (events_of_kind request.kind (take count events))
 
--- With so many of the events from the front the report fits.
+-- With that many of the events from the start the report fits.
 abbrev pub front_fits : Request → Point → List Event → ℕ → ℕ → Bool
 front_fits request point events most count = nat_le (report_size (events_report request point events count)) most
 
@@ -58,8 +58,8 @@ longest test (suc count) = if test (suc count) then suc count else longest test 
 
 -- ---- answers
 
--- The report of as many of the events from the front as fit (section 3.7.5). Where not even the first fits, it is that of the
--- first alone, which is too large.
+-- The report of as many of the events from the start as fit (section 3.7.5). Where not even the
+-- first fits, it is that of the first alone, which is too large.
 abbrev pub told : Request → Point → List Event → ℕ → Report
 told request point events most = events_report request point events (max 1 (longest (front_fits request point events most) (length events)))
 
@@ -73,11 +73,12 @@ inventory_at chronicle request =
 abbrev pub events_at : Chronicle → Request → List Event
 events_at chronicle request = wanted_events request.targets (from_to request.earliest (last_eid chronicle) (current chronicle).events)
 
--- What is told of them.
+-- What is reported of them.
 abbrev pub told_at : Chronicle → Request → ℕ → Report
 told_at chronicle request most = told request (point_of chronicle) (events_at chronicle request) most
 
--- The answer: the inventory where it was asked for or the earliest event is no longer kept, else events.
+-- The answer: the inventory where it was asked for or the earliest event is no longer kept, else
+-- events.
 abbrev pub answer_at : Chronicle → Request → ℕ → Answer
 answer_at chronicle request most =
     if request.earliest == 0 || nat_lt request.earliest (first_kept chronicle) then if_fits most (inventory_at chronicle request)
@@ -91,12 +92,12 @@ AnswerIs answer.Memory wanted = Unit {0}
 
 -- ---- moves
 
--- The event is behind an event identifier, and matches.
+-- The event is after an event identifier, and matches.
 abbrev pub is_later : ℕ → List (List ℕ) → Event → Bool
 is_later after targets event = nat_lt after event.eid && is_wanted targets event.subject.content.ident
 
--- Something has changed since a point: the epoch is another, or events behind it are no longer kept, or a matching event
--- is behind it.
+-- Something has changed since a point: the epoch is another, or events after it are no longer
+-- kept, or a matching event is after it.
 abbrev pub moved_at : Chronicle → Point → List (List ℕ) → Bool
 moved_at chronicle after targets =
     not (after.epoch == (current chronicle).number) || nat_lt (after.eid + 1) (first_kept chronicle)

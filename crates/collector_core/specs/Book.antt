@@ -7,20 +7,23 @@ use Rattle.swima_model.specs.InOrder.{ids}
 use Rattle.swima_model.specs.Live.{record_of}
 use Rattle.swima_model.specs.Size.{MOST_RECORDS_OCTETS, are_large, content_octets, records_octets}
 
--- The identifiers of its records rise, and the next is above them; the octets are counted, and the records are not too many.
+-- The identifiers of its records rise, and the next is above them; the octets are counted, and the
+-- records are not too many.
 pub record IsBook (next octets : ℕ) (records : List Record) : Type 0 where
   pub rising : IsStrictlyIncreasing (ids records ++ next ∷ [])
   pub counted : octets ≡ records_octets records
   pub fits : are_large records ≡ false
 
--- The place at which the record of an identifier stands among the records, or `None` where there is none.
+-- The place at which the record of an identifier stands among the records, or `None` where there is
+-- none.
 abbrev pub IsPlaceOf : List Record → ℕ → Option ℕ → Type 0
 IsPlaceOf records id None = record_of id records ≡ None
 IsPlaceOf records id (Some place) =
     (before : List Record) × (held : Record) × (after : List Record) × (records ≡ before ++ held ∷ after) × (place ≡ length before)
     × (held.id ≡ id)
 
--- With this content in place of that of the record at the place, the records have so many octets, and not too many.
+-- With this content in place of that of the record at the place, the records have that many octets,
+-- and not too many.
 abbrev pub IsExchange : List Record → ℕ → Content → ℕ → Type 0
 IsExchange records place content octets =
     (octets ≤ MOST_RECORDS_OCTETS) × ((before : List Record) (held : Record) (after : List Record) → records ≡ before ++ held ∷ after

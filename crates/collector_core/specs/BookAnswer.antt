@@ -1,4 +1,5 @@
--- What a book answers, in terms of what it holds. At each chronicle that it stands for, this is the answer.
+-- What a book answers, in terms of what it holds. At each chronicle that it stands for, this is the
+-- answer.
 use Rattle.std.specs.Prelude.{◌==◌, ◌||◌, ◌+◌, ℕ, Bool, false, List, not, nat_lt, if◌then◌else◌}
 use Rattle.std.specs.List.{list_any}
 use Rattle.swima_model.specs.declared.record.Record.{Record}

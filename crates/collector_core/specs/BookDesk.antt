@@ -8,7 +8,8 @@ use Rattle.collector_core.specs.Desks.{AreOwn, State, entries}
 use Rattle.collector_core.specs.Legal.{IsLegal}
 use Rattle.collector_core.specs.Standing.{BookView, Stands}
 
--- The entries are its own, and for each chronicle that it stood for it stands for that one with them behind it.
+-- The entries are its own, and for each chronicle that it stood for it stands for that one with
+-- them after it.
 pub record BookWent (before : BookView) (marks : List Mark) (after : BookView) : Type 0 where
   pub own : AreOwn marks
   pub stood : (chronicle : Chronicle) → Stands before chronicle → Stands after (extended chronicle (entries marks))
@@ -17,7 +18,7 @@ pub record BookWent (before : BookView) (marks : List Mark) (after : BookView) :
 abbrev pub book_state : BookView → State
 book_state book = record { epoch = book.epoch; last = book.log.last; next = book.next; records = book.records }
 
--- ---- entries behind a chronicle
+-- ---- entries after a chronicle
 
 pub entries_append : (xs ys : List Mark) → entries (xs ++ ys) ≡ entries xs ++ entries ys
 entries_append xs ys = map-append (λ (m : Mark). m.entry) xs ys

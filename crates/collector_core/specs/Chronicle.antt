@@ -1,5 +1,6 @@
--- The chronicle of a collector: how it began, and what was entered since. What it says of the inventory: the history of its
--- epochs (RFC 8412, section 3.7.1), the records that are live, the point, and which events are still kept.
+-- The chronicle of a collector: how it began, and what was entered since. What it says of the
+-- inventory: the history of its epochs (RFC 8412, section 3.7.1), the records that are live, the
+-- point, and which events are still kept.
 use Rattle.std.specs.Prelude.{◌+◌, ◌-◌, ℕ, List, [], ◌∷◌, ◌++◌, length, take, fold, max}
 use Rattle.swima_model.specs.declared.event.Action.{Action}
 use Rattle.swima_model.specs.declared.event.Action.TheVariants.{Creation, Deletion, Alteration}
@@ -11,7 +12,8 @@ use Rattle.swima_model.specs.Live.{live}
 use Rattle.collector_core.specs.declared.chronicle.Entry.{Entry}
 use Rattle.collector_core.specs.declared.chronicle.Entry.TheVariants as entry
 
--- How it began: the number of its first epoch, how many events it keeps at most, and what was there.
+-- How it began: the number of its first epoch, how many events it keeps at most, and what was
+-- there.
 pub record Start : Type 0 where
   pub epoch : ℕ
   pub cap : ℕ
@@ -22,11 +24,11 @@ pub record Chronicle : Type 0 where
   pub start : Start
   pub entries : List Entry
 
--- The chronicle with further entries behind its own.
+-- The chronicle with further entries after its own.
 abbrev pub extended : Chronicle → List Entry → Chronicle
 extended chronicle further = record chronicle { entries = chronicle.entries ++ further }
 
--- Its front: so many of its entries.
+-- Its prefix: that many of its entries.
 abbrev pub front : Chronicle → ℕ → Chronicle
 front chronicle count = record chronicle { entries = take count chronicle.entries }
 
@@ -41,7 +43,8 @@ identified_from id (content ∷ others) = record { id = id; content = content } 
 abbrev pub first_epoch : Start → Epoch
 first_epoch start = record { number = start.epoch; base = identified_from 1 start.contents; events = [] }
 
--- The epoch that is current behind an entry: an event is one more of it, and a new epoch begins with what is live.
+-- The epoch that is current after an entry: an event is one more of it, and a new epoch begins
+-- with what is live.
 abbrev pub epoch_after : Epoch → Entry → Epoch
 epoch_after epoch (entry.Event event) = record epoch { events = epoch.events ++ event ∷ [] }
 epoch_after epoch (entry.Epoch number) = record { number = number; base = live epoch.base epoch.events; events = [] }
@@ -51,7 +54,7 @@ epoch_after epoch (entry.Trim first) = epoch
 abbrev pub current : Chronicle → Epoch
 current chronicle = fold epoch_after (first_epoch chronicle.start) chronicle.entries
 
--- An epoch with the entries behind it, and the epochs after it.
+-- An epoch with the entries after it, and the epochs after it.
 abbrev pub epochs_from : Epoch → List Entry → History
 epochs_from epoch [] = epoch ∷ []
 epochs_from epoch (entry.Event event ∷ later) = epochs_from (epoch_after epoch (entry.Event event)) later
@@ -68,7 +71,8 @@ live_now chronicle = live (current chronicle).base (current chronicle).events
 
 -- ---- numbers
 
--- The last event identifier of the current epoch, in which events have 1, 2 and so on; 0 where there is none.
+-- The last event identifier of the current epoch, in which events have 1, 2 and so on; 0 where
+-- there is none.
 abbrev pub last_eid : Chronicle → ℕ
 last_eid chronicle = length (current chronicle).events
 
@@ -76,13 +80,15 @@ last_eid chronicle = length (current chronicle).events
 abbrev pub point_of : Chronicle → Point
 point_of chronicle = record { epoch = (current chronicle).number; eid = last_eid chronicle }
 
--- The first event identifier that is to be kept behind an entry, as far as trims say so: a new epoch begins with 1.
+-- The first event identifier that is to be kept after an entry, as far as trims say so: a new
+-- epoch begins with 1.
 abbrev pub trim_after : ℕ → Entry → ℕ
 trim_after first (entry.Event event) = first
 trim_after first (entry.Epoch number) = 1
 trim_after first (entry.Trim at) = max first at
 
--- The first event identifier that is kept: not below a trim of the current epoch, nor before the latest so many events.
+-- The first event identifier that is kept: not below a trim of the current epoch, nor before the
+-- latest that many events.
 abbrev pub first_kept : Chronicle → ℕ
 first_kept chronicle = max (fold trim_after 1 chronicle.entries) (last_eid chronicle + 1 - chronicle.start.cap)
 

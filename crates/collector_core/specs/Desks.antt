@@ -1,4 +1,5 @@
--- Desks: who keeps an inventory, changes it when told to and answers of it, while others may change it between two calls.
+-- Desks: who keeps an inventory, changes it when asked to and answers of it, while others may
+-- change it between two calls.
 use Rattle.std.specs.Prelude.{◌≡◌, ◌≤◌, ◌+◌, ℕ, true, false, List, [], ◌∷◌, ◌++◌, Option, Some, None, Result, Ok, Err, length, map, filter}
 use Rattle.swima_model.specs.declared.record.Content.{Content}
 use Rattle.swima_model.specs.declared.record.Record.{Record}
@@ -36,8 +37,8 @@ owned marks = entries (filter (λ (m : Mark). m.own) marks)
 
 -- ---- what a change looks at
 
--- The number of the current epoch, its last event identifier, the identifier of the next record, and the records that are
--- live.
+-- The number of the current epoch, its last event identifier, the identifier of the next record,
+-- and the records that are live.
 pub record State : Type 0 where
   pub epoch : ℕ
   pub last : ℕ
@@ -48,7 +49,7 @@ pub record State : Type 0 where
 abbrev pub state_of : Chronicle → State
 state_of chronicle = record { epoch = (current chronicle).number; last = last_eid chronicle; next = next_id chronicle; records = live_now chronicle }
 
--- The entry that creates a record of this content, and the identifier that is told.
+-- The entry that creates a record of this content, and the identifier that is reported.
 abbrev pub Creates : List ℕ → Content → ℕ → State → Entry → Type 0
 Creates stamp content id state made = (id ≡ state.next) × IsCreation state.last state.next stamp content made
 
@@ -72,11 +73,11 @@ deletes_not id state = delete_refusal state.last state.records id
 
 -- ---- what a call says
 
--- Of any desk: `stands desk chronicle` where it stands for the chronicle, and `went before marks after` where these entries
--- came from the one to the other.
+-- Of any desk: `stands desk chronicle` where it stands for the chronicle, and
+-- `went before marks after` where these entries came from the one to the other.
 module _ {D : Type 0} (stands : D → Chronicle → Type 0) (went : D → List Mark → D → Type 0) where
-  -- It was asked. There is a chronicle that it stood for. Others' entries may have come first; behind them, at each
-  -- chronicle that it stood for, this was answered.
+  -- It was asked. There is a chronicle that it stood for. Others' entries may have come first;
+  -- after them, at each chronicle that it stood for, this was answered.
   pub record Reads (before after : D) (answered : Chronicle → Type 0) : Type 0 where
     pub some : (chronicle : Chronicle) × stands before chronicle
     pub others : List Mark
@@ -84,7 +85,7 @@ module _ {D : Type 0} (stands : D → Chronicle → Type 0) (went : D → List M
     pub grows : went before others after
     pub answers : (chronicle : Chronicle) → stands before chronicle → answered (extended chronicle (entries others))
 
-  -- Behind others' entries the change was done, with an entry that is as it says, exactly where
+  -- After others' entries the change was done, with an entry that is as it says, exactly where
   -- nothing refuses it there. Memory is the last refusal.
   abbrev pub Does : {T : Type 0} → (T → State → Entry → Type 0) → (State → Option BookError) → D → List Mark → D → Result T BookError
       → Type 0
@@ -99,7 +100,8 @@ module _ {D : Type 0} (stands : D → Chronicle → Type 0) (went : D → List M
       went before others after × ((chronicle : Chronicle) → stands before chronicle
       → refusal (state_of (extended chronicle (entries others))) ≡ Some error)
 
-  -- It was told to change. There is a chronicle that it stood for. Others' entries may have come first.
+  -- It was asked to change. There is a chronicle that it stood for. Others' entries may have come
+  -- first.
   pub record Edits {T : Type 0} (says : T → State → Entry → Type 0) (refusal : State → Option BookError) (before after : D)
       (result : Result T BookError) : Type 0 where
     pub some : (chronicle : Chronicle) × stands before chronicle
@@ -119,6 +121,6 @@ abbrev pub Within : ℕ → List ℕ → Type 0
 Within most [] = Unit {0}
 Within most (place ∷ later) = (place ≤ most) × Within most later
 
--- So many entries behind a chronicle.
+-- That many entries after a chronicle.
 abbrev pub behind : Chronicle → List ℕ → List ℕ
 behind chronicle steps = map (λ (step : ℕ). length chronicle.entries + step) steps

@@ -5,8 +5,8 @@ use Rattle.swima_model.specs.declared.record.Record.{Record}
 use Rattle.swima_model.specs.Live.{record_of}
 use Rattle.collector_core.specs.declared.chronicle.Entry.{Entry}
 use Rattle.collector_core.specs.declared.chronicle.Entry.TheVariants as entry
-use Rattle.collector_core.specs.declared.edit.Edit.{Edit}
-use Rattle.collector_core.specs.declared.edit.Edit.TheVariants as edit
+use Rattle.collector_core.specs.declared.book.edit.Edit.{Edit}
+use Rattle.collector_core.specs.declared.book.edit.Edit.TheVariants as edit
 use Rattle.collector_core.specs.declared.error.BookError.{BookError}
 use Rattle.collector_core.specs.BookDesk.{book_state}
 use Rattle.collector_core.specs.Desks.{State}

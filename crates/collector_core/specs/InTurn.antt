@@ -7,8 +7,9 @@ use Rattle.collector_core.specs.Answering.{AnswerIs, answer_at}
 use Rattle.collector_core.specs.Chronicle.{Chronicle, extended, front}
 use Rattle.collector_core.specs.Desks.{AreOthers, Rise, entries}
 
--- There is a chronicle that the desk stood for. Each is the answer at one place of the same chronicle, which is the one that
--- the desk stood for with others' entries behind it; and the second place is not below the first.
+-- There is a chronicle that the desk stood for. Each is the answer at one place of the same
+-- chronicle, which is the one that the desk stood for with others' entries after it; and the
+-- second place is not below the first.
 module _ {D : Type 0} (stands : D → Chronicle → Type 0) (went : D → List Mark → D → Type 0) where
   pub record AnswersInTurn (before after : D) (one two : Request) (most : ℕ) (first second : Answer) : Type 0 where
     pub some : (chronicle : Chronicle) × stands before chronicle

@@ -7,6 +7,6 @@ use Rattle.event_log.specs.Log.{events_from}
 abbrev pub idents : List Event → List (List ℕ)
 idents events = map (λ (e : Event). e.subject.content.ident) events
 
--- Those of the events behind an event identifier.
+-- Those of the events after an event identifier.
 abbrev pub later_idents : ℕ → List Event → List (List ℕ)
 later_idents after events = idents (events_from (after + 1) events)

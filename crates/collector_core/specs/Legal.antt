@@ -31,8 +31,8 @@ pub record IsStart (start : Start) : Type 0 where
   pub cap : (1 ≤ start.cap) × (start.cap ≤ 4096)
   pub contents : All IsContent start.contents
 
--- The record of an event is the next one where it was created, below the last number of four octets; and where it was
--- deleted the one that was live, without its body.
+-- The record of an event is the next one where it was created, below the last number of four
+-- octets; and where it was deleted the one that was live, without its body.
 abbrev pub IsSubject : Chronicle → Action → Record → Type 0
 IsSubject chronicle Creation subject = (subject.id ≡ next_id chronicle) × (subject.id < 2 ^ 32 - 1)
 IsSubject chronicle Deletion subject = (held : Record) × (record_of subject.id (live_now chronicle) ≡ Some held)

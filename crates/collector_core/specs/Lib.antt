@@ -6,8 +6,8 @@ pub mod Refusals
 pub mod Standing
 pub mod Borrowed
 pub mod Later
-pub mod Carried
-pub mod Wanted
+pub mod ReportContent
+pub mod OctetOrder
 pub mod BookAnswer
 pub mod Desks
 pub mod BookDesk

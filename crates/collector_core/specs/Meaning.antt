@@ -11,8 +11,8 @@ use Rattle.collector_core.specs.declared.chronicle.Entry.{Entry}
 use Rattle.collector_core.specs.declared.chronicle.Mark.{Mark}
 use Rattle.collector_core.specs.declared.answer.Answer.{Answer}
 use Rattle.collector_core.specs.declared.answer.Answer.TheVariants as answer
-use Rattle.collector_core.specs.declared.edit.Changed.{Changed}
-use Rattle.collector_core.specs.declared.edit.Edit.{Edit}
+use Rattle.collector_core.specs.declared.book.edit.Changed.{Changed}
+use Rattle.collector_core.specs.declared.book.edit.Edit.{Edit}
 use Rattle.collector_core.specs.BookDesk.{book_state}
 use Rattle.collector_core.specs.Chronicle.{Chronicle, current, extended, front, history, last_eid}
 use Rattle.collector_core.specs.Desks.{AreOthers, AreOwn, State, entries, owned, state_of}
@@ -26,7 +26,8 @@ abbrev pub histories : List Chronicle → History
 histories [] = []
 histories (chronicle ∷ later) = history chronicle ++ histories later
 
--- The histories of legal chronicles one after another are honest where no number of an epoch is used twice.
+-- The histories of legal chronicles one after another are honest where no number of an epoch is
+-- used twice.
 abbrev pub ChroniclesJoin : Type 0
 ChroniclesJoin = (chronicles : List Chronicle) → All IsLegal chronicles
     → AllPairs (λ (one other : Epoch). one.number ≢ other.number) (histories chronicles) → IsHonest (histories chronicles)
@@ -51,7 +52,7 @@ PrefixesStay = (chronicle : Chronicle) (further : List Entry) (count : ℕ) → 
 abbrev pub PrefixesExtend : Type 0
 PrefixesExtend = (chronicle : Chronicle) (count : ℕ) → extended (front chronicle count) (drop count chronicle.entries) ≡ chronicle
 
--- ---- what answers tell
+-- ---- what answers say
 
 -- An answer is a report of at most this many octets, or the size of one that has more. It is never
 -- that memory ran out.
@@ -63,22 +64,23 @@ IsReportOrSize most answer.Memory = ⊥
 abbrev pub AnswersAreReportsOrSizes : Type 0
 AnswersAreReportsOrSizes = (chronicle : Chronicle) (request : Request) (most : ℕ) → IsReportOrSize most (answer_at chronicle request most)
 
--- The report has at most so many octets, and no more than 65,536 records or events; and it may be written.
+-- The report has at most that many octets, and no more than 65,536 records or events; and it may be
+-- written.
 pub record CanBeTold (most : ℕ) (report : Report) : Type 0 where
   pub size : report_size report ≤ most
   pub count : report_count report ≤ MOST_RECORDS
   pub stamps : HasStamps report
   pub consulted : ConsultsWithin report
 
--- At a legal chronicle, each report that is an answer can be told.
+-- At a legal chronicle, each report that is an answer can be told: it meets `CanBeTold`.
 abbrev pub AnswersCanBeTold : Type 0
 AnswersCanBeTold = (chronicle : Chronicle) (request : Request) (most : ℕ) (report : Report) → IsLegal chronicle
     → answer_at chronicle request most ≡ answer.Report report → CanBeTold most report
 
--- ---- the longest front of events
+-- ---- the longest prefix of events
 
--- Of the events a front is told that fits, or the first alone, or none where there is none; and no longer front fits
--- (section 3.7.5).
+-- Of the events a prefix is reported that fits, or the first alone, or none where there is none;
+-- and no longer prefix fits (section 3.7.5).
 pub record TellsLongest (request : Request) (point : Point) (events : List EventValue) (most : ℕ) : Type 0 where
   pub count : ℕ
   pub within : count ≤ length events
@@ -92,7 +94,8 @@ LongestFrontIsTold = (request : Request) (point : Point) (events : List EventVal
 
 -- ---- points of one epoch
 
--- Where something has moved since a point of the current epoch, the point is below the last event identifier.
+-- Where something has moved since a point of the current epoch, the point is below the last event
+-- identifier.
 abbrev pub MovedIsLater : Type 0
 MovedIsLater = (chronicle : Chronicle) (after : Point) (targets : List (List ℕ)) → IsLegal chronicle
     → after.epoch ≡ (current chronicle).number → moved_at chronicle after targets ≡ true → after.eid < last_eid chronicle
@@ -105,7 +108,7 @@ LastRises = (chronicle : Chronicle) (further : List Entry) → IsLegal (extended
 
 -- ---- growth
 
--- A report that answered from a chronicle's history still does so behind further entries.
+-- A report that answered from a chronicle's history still does so after further entries.
 abbrev pub AnswersStay : Type 0
 AnswersStay = (chronicle : Chronicle) (further : List Entry) (report : Report) → IsLegal (extended chronicle further)
     → Answers (history chronicle) report → Answers (history (extended chronicle further)) report

@@ -8,7 +8,8 @@ use Rattle.swima_model.specs.Size.{MOST_RECORDS, MOST_RECORDS_OCTETS, content_oc
 use Rattle.collector_core.specs.declared.error.BookError.{BookError}
 use Rattle.collector_core.specs.declared.error.BookError.TheVariants as refused
 
--- The last number of four octets. As an event identifier it is the last; as a record identifier it is never given.
+-- The last number of four octets. As an event identifier it is the last; as a record identifier it
+-- is never given.
 abbrev pub LAST : ℕ
 LAST = 2 ^ 32 - 1
 
@@ -19,7 +20,8 @@ new_refusal contents =
     else if nat_lt MOST_RECORDS_OCTETS (sum_by content_octets contents) then Some (refused.BytesFull 0 (sum_by content_octets contents))
     else None
 
--- A further record of this content, behind a last event identifier, before the next record identifier, where these are live.
+-- A further record of this content, after a last event identifier, before the next record
+-- identifier, where these are live.
 abbrev pub create_refusal : ℕ → ℕ → List Record → Content → Option BookError
 create_refusal last next records content =
     if last == LAST then Some (refused.EidsSpent last)
@@ -49,7 +51,7 @@ delete_refusal last records id =
     else if not (is_some (record_of id records)) then Some (refused.UnknownRecord id)
     else None
 
--- An epoch of this number, behind the latest.
+-- An epoch of this number, after the latest.
 abbrev pub epoch_refusal : ℕ → ℕ → Option BookError
 epoch_refusal latest given = if nat_le given latest then Some (refused.EpochNotNew latest given) else None
 

@@ -1,5 +1,5 @@
--- What a book holds, for which chronicles it stands, and what a change does to it. One book stands for many chronicles, since
--- its log forgets.
+-- What a book holds, for which chronicles it stands, and what a change does to it. One book stands
+-- for many chronicles, since its log forgets.
 use Rattle.std.specs.Prelude.{◌≡◌, ◌+◌, ℕ, List, [], ◌∷◌, Option, Some, None, Result, Ok, Err, length}
 use Rattle.swima_model.specs.declared.event.Action.{Action}
 use Rattle.swima_model.specs.declared.event.Action.TheVariants.{Creation, Deletion, Alteration}
@@ -17,8 +17,8 @@ use Rattle.collector_core.specs.declared.error.BookError.TheVariants as refused
 use Rattle.collector_core.specs.Chronicle.{Start, Chronicle, extended, identified_from, current, live_now, last_eid, next_id, first_kept}
 use Rattle.collector_core.specs.Legal.{IsLegal}
 
--- What a book holds: the number of the current epoch, the identifier of the next record, the records that are live, and the
--- log of the epoch's latest events.
+-- What a book holds: the number of the current epoch, the identifier of the next record, the
+-- records that are live, and the log of the epoch's latest events.
 pub record BookView : Type 0 where
   pub epoch : ℕ
   pub next : ℕ
@@ -42,7 +42,7 @@ StandsForSome book = (chronicle : Chronicle) × Stands book chronicle
 
 -- ---- changes
 
--- The event that creates a record, behind this last event identifier, with this record identifier.
+-- The event that creates a record, after this last event identifier, with this record identifier.
 abbrev pub creation : ℕ → ℕ → List ℕ → Content → Event
 creation last next stamp content = record { eid = last + 1; stamp = stamp; action = Creation; subject = record { id = next; content = content } }
 
@@ -65,13 +65,13 @@ abbrev pub IsDeletion : ℕ → List Record → List ℕ → ℕ → Entry → T
 IsDeletion last records stamp id made = (held : Record) × (record_of id records ≡ Some held)
     × (made ≡ entry.Event (deletion last stamp held))
 
--- The next record identifier behind an event.
+-- The next record identifier after an event.
 abbrev pub next_after : Action → ℕ → ℕ
 next_after Creation next = next + 1
 next_after Deletion next = next
 next_after Alteration next = next
 
--- The book behind an entry.
+-- The book after an entry.
 abbrev pub book_after : BookView → Entry → BookView
 book_after book (entry.Event event) = record {
   epoch = book.epoch;
@@ -86,8 +86,8 @@ book_after book (entry.Trim first) = record book { log = kept_from first book.lo
 abbrev pub book_of : Start → BookView
 book_of start = record { epoch = start.epoch; next = length start.contents + 1; records = identified_from 1 start.contents; log = empty_log start.cap }
 
--- The change was done exactly where nothing refuses it, with an entry that is as it says; else the book is as it was. Memory
--- is the last refusal.
+-- The change was done exactly where nothing refuses it, with an entry that is as it says; else the
+-- book is as it was. Memory is the last refusal.
 abbrev pub Changes : {T : Type 0} → (Entry → Type 0) → Option BookError → BookView → Result T BookError → BookView → Type 0
 Changes says refusal old (Ok told) new = (refusal ≡ None) × ((made : Entry) × says made × (new ≡ book_after old made))
 Changes says refusal old (Err refused.Memory) new = (refusal ≡ None) × (new ≡ old)
@@ -99,7 +99,8 @@ ChangesExactly says refusal old (Ok told) new = (refusal ≡ None) × ((made : E
 ChangesExactly says refusal old (Err refused.Memory) new = ⊥
 ChangesExactly says refusal old (Err error) new = (refusal ≡ Some error) × (new ≡ old)
 
--- The same in terms of a chronicle that the book stood for: it stands for the longer one, or for it still.
+-- The same in terms of a chronicle that the book stood for: it stands for the longer one, or for it
+-- still.
 abbrev pub Enters : {T : Type 0} → (Entry → Type 0) → Option BookError → Chronicle → Result T BookError → BookView → Type 0
 Enters says refusal chronicle (Ok told) new = (refusal ≡ None) × ((made : Entry) × says made × Stands new (extended chronicle (made ∷ [])))
 Enters says refusal chronicle (Err refused.Memory) new = (refusal ≡ None) × Stands new chronicle

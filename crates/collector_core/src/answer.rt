@@ -6,7 +6,7 @@ ghost use Rattle.collector_core.specs.Answering.{consulted_before, front_fits, i
 ghost use Rattle.collector_core.specs.BookAnswer.{inventory_of};
 ghost use Rattle.collector_core.specs.Borrowed.{values};
 
-use crate::carried::{events_of_kind, records_of_kind, size_of_events, size_of_records};
+use crate::report_content::{events_of_kind, records_of_kind, size_of_lent};
 use std::alloc::Global;
 use swima_model::{Event, Point, Record, Report};
 use swima_request::Request;
@@ -24,12 +24,12 @@ pub enum Answer {
         /// How many it may have at most.
         max: u32,
     },
-    /// Want of memory.
+    /// Out of memory.
     Memory,
 }
 
 /// The inventory of these records, or its size where that passes the most octets.
-pub fn inventory(
+pub(crate) fn inventory(
     alloc: Global,
     request: &Request,
     point: Point,
@@ -39,12 +39,9 @@ pub fn inventory(
     requires few { length records.now ≤ 65536 }
     ensures answer { IfOk result (λ answer. answer ≡ if_fits most (inventory_of request.now point (values records.now))) }
 {
-    let octets = 16 + size_of_records(request.kind, records);
-    if octets > most as u64 {
-        return Ok(Answer::TooLarge {
-            size: octets,
-            max: most,
-        });
+    let size = 16 + size_of_lent(request.kind, records);
+    if size > most as u64 {
+        return Ok(Answer::TooLarge { size, max: most });
     }
     Ok(Answer::Report(Report::Inventory {
         kind: request.kind,
@@ -55,8 +52,8 @@ pub fn inventory(
     }))
 }
 
-/// As many of these events from the front as fit, or the size of the report of the first alone.
-pub fn told(
+/// As many of these events from the start as fit, or the size of the report of the first alone.
+pub(crate) fn told(
     alloc: Global,
     request: &Request,
     point: Point,
@@ -68,7 +65,7 @@ pub fn told(
 {
     let count = fitting(request, events, most).max(1).min(events.len());
     let front = &events[..count];
-    let size = 20 + size_of_events(request.kind, front);
+    let size = 20 + size_of_lent(request.kind, front);
     if size > most as u64 {
         return Ok(Answer::TooLarge { size, max: most });
     }
@@ -82,7 +79,7 @@ pub fn told(
     }))
 }
 
-/// How many of these events fit, from the front.
+/// How many of these events fit, from the start.
 fn fitting(request: &Request, events: &[&Event], most: u32) -> usize
     ensures count { (point : Point)
         → result ≡ longest (front_fits request.now point (values events.now) most) (length (values events.now)) }

@@ -1,4 +1,11 @@
 //! The inventory of one endpoint, and its changes.
+//!
+//! The contract of a call says its result twice. `done` and its like (`point`, `live`, `moved`,
+//! `answer`) speak of what this book holds, for a caller who has one book.
+//!
+//! `stands` speaks of every chronicle that the book represents: of the whole history, of which the
+//! log keeps only the end. It is for a caller who compares answers of different moments, or shares
+//! a book with others: it does not depend on what the log forgot.
 
 ghost use Rattle.std.specs.Prelude.{◌≡◌, ◌≤◌, ◌+◌, [], IfOk, length};
 ghost use Rattle.std.specs.Option.{option_copied};
@@ -14,6 +21,7 @@ ghost use Rattle.collector_core.specs.Standing.{BookView, Changes, ChangesExactl
 
 mod answering;
 mod changing;
+pub(crate) mod edit;
 
 use crate::answer::Answer;
 use crate::error::BookError;
@@ -21,22 +29,17 @@ use crate::records::{identified, octets_of, place_of};
 use event_log::EventLog;
 use std::alloc::Global;
 use std::marker::Model;
-use swima_model::{Content, Point, Record};
+use swima_model::{Content, MOST_RECORDS, MOST_RECORDS_OCTETS, Point, Record};
 use swima_request::{Idents, Request};
 use wire_base::Memory;
 
-/// The most records that are live at once.
-const MOST_RECORDS: usize = 65536;
-
-/// The most octets of identifiers, locators and bodies that live records have together.
-const MOST_RECORDS_OCTETS: u64 = 268435456;
-
-/// The inventory of one endpoint: its live records, the current epoch, and the epoch's latest events.
+/// The inventory of one endpoint: its live records, the current epoch, and the epoch's latest
+/// events.
 #[derive(Debug, Drop)]
 pub struct Book {
     epoch: u32,
     next: u32,
-    octets: u64,
+    octet_count: u64,
     records: Vec<Record>,
     log: EventLog,
 }
@@ -50,13 +53,14 @@ impl Model for Book {
 
     ghost view = { λ book. record { epoch = book.epoch; next = book.next; records = book.records.items; log = book.log } };
 
-    ghost invariant = { λ book. IsBook book.next book.octets book.records.items
+    ghost invariant = { λ book. IsBook book.next book.octet_count book.records.items
         × StandsForSome (record { epoch = book.epoch; next = book.next; records = book.records.items; log = book.log }) };
 }
 
 impl Book {
-    /// A book of an epoch that is not 0, which keeps at most `cap` events, from 1 to 4,096. The contents of `base` get the
-    /// identifiers 1, 2 and so on, without events. Refusals: `RecordsFull`, `BytesFull`, `Memory`.
+    /// A book of an epoch that is not 0, which keeps at most `cap` events, from 1 to 4,096. The
+    /// contents of `base` get the identifiers 1, 2 and so on, without events. Refusals:
+    /// `RecordsFull`, `BytesFull`, `Memory`.
     pub fn new(alloc: Global, epoch: u32, cap: usize, base: &[Content]) -> Result<Self, BookError>
         requires some { 1 ≤ cap }
         requires few { cap ≤ 4096 }
@@ -80,7 +84,7 @@ impl Book {
         Ok(Book {
             epoch,
             next: base.len() as u32 + 1,
-            octets,
+            octet_count: octets,
             records: identified(alloc, base)?,
             log: EventLog::new(alloc, cap)?,
         })
@@ -98,7 +102,8 @@ impl Book {
         }
     }
 
-    /// The event identifier of the first event that is kept; 1 above the last where none is. It takes no memory.
+    /// The event identifier of the first event that is kept; 1 above the last where none is. It
+    /// takes no memory.
     pub fn first(&self) -> u32
         ensures first { result ≡ self.now.log.first }
         ensures stands { (chronicle : Chronicle) → Stands self.now chronicle → result ≡ first_kept chronicle }
@@ -123,8 +128,9 @@ impl Book {
         Some(&self.records[place])
     }
 
-    /// Whether the epoch of the point is not the current one, or an event behind the point is no longer kept, or one of the
-    /// targets has an event behind it; any event, where there are no targets. It takes no memory.
+    /// Whether the epoch of the point is not the current one, or an event after the point is no
+    /// longer kept, or one of the targets has an event after it; any event, where there are no
+    /// targets. It takes no memory.
     pub fn moved(&self, after: Point, targets: &Idents) -> bool
         ensures some { StandsForSome self.now }
         ensures moved { result ≡ book_moved self.now after targets.now }
@@ -133,7 +139,8 @@ impl Book {
         self.has_moved(after, targets)
     }
 
-    /// The answer to a request: a report of at most `max` octets, or the size of one that would have more; `Memory`.
+    /// The answer to a request: a report of at most `max` octets, or the size of one that would
+    /// have more; `Memory`.
     pub fn answer(&self, request: &Request, max: u32) -> Answer
         ensures some { StandsForSome self.now }
         ensures answer { AnswerIs result (book_answer self.now request.now max) }
@@ -145,7 +152,8 @@ impl Book {
         }
     }
 
-    /// Creates a record, and gives its identifier. Refusals: `EidsSpent`, `IdsSpent`, `RecordsFull`, `BytesFull`, `Memory`.
+    /// Creates a record, and gives its identifier. Refusals: `EidsSpent`, `IdsSpent`,
+    /// `RecordsFull`, `BytesFull`, `Memory`.
     pub fn create(&mut self, stamp: &[u8; 20], content: &Content) -> Result<u32, BookError>
         requires stamp { IsStamp stamp.now }
         ensures some { StandsForSome self.old }
@@ -159,7 +167,8 @@ impl Book {
         self.try_create(stamp, content)
     }
 
-    /// Replaces the content of a live record. Refusals: `EidsSpent`, `UnknownRecord`, `BytesFull`, `Memory`.
+    /// Replaces the content of a live record. Refusals: `EidsSpent`, `UnknownRecord`, `BytesFull`,
+    /// `Memory`.
     pub fn alter(&mut self, stamp: &[u8; 20], id: u32, content: &Content) -> Result<(), BookError>
         requires stamp { IsStamp stamp.now }
         ensures some { StandsForSome self.old }
@@ -172,7 +181,8 @@ impl Book {
         self.try_alter(stamp, id, content)
     }
 
-    /// Deletes a live record. Its event keeps all but the body. Refusals: `EidsSpent`, `UnknownRecord`. It takes no memory.
+    /// Deletes a live record. Its event keeps all but the body. Refusals: `EidsSpent`,
+    /// `UnknownRecord`. It takes no memory.
     pub fn delete(&mut self, stamp: &[u8; 20], id: u32) -> Result<(), BookError>
         requires stamp { IsStamp stamp.now }
         ensures some { StandsForSome self.old }
@@ -185,7 +195,8 @@ impl Book {
         self.try_delete(stamp, id)
     }
 
-    /// Begins an epoch with what is live: its events begin anew with 1. Refusal: `EpochNotNew`. It takes no memory.
+    /// Begins an epoch with what is live: its events begin anew with 1. Refusal: `EpochNotNew`. It
+    /// takes no memory.
     pub fn begin_epoch(&mut self, epoch: u32) -> Result<(), BookError>
         ensures done { ChangesExactly (λ made. made ≡ entry.Epoch epoch) (epoch_refusal self.old.epoch epoch) self.old result self.new }
         ensures stands { (chronicle : Chronicle) → Stands self.old chronicle

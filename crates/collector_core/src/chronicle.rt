@@ -1,4 +1,5 @@
-//! What is entered in the chronicle of a collector. Contracts speak of these values; no code makes one.
+//! What is entered in the chronicle of a collector. Contracts speak of these values; no code makes
+//! one.
 
 use swima_model::Event;
 

@@ -1,4 +1,5 @@
-//! Desks: who keeps an inventory, changes it when told to and answers of it. Between two calls others may change it too.
+//! Desks: who keeps an inventory, changes it when asked to and answers of it. Between two calls
+//! others may change it too.
 
 ghost use Rattle.std.specs.Prelude.{true};
 ghost use Rattle.collector_core.specs.InTurn.{AnswersInTurn};
@@ -11,8 +12,9 @@ use swima_request::{Idents, Request};
 
 /// Who keeps an inventory: a book, or who shares one with others.
 ///
-/// What it stands for is a relation to chronicles, and what came between two states is a list of entries, its own and
-/// others'. Each call says that others' entries came first, if any, and what it did or answered behind them.
+/// What it stands for is a relation to chronicles, and what came between two states is a list of
+/// entries, its own and others'. Each call says that others' entries came first, if any, and what
+/// it did or answered after them.
 pub trait Desk {
     ghost use Rattle.std.specs.Prelude.{◌≡◌, [], ◌++◌, Bool, Err, List, true};
     ghost use Rattle.wire_base.specs.Stamp.{IsStamp};
@@ -32,19 +34,22 @@ pub trait Desk {
     /// Whether it takes changes.
     ghost takes: { Self → Bool };
 
-    /// Creates a record, and gives its identifier. Refusals: `EidsSpent`, `IdsSpent`, `RecordsFull`, `BytesFull`, `Memory`.
+    /// Creates a record, and gives its identifier. Refusals: `EidsSpent`, `IdsSpent`,
+    /// `RecordsFull`, `BytesFull`, `Memory`.
     fn create(&mut self, stamp: &[u8; 20], content: &Content) -> Result<u32, BookError>
         requires takes { takes self.old ≡ true }
         requires stamp { IsStamp stamp.now }
         ensures edits { Edits stands went (Creates stamp.now content.now) (creates_not content.now) self.old self.new result };
 
-    /// Replaces the content of a live record. Refusals: `EidsSpent`, `UnknownRecord`, `BytesFull`, `Memory`.
+    /// Replaces the content of a live record. Refusals: `EidsSpent`, `UnknownRecord`, `BytesFull`,
+    /// `Memory`.
     fn alter(&mut self, stamp: &[u8; 20], id: u32, content: &Content) -> Result<(), BookError>
         requires takes { takes self.old ≡ true }
         requires stamp { IsStamp stamp.now }
         ensures edits { Edits stands went (Alters stamp.now id content.now) (alters_not id content.now) self.old self.new result };
 
-    /// Deletes a live record. Its event keeps all but the body. Refusals: `EidsSpent`, `UnknownRecord`. It takes no memory.
+    /// Deletes a live record. Its event keeps all but the body. Refusals: `EidsSpent`,
+    /// `UnknownRecord`. It takes no memory.
     fn delete(&mut self, stamp: &[u8; 20], id: u32) -> Result<(), BookError>
         requires takes { takes self.old ≡ true }
         requires stamp { IsStamp stamp.now }
@@ -70,7 +75,8 @@ pub trait Desk {
     ghost follows: { (one two three : Self) (first second : List Mark) → went one first two → went two second three
         → went one (first ++ second) three };
 
-    /// Behind entries that came it stands for each chronicle that it stood for, with these entries behind it.
+    /// After entries that came it stands for each chronicle that it stood for, with these entries
+    /// after it.
     ghost carries: { (before after : Self) (marks : List Mark) (chronicle : Chronicle) → went before marks after → stands before chronicle
         → stands after (extended chronicle (entries marks)) };
 
@@ -127,7 +133,8 @@ impl Desk for Book {
     }
 }
 
-/// What a desk answers to two requests, one after the other: the second at no earlier place of its chronicle.
+/// What a desk answers to two requests, one after the other: the second at no earlier place of its
+/// chronicle.
 pub fn answers_in_turn<D: Desk>(
     desk: &mut D,
     one: &Request,

@@ -57,7 +57,7 @@ pub enum BookError {
         /// The event identifier that was given.
         given: u32,
     },
-    /// Want of memory.
+    /// Out of memory.
     #[error("out of memory")]
     Memory,
 }

@@ -3,18 +3,19 @@
 ghost use Rattle.collector_core.specs.Meaning.{AnswersAreOfTheHistory, AnswersAreReportsOrSizes, AnswersCanBeTold, AnswersStay, BookEntryIsEntered, BookEntryIsMade, ChroniclesJoin, EntryOfIsMade, FrontsAreLegal, LastRises, LongestFrontIsTold, MovedIsLater, OwnedIsOwn, OwnedJoins, PrefixesExtend, PrefixesStay};
 ghost use Rattle.collector_core.specs.WrittenAnswers.{AnswersAreReadBack};
 
-/// The histories of several legal chronicles one after another are an honest history, where no number of an epoch is used
-/// twice. This is how a collector counts that was started anew.
+/// The histories of several legal chronicles one after another are an honest history, where no
+/// number of an epoch is used twice. This is how a collector counts that was started anew.
 pub fn chronicles_join()
     ensures law { ChroniclesJoin }
 {}
 
-/// At a legal chronicle, an answer to a request without targets, if it is a report, is one that answers from the history.
+/// At a legal chronicle, an answer to a request without targets, if it is a report, is one that
+/// answers from the history.
 pub fn answers_are_of_the_history()
     ensures law { AnswersAreOfTheHistory }
 {}
 
-/// A front of a legal chronicle is a legal chronicle.
+/// A prefix of a legal chronicle is a legal chronicle.
 pub fn fronts_are_legal()
     ensures law { FrontsAreLegal }
 {}
@@ -35,19 +36,21 @@ pub fn answers_are_reports_or_sizes()
     ensures law { AnswersAreReportsOrSizes }
 {}
 
-/// At a legal chronicle, a report that is an answer has at most the octets that were asked for and 65,536 records or events, its
-/// moments are stamps, and it consulted no event behind its point (RFC 8412, section 5.8).
+/// At a legal chronicle, a report that is an answer has at most the octets that were asked for and
+/// 65,536 records or events, its moments are stamps, and it consulted no event after its point
+/// (RFC 8412, section 5.8).
 pub fn answers_can_be_told()
     ensures law { AnswersCanBeTold }
 {}
 
-/// At a legal chronicle, a report that is an answer of at most 16,777,000 octets can be written, and
-/// is read back as it was from what is written of it (RFC 8412, sections 5.7 to 5.10).
+/// At a legal chronicle, a report that is an answer of at most 16,777,000 octets can be written,
+/// and is read back as it was from what is written of it (RFC 8412, sections 5.7 to 5.10).
 pub fn answers_are_read_back()
     ensures law { AnswersAreReadBack }
 {}
 
-/// Where something has moved since a point of the current epoch, the point is below the last event identifier.
+/// Where something has moved since a point of the current epoch, the point is below the last event
+/// identifier.
 pub fn moved_is_later()
     ensures law { MovedIsLater }
 {}
@@ -57,13 +60,13 @@ pub fn last_rises()
     ensures law { LastRises }
 {}
 
-/// A report that answered from a chronicle's history still does so behind further entries.
+/// A report that answered from a chronicle's history still does so after further entries.
 pub fn answers_stay()
     ensures law { AnswersStay }
 {}
 
-/// Of matching events the longest front that fits is told, or the first alone, or none where there is none (RFC 8412, section
-/// 3.7.5).
+/// Of matching events the longest prefix that fits is reported, or the first alone, or none where
+/// there is none (RFC 8412, section 3.7.5).
 pub fn longest_front_is_told()
     ensures law { LongestFrontIsTold }
 {}
@@ -79,8 +82,8 @@ pub fn book_entry_is_made()
     ensures law { BookEntryIsMade }
 {}
 
-/// After a change that was done, the book represents each chronicle that it represented before, with
-/// the entry appended that the book before the change gives.
+/// After a change that was done, the book represents each chronicle that it represented before,
+/// with the entry appended that the book before the change gives.
 pub fn book_entry_is_entered()
     ensures law { BookEntryIsEntered }
 {}

@@ -1,53 +1,54 @@
-//! The inventory of an endpoint, as its collector keeps and tells it (RFC 8412, section 3).
+//! The inventory of an endpoint, as its collector keeps it and reports it (RFC 8412, section 3).
 //!
-//! It stands on `event_log`, `swima_request`, `swima_model` and `wire_base`, on `swima_reports` for
-//! the law that answers are read back, on `arrayvec` for room that is no memory, and on `thiserror`
-//! for the texts of errors.
+//! It stands on `event_log`, `swima_request`, `swima_model` and `wire_base`. It stands on
+//! `swima_reports` for the law that answers are read back, on `arrayvec` for lists that take no
+//! memory, and on `thiserror` for the texts of errors.
 //!
-//! The crates above rest on `stands` of each call of `Book`, and on `edits` and `reads` of each call
-//! of `Desk`. The words of these clauses are in `specs/`: `Chronicle` (what was entered, and the
-//! history that it makes), `Legal`, `Answering` and `BookAnswer` (answers at a chronicle, and the
-//! same by what a book holds), `Refusals`, `Standing` and `Desks`.
+//! The crates above rest on `stands` of each call of `Book`, and on `edits` and `reads` of each
+//! call of `Desk`. Their proofs cite the lemmas of these files of `proofs/`:
 //!
-//! The functions of `laws` say what the definitions mean, in `Meaning` and `WrittenAnswers`. Proofs
-//! above cite their lemmas: `Prefixes`, `Marks` and `Owning` (places and entries that came), `Fits`
-//! and `WrittenAnswers` (answers), `Editing` (the entry of a change) and `BookDesk` (`state_same`).
+//! - `Prefixes`, `Marks` and `Owning`: places in a chronicle, and entries that came.
+//! - `Fits` and `WrittenAnswers`: answers. `Editing`: the entry of a change. `BookDesk`:
+//!   `state_same`.
+//!
+//! | file | what it holds |
+//! |---|---|
+//! | `book.rt` | the inventory of one endpoint, and its calls |
+//! | `book/changing.rt`, `book/answering.rt` | how it is changed, and what it answers |
+//! | `book/edit.rt` | any change as one value |
+//! | `chronicle.rt` | the entries that a book represents |
+//! | `desk.rt` | any owner of an inventory, which others may change between two calls |
+//! | `answer.rt`, `report_content.rt` | reports that answer, and what they carry |
+//! | `targets.rt`, `moved.rt` | what a request asks for; whether some of it has changed |
+//! | `records.rt` | records in order of identifier |
+//! | `error.rt` | why a change is refused |
+//! | `laws.rt` | what the definitions mean, proved |
+//!
+//! The words of the clauses are in `specs/`:
+//!
+//! | file | what it says |
+//! |---|---|
+//! | `Chronicle`, `Legal` | what was entered, the history that it makes, and what may be entered |
+//! | `Answering`, `BookAnswer` | the answer at a chronicle, and the same by what a book holds |
+//! | `Refusals`, `Edits` | when a change is refused, and which entry it makes |
+//! | `Standing`, `Desks`, `BookDesk` | which chronicles a book or a desk represents |
+//! | `Meaning`, `WrittenAnswers` | the laws |
 #![tactic(auto)]
 
 mod answer;
 mod book;
-mod carried;
 mod chronicle;
 mod desk;
-mod edit;
 mod error;
 pub mod laws;
 mod moved;
 mod records;
-mod wanted;
+mod report_content;
+mod targets;
 
 pub use answer::Answer;
 pub use book::Book;
+pub use book::edit::{Changed, Edit};
 pub use chronicle::{Entry, Mark};
 pub use desk::{Desk, answers_in_turn};
-pub use edit::{Changed, Edit};
 pub use error::BookError;
-
-#[cfg(test)]
-mod answer_tests;
-#[cfg(test)]
-mod base_tests;
-#[cfg(test)]
-mod desk_tests;
-#[cfg(test)]
-mod edit_tests;
-#[cfg(test)]
-mod epoch_tests;
-#[cfg(test)]
-mod full_tests;
-#[cfg(test)]
-mod moved_tests;
-#[cfg(test)]
-mod tests;
-#[cfg(test)]
-mod thread_tests;

@@ -8,9 +8,9 @@ ghost use Rattle.event_log.specs.Log.{event_at};
 ghost use Rattle.collector_core.specs.Answering.{is_later};
 ghost use Rattle.collector_core.specs.Borrowed.{values};
 ghost use Rattle.collector_core.specs.Later.{idents, later_idents};
-ghost use Rattle.collector_core.specs.Wanted.{Rises};
+ghost use Rattle.collector_core.specs.OctetOrder.{Rises};
 
-use crate::wanted::is_among;
+use crate::targets::is_among;
 use arrayvec::ArrayVec;
 use event_log::EventLog;
 use swima_request::Idents;
@@ -18,8 +18,8 @@ use swima_request::Idents;
 /// The most events that a log keeps.
 const MOST_EVENTS: usize = 4096;
 
-/// Whether the log keeps an event behind `after` that is asked for. It takes no memory.
-pub fn has_later(log: &EventLog, after: u32, targets: &Idents) -> bool
+/// Whether the log keeps an event after `after` that is asked for. It takes no memory.
+pub(crate) fn has_later(log: &EventLog, after: u32, targets: &Idents) -> bool
     ensures later { result ≡ list_any (is_later after targets.now) log.now.events }
 {
     if targets.is_empty() {
@@ -30,7 +30,7 @@ pub fn has_later(log: &EventLog, after: u32, targets: &Idents) -> bool
     has_one_of(later.as_slice(), targets)
 }
 
-/// Whether the log keeps any event behind `after`.
+/// Whether the log keeps any event after `after`.
 fn keeps_later(log: &EventLog, after: u32) -> bool
     ensures later { result ≡ list_any (is_later after []) log.now.events }
 {
@@ -38,7 +38,7 @@ fn keeps_later(log: &EventLog, after: u32) -> bool
     first <= log.last() as u64
 }
 
-/// The software identifiers of the events behind `after`.
+/// The software identifiers of the events after `after`.
 fn later_idents(log: &EventLog, after: u32) -> ArrayVec<&[u8], MOST_EVENTS>
     ensures idents { values result.items ≡ later_idents after log.now.events }
 {

@@ -16,7 +16,7 @@ use swima_model::{Content, Record};
 use wire_base::{Memory, TryCopy};
 
 /// Where the record of an identifier stands, among records of rising identifiers.
-pub fn place_of(records: &[Record], id: u32) -> Option<usize>
+pub(crate) fn place_of(records: &[Record], id: u32) -> Option<usize>
     requires rising { IsStrictlyIncreasing (ids records.now) }
     ensures place { IsPlaceOf records.now id result }
 {
@@ -24,7 +24,7 @@ pub fn place_of(records: &[Record], id: u32) -> Option<usize>
 }
 
 /// How many octets the contents have together.
-pub fn octets_of(contents: &[Content]) -> u64
+pub(crate) fn octets_of(contents: &[Content]) -> u64
     requires few { length contents.now ≤ 65536 }
     ensures octets { result ≡ sum_by content_octets contents.now }
     ensures contents { All IsContent contents.now }
@@ -38,7 +38,7 @@ pub fn octets_of(contents: &[Content]) -> u64
 }
 
 /// Records of these contents, with the identifiers 1, 2 and so on.
-pub fn identified(alloc: Global, contents: &[Content]) -> Result<Vec<Record>, Memory>
+pub(crate) fn identified(alloc: Global, contents: &[Content]) -> Result<Vec<Record>, Memory>
     requires few { length contents.now ≤ 65536 }
     ensures records { IfOk result (λ made. made.items ≡ identified_from 1 contents.now) }
 {
@@ -53,16 +53,16 @@ pub fn identified(alloc: Global, contents: &[Content]) -> Result<Vec<Record>, Me
 }
 
 /// Puts a record at the end.
-pub fn push_record(records: &mut Vec<Record>, added: Record) -> Result<(), Memory>
-    ensures ok { OnOk result (records.new.items ≡ records.old.items ++ added ∷ []) }
-    ensures memory { OnErr result (records.new.items ≡ records.old.items) }
+pub(crate) fn push_record(records: &mut Vec<Record>, added: Record) -> Result<(), Memory>
+    ensures appended { OnOk result (records.new.items ≡ records.old.items ++ added ∷ []) }
+    ensures unchanged { OnErr result (records.new.items ≡ records.old.items) }
 {
     records.push(added)?;
     Ok(())
 }
 
 /// Replaces the content of the record at a place.
-pub fn put_content(records: &mut Vec<Record>, place: usize, content: Content)
+pub(crate) fn put_content(records: &mut Vec<Record>, place: usize, content: Content)
     requires place { place < length records.old.items }
     ensures put { (before : List Record) (held : Record) (after : List Record) → records.old.items ≡ before ++ held ∷ after
         → place ≡ length before → records.new.items ≡ before ++ record { id = held.id; content = content } ∷ after }
@@ -71,7 +71,7 @@ pub fn put_content(records: &mut Vec<Record>, place: usize, content: Content)
 }
 
 /// Takes the record at a place out.
-pub fn take_record(records: &mut Vec<Record>, place: usize) -> Record
+pub(crate) fn take_record(records: &mut Vec<Record>, place: usize) -> Record
     requires place { place < length records.old.items }
     ensures taken { (before : List Record) (held : Record) (after : List Record) → records.old.items ≡ before ++ held ∷ after
         → place ≡ length before → (result ≡ held) × (records.new.items ≡ before ++ after) }
@@ -80,7 +80,7 @@ pub fn take_record(records: &mut Vec<Record>, place: usize) -> Record
 }
 
 /// Says that the parts of a content are octets and within their limits. It does nothing.
-pub fn within_limits(content: &Content)
+pub(crate) fn within_limits(content: &Content)
     ensures content { IsContent content.now }
 {
     let _pen = content.model.pen;

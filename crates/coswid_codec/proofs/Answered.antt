@@ -14,12 +14,14 @@ use Rattle.coswid_codec.specs.declared.read.TagRefused.{TagRefused}
 use Rattle.coswid_codec.specs.Answers.{limits, BeginsTag, BeginsFaulty, IsRefusal, GivesTag, GivesForm, GivesCbor, of_form}
 use Rattle.coswid_codec.specs.Forms.{TagForm}
 use Rattle.coswid_codec.specs.Items.{tag_item}
+use Rattle.coswid_codec.specs.SizesFit.{SizesFit}
 use Rattle.coswid_codec.specs.TagFault.{tag_fault}
-use Rattle.coswid_codec.proofs.Whole.{form_none, one_tag, written_depth}
+use Rattle.coswid_codec.proofs.Whole.{form_none, one_tag, read_sizes, written_depth}
 
 pub record Answered (input : List ℕ) (r : Result (Tag × ℕ) TagRefused) : Type 0 where
   pub found : IfOk r (λ read. BeginsTag input read.0 read.1)
   pub shallow : IfOk r (λ read. depth (tag_item read.0) ≤ 64)
+  pub sizes : IfOk r (λ read. SizesFit read.0)
   pub refused : IfErr r (IsRefusal input)
   pub only : (g : Tag) (n : ℕ) → BeginsTag input g n → GivesTag g n r
   pub form : (f : FormFault) → BeginsFaulty input f → GivesForm f r
@@ -42,6 +44,7 @@ pub read_whole : (input : List ℕ) (t : Term) (g : Tag) (n : ℕ) → Begins li
 read_whole input t g n begins none form = record {
   found = record { item = t; begins = begins; form = form };
   shallow = written_depth g t begins.shallow form;
+  sizes = read_sizes g t input n begins form;
   refused = tt;
   only = λ h m is.
       let one = item_unique limits input is.item t m n is.begins begins in
@@ -56,6 +59,7 @@ pub form_refused : (input : List ℕ) (t : Term) (n : ℕ) (e : FormRefused) →
 form_refused input t n (form.Form f) begins told = record {
   found = tt;
   shallow = tt;
+  sizes = tt;
   refused = record { item = t; len = n; begins = begins; fault = told };
   only = λ g m is. clash f (tag_fault t) told (clear input t n m g begins is);
   form = λ g is. let e : Some f ≡ Some g = sym told ∙ faulty input t n g begins is in cc;
@@ -65,6 +69,7 @@ form_refused input t n (form.Form f) begins told = record {
 form_refused input t n form.Memory begins told = record {
   found = tt;
   shallow = tt;
+  sizes = tt;
   refused = tt;
   only = λ g m is. tt;
   form = λ g is. tt;

@@ -6,11 +6,11 @@ use Rattle.cbor_det.specs.Proper.{IsProperMap}
 use Rattle.cbor_det.specs.Term.{Term, Terms, Pairs, integer, octets, text, array, map, tagged, boolean, no_terms, term, depth, terms_depth, pairs_depth}
 use Rattle.cbor_det.specs.View.{pairs_view}
 use Rattle.cbor_det.proofs.Counts.{most}
-use Rattle.coswid_res.specs.declared.directory.DirEntry.{DirEntry, out-DirEntry}
-use Rattle.coswid_res.specs.declared.directory.PathElements.{PathElements, out-PathElements}
-use Rattle.coswid_res.specs.declared.directory.DirEntry.TheOpen.{DirEntry-F, PathElements-F}
-use Rattle.coswid_res.specs.declared.directory.DirEntry.TheViews as views
-use Rattle.coswid_res.specs.declared.directory.DirEntry.TheViews.{roll-DirEntry, roll-PathElements}
+use Rattle.coswid_res.specs.declared.resources.directory.DirEntry.{DirEntry, out-DirEntry}
+use Rattle.coswid_res.specs.declared.resources.directory.PathElements.{PathElements, out-PathElements}
+use Rattle.coswid_res.specs.declared.resources.directory.DirEntry.TheOpen.{DirEntry-F, PathElements-F}
+use Rattle.coswid_res.specs.declared.resources.directory.DirEntry.TheViews as views
+use Rattle.coswid_res.specs.declared.resources.directory.DirEntry.TheViews.{roll-DirEntry, roll-PathElements}
 use Rattle.coswid_res.specs.Directories.{DirectoryKeys, PathKeys, DirectoryPairs, directory, PathUnder, no_path, path, PathPairs, path_elements, DirectoriesUnder, no_directories, alone, several, EachDirectory, no_more, one_more, DirectoryMap, PathMap}
 use Rattle.coswid_res.specs.DirectoryItems.{directory_pairs, path_pairs, directory_item, path_item, directories_item}
 use Rattle.coswid_res.specs.Fault.{field_fault, elements_fault, under, wrong_form}

@@ -11,7 +11,7 @@ use Rattle.coswid_res.specs.Files.{files_item}
 use Rattle.coswid_res.specs.Resources.{EvidenceKeys, EvidenceMap}
 use Rattle.coswid_res.specs.ResourceItems.{evidence_pairs, evidence_item, processes_item, resources_item}
 use Rattle.coswid_res.specs.Items.{time_item}
-use Rattle.coswid_res.specs.declared.evidence.Evidence.{Evidence}
+use Rattle.coswid_res.specs.declared.resources.evidence.Evidence.{Evidence}
 use Rattle.coswid_codec.proofs.Directories.{directories_law}
 use Rattle.coswid_codec.proofs.Files.{files_law}
 use Rattle.coswid_codec.proofs.Plain.{text_law, time_law}

@@ -1,4 +1,5 @@
--- Pairs of the code for any pairs, and one for each: what stands under other keys can be held, and is told by what it is seen as.
+-- Pairs of the code for any pairs, and one for each: what stands under other keys can be held, and
+-- is reported by what it is seen as.
 use Rattle.std.proofs.Common.{◌≡◌, List, [], ◌∷◌, map as map_list, refl, sym, ap, subst, ◌∙◌, rules}
 use Rattle.cbor_det.specs.declared.item.Item.{Item, the_lemmas}
 use Rattle.cbor_det.specs.declared.item.Item.TheVariants as code

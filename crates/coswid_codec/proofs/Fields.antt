@@ -35,7 +35,7 @@ under_other k j v (pair l w ps) not = under_put_by (is_above (number j) l) k j v
 some_not_none : {A : Type 0} (t : Term) → Some t ≡ None → A
 some_not_none {A} t e = absurd cc
 
--- What stands under a key stands in the first pair or behind it.
+-- What stands under a key stands in the first pair or after it.
 pub found_by : (b : Bool) (k : ℕ) (w t : Term) (o : Option Term) → (if b then Some w else o) ≡ Some t → (w ≡ t) ⊎ (o ≡ Some t)
 found_by true k w t o e = inl cc
 found_by false k w t o e = inr e

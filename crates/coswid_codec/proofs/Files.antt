@@ -9,7 +9,7 @@ use Rattle.coswid_res.specs.Reading.{keys_fault}
 use Rattle.coswid_res.specs.Files.{FileKeys, FileMap, file_pairs, files_item}
 use Rattle.coswid_res.specs.Items.{unsigned_item, hash_item}
 use Rattle.coswid_res.specs.Words.{OneOrMore}
-use Rattle.coswid_res.specs.declared.file.FileEntry.{FileEntry}
+use Rattle.coswid_res.specs.declared.resources.file.FileEntry.{FileEntry}
 use Rattle.coswid_codec.proofs.Plain.{boolean_law, hash_law, text_law, unsigned_law}
 use Rattle.coswid_codec.proofs.Several.{several_law}
 use Rattle.coswid_codec.proofs.Extras.{extras_some, extras_same}

@@ -1,4 +1,4 @@
--- The first fault of several, told.
+-- The first fault of several, reported.
 use Rattle.std.proofs.Common.{◌≡◌, Option, None, ap, sym, subst}
 use Rattle.coswid_res.specs.declared.fault.FormFault.{FormFault}
 use Rattle.coswid_res.specs.declared.fault.FormRefused.{FormRefused}

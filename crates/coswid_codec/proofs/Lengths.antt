@@ -1,4 +1,5 @@
--- How many octets, elements or pairs the longest part of a map has that is taken apart, and put together again.
+-- How many octets, elements or pairs the longest part of a map has that is taken apart, and put
+-- together again.
 use Rattle.std.proofs.Common.{◌≡◌, ◌≤◌, ◌+◌, ℕ, max, Bool, true, false, List, Some, if◌then◌else◌, refl, subst, arith, inl, inr}
 use Rattle.cbor_det.specs.Adding.{is_above, put}
 use Rattle.cbor_det.specs.Lookup.{is_unsigned, value_under, is_one_of, other_than}

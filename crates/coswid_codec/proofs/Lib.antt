@@ -19,6 +19,7 @@ pub mod Plain
 pub mod Processes
 pub mod Resources
 pub mod Several
+pub mod Sizes
 pub mod Tables
 pub mod Tags
 pub mod Whole

@@ -1,4 +1,5 @@
--- What each line of a table gives: of a map that is written again, of two values read from one map, and of a map without a fault.
+-- What each line of a table gives: of a map that is written again, of two values read from one map,
+-- and of a map without a fault.
 use Rattle.std.proofs.Common.{◌≡◌, ◌≤◌, ◌-◌, ℕ, List, [], ◌∷◌, Option, Some, None, refl, sym, ap, ◌∙◌, subst, arith}
 use Rattle.std.specs.Option.{option_map}
 use Rattle.cbor_det.specs.Lookup.{value_under}

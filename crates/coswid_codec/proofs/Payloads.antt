@@ -10,7 +10,7 @@ use Rattle.coswid_res.specs.DirectoryItems.{directories_item}
 use Rattle.coswid_res.specs.Files.{files_item}
 use Rattle.coswid_res.specs.Resources.{PayloadKeys, PayloadMap}
 use Rattle.coswid_res.specs.ResourceItems.{payload_pairs, payload_item, processes_item, resources_item}
-use Rattle.coswid_res.specs.declared.payload.Payload.{Payload}
+use Rattle.coswid_res.specs.declared.resources.payload.Payload.{Payload}
 use Rattle.coswid_codec.proofs.Directories.{directories_law}
 use Rattle.coswid_codec.proofs.Files.{files_law}
 use Rattle.coswid_codec.proofs.Processes.{processes_law}

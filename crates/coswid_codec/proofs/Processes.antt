@@ -9,7 +9,7 @@ use Rattle.coswid_res.specs.Reading.{keys_fault}
 use Rattle.coswid_res.specs.Resources.{ProcessKeys, ProcessMap}
 use Rattle.coswid_res.specs.ResourceItems.{process_pairs, processes_item}
 use Rattle.coswid_res.specs.Words.{OneOrMore}
-use Rattle.coswid_res.specs.declared.process.ProcessEntry.{ProcessEntry}
+use Rattle.coswid_res.specs.declared.resources.process.ProcessEntry.{ProcessEntry}
 use Rattle.coswid_codec.proofs.Plain.{integer_law, text_law}
 use Rattle.coswid_codec.proofs.Several.{several_law}
 use Rattle.coswid_codec.proofs.Extras.{extras_some, extras_same}

@@ -9,7 +9,7 @@ use Rattle.coswid_res.specs.Reading.{keys_fault}
 use Rattle.coswid_res.specs.Resources.{ResourceKeys, ResourceMap}
 use Rattle.coswid_res.specs.ResourceItems.{resource_pairs, resources_item}
 use Rattle.coswid_res.specs.Words.{OneOrMore}
-use Rattle.coswid_res.specs.declared.resource.ResourceEntry.{ResourceEntry}
+use Rattle.coswid_res.specs.declared.resources.resource.ResourceEntry.{ResourceEntry}
 use Rattle.coswid_codec.proofs.Plain.{text_law}
 use Rattle.coswid_codec.proofs.Several.{several_law}
 use Rattle.coswid_codec.proofs.Extras.{extras_some, extras_same}

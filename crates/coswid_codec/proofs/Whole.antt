@@ -2,6 +2,7 @@
 use Rattle.std.proofs.Common.{◌≡◌, ◌≤◌, ◌<◌, ◌==◌, ◌+◌, ◌^◌, ◌&&◌, ℕ, Bool, true, false, not, nat_le, List, [], length, take, Option, Some, None, is_some, if◌then◌else◌, refl, sym, ap, ◌∙◌, subst, arith, length-take}
 use Rattle.std.proofs.lemmas.Bool.{cond-false, leb-false}
 use Rattle.cbor_det.specs.Canonical.{canon}
+use Rattle.cbor_det.specs.Faults.{Begins}
 use Rattle.cbor_det.specs.Lookup.{value_under}
 use Rattle.cbor_det.specs.Proper.{IsProper}
 use Rattle.cbor_det.specs.Term.{Term, integer, octets, text, array, map, tagged, boolean, depth}
@@ -17,11 +18,13 @@ use Rattle.coswid_codec.specs.Answers.{limits, BeginsTag}
 use Rattle.coswid_codec.specs.Forms.{TagKeys, TagForm}
 use Rattle.coswid_codec.specs.Items.{tag_pairs, tag_item}
 use Rattle.coswid_codec.specs.HasItem.{IsItemOf, HasItem}
+use Rattle.coswid_codec.specs.SizesFit.{SizesFit}
 use Rattle.coswid_codec.specs.Laws.{NoFaultOrNoTag, OneTag, HasItemWhereSome, ReadHasItem, WrittenIsRead, ReadIsWritten, OneTagOneSpelling}
 use Rattle.coswid_codec.specs.Marked.{coswid, content, has_both, is_deep}
 use Rattle.coswid_codec.specs.TagFault.{tag_fault}
 use Rattle.coswid_codec.proofs.Lawful.{Lawful}
 use Rattle.coswid_codec.proofs.Lines.{map_law}
+use Rattle.coswid_codec.proofs.Sizes.{read_fits}
 use Rattle.coswid_codec.proofs.Tags.{tag_law}
 
 law : Lawful (one (a_map schema.tag)) (λ (g : Tag). IsMap (TagKeys g)) (λ (g : Tag). map (tag_pairs g)) 5
@@ -99,6 +102,10 @@ content_proper (boolean b) proper = proper
 
 written_proper : (g : Tag) (t : Term) → IsProper t → TagForm g t → IsProper (tag_item g)
 written_proper g t proper form = (omega arith, (law.told g (content t) form.keys).proper (content_proper t proper))
+
+-- The sizes in what is read of a spelling are below 2^63.
+pub read_sizes : (g : Tag) (t : Term) (input : List ℕ) (len : ℕ) → Begins limits input t len → TagForm g t → SizesFit g
+read_sizes g t input len begins form = read_fits g (content t) form.keys (content_proper t (spelled_proper t _ begins.spelled))
 
 -- What is read is read again from the item that it is written as.
 pub written_form : (g : Tag) (t : Term) → TagForm g t → TagForm g (tag_item g)

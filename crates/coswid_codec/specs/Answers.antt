@@ -19,7 +19,7 @@ use Rattle.coswid_codec.specs.TagFault.{tag_fault}
 abbrev pub limits : Limits
 limits = record { octets = 8388608; depth = 64 }
 
--- The input begins with so many octets that spell an item from which this tag is read.
+-- The input begins with that many octets that spell an item from which this tag is read.
 pub record BeginsTag (input : List ℕ) (g : Tag) (len : ℕ) : Type 0 where
   pub item : Term
   pub begins : Begins limits input item len
@@ -38,7 +38,7 @@ IsRefusal input (refused.Cbor f) = items.IsRefusal limits input (cbor.Fault f)
 IsRefusal input (refused.Form f) = BeginsFaulty input f
 IsRefusal input refused.Memory = Unit {0}
 
--- The answer is this tag with so many octets, unless memory ran out.
+-- The answer is this tag with that many octets, unless memory ran out.
 abbrev pub GivesTag : Tag → ℕ → Result (Tag × ℕ) TagRefused → Type 0
 GivesTag g n (Ok read) = (read.0 ≡ g) × (read.1 ≡ n)
 GivesTag g n (Err (refused.Cbor f)) = ⊥

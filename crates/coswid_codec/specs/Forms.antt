@@ -91,8 +91,8 @@ pub record TagKeys (g : Tag) (ps : Pairs) : Type 0 where
   pub lang : Optional keys.lang Text g.lang ps
   pub extras : Rest schema.tag g.extras ps
 
--- A tag is read from a map, under the tag of tags or alone (section 8). It has no payload beside evidence.
--- Alone it leaves room for the tag, under which it is written.
+-- A tag is read from a map, under the tag of tags or alone (section 8). It has no payload beside
+-- evidence. Alone it leaves room for the tag, under which it is written.
 pub record TagForm (g : Tag) (t : Term) : Type 0 where
   pub keys : IsMap (TagKeys g) (content t)
   pub one_of_them : has_both (content t) ≡ false

@@ -1,4 +1,5 @@
--- Laws of tags, and of payload and evidence by themselves: what is read, what is wrong, and what is written.
+-- Laws of tags, and of payload and evidence by themselves: what is read, what is wrong, and what is
+-- written.
 use Rattle.std.specs.Prelude.{◌≡◌, ◌≢◌, ◌≤◌, ◌⊎◌, ◌↔◌, ℕ, max, List, ◌++◌, length, None}
 use Rattle.wire_base.specs.Layout.{AreOctets}
 use Rattle.cbor_det.specs.Canonical.{canon}
@@ -33,13 +34,15 @@ HasItemWhereSome = (g : Tag) → ((t : Term) × IsItemOf g t) ↔ HasItem g
 abbrev pub ReadHasItem : Type 0
 ReadHasItem = (g : Tag) (n : ℕ) (input : List ℕ) → BeginsTag input g n → HasItem g
 
--- What has an item is read from its canonical spelling, whatever follows, where the reader's limit holds it.
+-- What has an item is read from its canonical spelling, whatever follows, where the reader's limit
+-- holds it.
 abbrev pub WrittenIsRead : Type 0
 WrittenIsRead =
     (g : Tag) (tail : List ℕ) → HasItem g → length (canon (tag_item g)) ≤ limits.octets
     → BeginsTag (canon (tag_item g) ++ tail) g (length (canon (tag_item g)))
 
--- What is read is written, and read again as the same, whatever follows, where the reader's limit holds it.
+-- What is read is written, and read again as the same, whatever follows, where the reader's limit
+-- holds it.
 abbrev pub ReadIsWritten : Type 0
 ReadIsWritten =
     (g : Tag) (n : ℕ) (input tail : List ℕ) → BeginsTag input g n → length (canon (tag_item g)) ≤ limits.octets
@@ -50,11 +53,11 @@ abbrev pub OneTagOneSpelling : Type 0
 OneTagOneSpelling =
     (g h : Tag) (n m : ℕ) (input other : List ℕ) → BeginsTag input g n → BeginsTag other h m → (canon (tag_item g) ≡ canon (tag_item h)) ↔ (g ≡ h)
 
--- Octets begin with one tag at most, of so many octets.
+-- Octets begin with one tag at most, of that many octets.
 abbrev pub BeginsOneTag : Type 0
 BeginsOneTag = (input : List ℕ) (g h : Tag) (n m : ℕ) → BeginsTag input g n → BeginsTag input h m → (g ≡ h) × (n ≡ m)
 
--- Octets have a fault, of CBOR or of form. Want of memory is none.
+-- Octets have a fault, of CBOR or of form. Running out of memory is none.
 abbrev pub HasFault : List ℕ → TagRefused → Type 0
 HasFault input why = (why ≢ refused.Memory) × IsRefusal input why
 
@@ -69,8 +72,9 @@ NotBoth = (input : List ℕ) (g : Tag) (n : ℕ) (why : TagRefused) → BeginsTa
 abbrev pub TagOrFault : Type 0
 TagOrFault = (input : List ℕ) → AreOctets input → ((g : Tag) × (n : ℕ) × BeginsTag input g n) ⊎ ((why : TagRefused) × HasFault input why)
 
--- What holds of the values of a form: some value is read exactly where there is no fault, from one item one value is read, and from the
--- item that it is written as it is read again. That is proper where what was read is, and no deeper than that or so many levels.
+-- What holds of the values of a form: some value is read exactly where there is no fault, from one
+-- item one value is read, and from the item that it is written as it is read again. That is proper
+-- where what was read is, and no deeper than that, or by at most `levels` levels deeper.
 pub record FormLaw {A : Type 0} (field : Field) (Is : A → Term → Type 0) (item : A → Term) (levels : ℕ) : Type 0 where
   pub no_fault : (t : Term) → (field_fault field t ≡ None) ↔ ((v : A) × Is v t)
   pub one_item : (v w : A) (t : Term) → Is v t → Is w t → v ≡ w

@@ -4,6 +4,7 @@ pub mod Items
 pub mod TagFault
 pub mod Answers
 pub mod HasItem
+pub mod SizesFit
 pub mod Laws
 pub mod TagText
 pub mod LastKeys

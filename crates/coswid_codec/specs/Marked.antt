@@ -1,5 +1,5 @@
--- The tag under which tags are written, and items with it and without: RFC 9393, section 8. What the
--- standard calls tagged is marked here, since `tagged` is an item under any tag.
+-- The tag under which tags are written, and items with it and without: RFC 9393, section 8. What
+-- the standard calls tagged is marked here, since `tagged` is an item under any tag.
 use Rattle.std.specs.Prelude.{ℕ, ◌==◌, Option, Some, None, Bool, false, not, ◌&&◌, is_some, nat_le, if◌then◌else◌}
 use Rattle.cbor_det.specs.Term.{Term, map, tagged, depth}
 use Rattle.cbor_det.specs.Lookup.{value_under}

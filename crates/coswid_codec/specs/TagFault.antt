@@ -1,4 +1,5 @@
--- The first form fault of a tag: first that it is too deep, then that it has both payload and evidence, and then those of its map.
+-- The first form fault of a tag: first that it is too deep, then that it has both payload and
+-- evidence, and then those of its map.
 use Rattle.std.specs.Prelude.{[], Option, if◌then◌else◌}
 use Rattle.cbor_det.specs.Term.{Term}
 use Rattle.coswid_res.specs.declared.fault.FormFault.{FormFault}

@@ -1,5 +1,5 @@
--- The text of a tag that the command `tag` prints: a line each for its kind, its software identifier, its findings and its canonical
--- spelling.
+-- The text of a tag that the command `tag` prints: a line each for its kind, its software
+-- identifier, its findings and its canonical spelling.
 use Rattle.std.specs.Prelude.{ℕ, List, ◌++◌, Option, Some, None, codes, decimal, length, nat_lt, if◌then◌else◌}
 use Rattle.std.specs.List.{flat_map}
 use Rattle.hex.specs.Hex.{encode_lower}
@@ -8,8 +8,8 @@ use Rattle.cbor_det.specs.Canonical.{canon}
 use Rattle.coswid_tag.specs.Findings.{findings}
 use Rattle.coswid_tag.specs.Identifier.{identifier_of}
 use Rattle.coswid_tag.specs.Kind.{kind}
-use Rattle.coswid_tag.specs.declared.sort.TagKind.{TagKind}
-use Rattle.coswid_tag.specs.declared.sort.TagKind.TheVariants.{Corpus, Patch, Supplemental, Primary}
+use Rattle.coswid_tag.specs.declared.tag_kind.TagKind.{TagKind}
+use Rattle.coswid_tag.specs.declared.tag_kind.TagKind.TheVariants.{Corpus, Patch, Supplemental, Primary}
 use Rattle.coswid_tag.specs.declared.tag.Tag.{Tag}
 use Rattle.coswid_codec.specs.Items.{tag_item}
 

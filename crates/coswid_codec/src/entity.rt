@@ -23,6 +23,8 @@ impl Mapped for EntityTable {
 
     ghost written = { entity_pairs };
 
+    ghost fits = { λ v. Unit {0} };
+
     fn read(alloc: Global, pairs: &Pairs) -> Result<Entity, FormRefused> {
         key::EntityName::expect(alloc, pairs)?;
         key::Role::expect(alloc, pairs)?;

@@ -26,6 +26,8 @@ impl Form for IdentifierForm {
 
     ghost written = { identifier_item };
 
+    ghost fits = { λ v. Unit {0} };
+
     fn read(alloc: Global, item: &Item) -> Result<TagId, FormRefused> {
         match item {
             Item::Text(text) => Ok(TagId::Text(text.copy()?)),
@@ -65,6 +67,8 @@ impl Form for CodeForm {
     ghost is = { Code };
 
     ghost written = { code_item };
+
+    ghost fits = { λ v. Unit {0} };
 
     fn read(alloc: Global, item: &Item) -> Result<CodeValue, FormRefused> {
         match item {

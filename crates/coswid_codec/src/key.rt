@@ -1,5 +1,5 @@
-//! The keys of tags, each with its number and the form of what stands under it (RFC 9393, section 2). Behind them stand
-//! all keys that each table lists.
+//! The keys of tags, each with its number and the form of what stands under it (RFC 9393,
+//! section 2). After them stand all keys that each table lists.
 
 ghost use Rattle.std.specs.Prelude.{◌≡◌};
 ghost use Rattle.coswid_res.specs.Schema as schema;

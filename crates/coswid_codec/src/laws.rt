@@ -1,4 +1,5 @@
-//! Laws of tags, and of payload and evidence by themselves. The functions do nothing: their contracts are the laws.
+//! Laws of tags, and of payload and evidence by themselves. The functions do nothing: their
+//! contracts are the laws.
 
 ghost use Rattle.coswid_codec.specs.Laws.{NoFaultOrNoTag, OneTag, HasItemWhereSome, ReadHasItem, WrittenIsRead, ReadIsWritten, OneTagOneSpelling, BeginsOneTag, HasOneFault, NotBoth, TagOrFault, PayloadLaw, EvidenceLaw};
 
@@ -37,7 +38,8 @@ pub fn one_tag_has_one_spelling()
     ensures one { OneTagOneSpelling }
 {}
 
-/// Octets begin with one tag, of so many octets, or have one fault, of CBOR or of form, and not both.
+/// Octets begin with one tag, of that many octets, or have one fault, of CBOR or of form, and not
+/// both.
 pub fn octets_have_one_answer()
     ensures tag { BeginsOneTag }
     ensures fault { HasOneFault }
@@ -45,8 +47,8 @@ pub fn octets_have_one_answer()
     ensures some { TagOrFault }
 {}
 
-/// An item has no form fault exactly where some payload is read from it; it is read as one payload at most, which is written and
-/// read again.
+/// An item has no form fault exactly where some payload is read from it; it is read as one payload
+/// at most, which is written and read again.
 pub fn payload_is_read_and_written()
     ensures payload { PayloadLaw }
 {}

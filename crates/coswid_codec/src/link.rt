@@ -23,6 +23,8 @@ impl Mapped for LinkTable {
 
     ghost written = { link_pairs };
 
+    ghost fits = { λ v. Unit {0} };
+
     fn read(alloc: Global, pairs: &Pairs) -> Result<LinkEntry, FormRefused> {
         key::Href::expect(alloc, pairs)?;
         key::Rel::expect(alloc, pairs)?;

@@ -23,6 +23,8 @@ impl Mapped for MetaTable {
 
     ghost written = { meta_pairs };
 
+    ghost fits = { λ v. Unit {0} };
+
     fn read(alloc: Global, pairs: &Pairs) -> Result<SoftwareMeta, FormRefused> {
         let activation_status = key::ActivationStatus::optional(alloc, pairs)?;
         let channel_type = key::ChannelType::optional(alloc, pairs)?;

@@ -7,6 +7,7 @@ ghost use Rattle.cbor_det.specs.View.{view};
 ghost use Rattle.coswid_codec.specs.Answers.{limits, BeginsTag, BeginsFaulty, IsRefusal, GivesTag, GivesForm, GivesCbor, of_cbor, of_form};
 ghost use Rattle.coswid_codec.specs.Forms.{TagForm};
 ghost use Rattle.coswid_codec.specs.Items.{tag_item};
+ghost use Rattle.coswid_codec.specs.SizesFit.{SizesFit};
 ghost use Rattle.coswid_codec.specs.Marked.{is_marked, content, is_deep, has_both};
 ghost use Rattle.coswid_codec.specs.TagFault.{tag_fault};
 ghost use Rattle.coswid_res.specs.Reading.{Gives};
@@ -33,7 +34,7 @@ pub enum TagRefused {
     /// The item is no tag.
     #[error("{0}")]
     Form(FormFault),
-    /// Want of memory.
+    /// Out of memory.
     #[error("out of memory")]
     Memory,
 }
@@ -66,12 +67,13 @@ pub const LIMITS: Limits = Limits {
     depth: 64,
 };
 
-/// The tag that the octets begin with, and how many octets it has. `Cbor` exactly where the octets begin with no item within
-/// 8388608 octets and depth 64, with the fault that shows first; `Form` exactly where that item is no tag, with the first
-/// form fault; `Memory` where there is no room.
+/// The tag that the octets begin with, and how many octets it has. `Cbor` exactly where the octets
+/// begin with no item within 8388608 octets and depth 64, with the fault that shows first; `Form`
+/// exactly where that item is no tag, with the first form fault; `Memory` where there is no room.
 pub fn read_tag(alloc: Global, bytes: &[u8]) -> Result<(Tag, usize), TagRefused>
     ensures found { IfOk result (λ read. BeginsTag bytes.now read.0 read.1) }
     ensures shallow { IfOk result (λ read. depth (tag_item read.0) ≤ 64) }
+    ensures sizes { IfOk result (λ read. SizesFit read.0) }
     ensures refused { IfErr result (IsRefusal bytes.now) }
     ensures only { (g : tag.Tag) (n : ℕ) → BeginsTag bytes.now g n → GivesTag g n result }
     ensures form { (f : fault.FormFault) → BeginsFaulty bytes.now f → GivesForm f result }

@@ -5,6 +5,7 @@ ghost use Rattle.cbor_det.specs.View.{pairs_view};
 ghost use Rattle.coswid_codec.specs.Forms.{TagKeys};
 ghost use Rattle.coswid_codec.specs.LastKeys.{LastKeys};
 ghost use Rattle.coswid_codec.specs.Items.{tag_pairs};
+ghost use Rattle.coswid_codec.specs.SizesFit.{SizesFit};
 ghost use Rattle.coswid_res.specs.Fault.{missing};
 ghost use Rattle.coswid_res.specs.Reading.{Gives, lines_fault};
 ghost use Rattle.coswid_res.specs.Schema as schema;
@@ -28,6 +29,8 @@ impl Mapped for TagTable {
     ghost keys = { TagKeys };
 
     ghost written = { tag_pairs };
+
+    ghost fits = { SizesFit };
 
     fn read(alloc: Global, pairs: &Pairs) -> Result<Tag, FormRefused> {
         expect_required(alloc, pairs)?;
@@ -81,8 +84,8 @@ impl Mapped for TagTable {
     }
 }
 
-/// Nothing where each key is there that must be; else `Form` with the fault that the lowest that is not is missing;
-/// `Memory` where there is no room.
+/// Nothing where each key is there that must be; else `Form` with the fault that the lowest that is
+/// not is missing; `Memory` where there is no room.
 fn expect_required(alloc: Global, pairs: &Pairs) -> Result<(), FormRefused>
     ensures told { Gives (λ done. Unit {0}) (missing (required_keys (table schema.tag)) (pairs_view pairs.now)) result }
 {
@@ -105,7 +108,8 @@ struct LastFields {
     lang: Option<Text>,
 }
 
-/// The fields from `corpus` to `lang`; `Form` with the first form fault under them; `Memory` where there is no room.
+/// The fields from `corpus` to `lang`; `Form` with the first form fault under them; `Memory` where
+/// there is no room.
 fn read_last(alloc: Global, pairs: &Pairs) -> Result<LastFields, FormRefused>
     ensures told { Gives (λ last. LastKeys last (pairs_view pairs.now)) (lines_fault (drop 7 (table schema.tag)) (pairs_view pairs.now)) result }
 {

@@ -5,6 +5,7 @@ ghost use Rattle.std.specs.List.{flat_map};
 ghost use Rattle.cbor_det.specs.Canonical.{canon};
 ghost use Rattle.cbor_det.specs.Term.{depth};
 ghost use Rattle.coswid_codec.specs.Items.{tag_item};
+ghost use Rattle.coswid_codec.specs.SizesFit.{SizesFit};
 ghost use Rattle.coswid_codec.specs.TagText.{canonical_line, finding_line, identifier_line, kind_line, summary_text, tag_text};
 ghost use Rattle.coswid_tag.specs.Findings.{findings};
 ghost use Rattle.coswid_tag.specs.Identifier.{identifier_of};
@@ -14,11 +15,12 @@ use coswid_tag::{Findings, IdentRefused, Tag, TagKind, constraints, kind, softwa
 use std::alloc::Global;
 use wire_base::{List, Memory, Octets, push_escaped};
 
-/// The lines of the command `tag`: the kind, the software identifier, each finding, and the canonical spelling; `Memory`
-/// where there is no room, and where a file has a size above 2^63 - 1, which has no item and is never read.
+/// The lines of the command `tag`: the kind, the software identifier, each finding, and the
+/// canonical spelling; `Memory` where there is no room.
 #[tactic(auto, unfolding(crate::specs::TagText::tag_text))]
 pub fn tag_text(alloc: Global, tag: &Tag) -> Result<Octets, Memory>
     requires depth { depth (tag_item tag.now) ≤ 64 }
+    requires sizes { SizesFit tag.now }
     ensures text { IfOk result (λ made. made ≡ tag_text tag.now) }
 {
     let mut out = List::new(alloc);
@@ -27,10 +29,10 @@ pub fn tag_text(alloc: Global, tag: &Tag) -> Result<Octets, Memory>
     Ok(out)
 }
 
-/// Puts the lines of a tag except its canonical spelling at the end of `out`: the kind, the software
-/// identifier and each finding. Gives the findings; `Memory` where there is no room.
+/// Puts the lines of a tag except its canonical spelling at the end of `out`: the kind, the
+/// software identifier and each finding. Gives the findings; `Memory` where there is no room.
 pub fn put_summary(alloc: Global, out: &mut Octets, tag: &Tag) -> Result<Findings, Memory>
-    ensures lines { OnOk result (out.new ≡ out.old ++ summary_text tag.now) }
+    ensures appended { OnOk result (out.new ≡ out.old ++ summary_text tag.now) }
     ensures findings { IfOk result (λ found. found ≡ findings tag.now) }
 {
     put_kind(out, kind(tag))?;
@@ -40,11 +42,12 @@ pub fn put_summary(alloc: Global, out: &mut Octets, tag: &Tag) -> Result<Finding
     Ok(found)
 }
 
-/// Puts the line of a tag's canonical spelling at the end of `out`; `Memory` where there is no room, and where a file has a size above
-/// 2^63 - 1, which has no item and is never read.
+/// Puts the line of a tag's canonical spelling at the end of `out`; `Memory` where there is no
+/// room.
 pub fn put_canonical(alloc: Global, out: &mut Octets, tag: &Tag) -> Result<(), Memory>
     requires depth { depth (tag_item tag.now) ≤ 64 }
-    ensures line { OnOk result (out.new ≡ out.old ++ canonical_line (canon (tag_item tag.now))) }
+    requires sizes { SizesFit tag.now }
+    ensures appended { OnOk result (out.new ≡ out.old ++ canonical_line (canon (tag_item tag.now))) }
 {
     let octets = write_tag(alloc, tag)?;
     let len = octets.len();
@@ -54,7 +57,7 @@ pub fn put_canonical(alloc: Global, out: &mut Octets, tag: &Tag) -> Result<(), M
 }
 
 fn put_kind(out: &mut Octets, kind: TagKind) -> Result<(), Memory>
-    ensures line { OnOk result (out.new ≡ out.old ++ kind_line kind) }
+    ensures appended { OnOk result (out.new ≡ out.old ++ kind_line kind) }
 {
     match kind {
         TagKind::Corpus => out.extend(b"tag corpus\n"),
@@ -65,7 +68,7 @@ fn put_kind(out: &mut Octets, kind: TagKind) -> Result<(), Memory>
 }
 
 fn put_identifier(alloc: Global, out: &mut Octets, tag: &Tag) -> Result<(), Memory>
-    ensures line { OnOk result (out.new ≡ out.old ++ identifier_line (identifier_of tag.now)) }
+    ensures appended { OnOk result (out.new ≡ out.old ++ identifier_line (identifier_of tag.now)) }
 {
     match software_identifier(alloc, tag) {
         Ok(text) => put_told(out, text.as_slice()),
@@ -81,7 +84,7 @@ fn put_identifier(alloc: Global, out: &mut Octets, tag: &Tag) -> Result<(), Memo
 /// Puts the line of an identifier that a record has room for.
 fn put_told(out: &mut Octets, text: &[u8]) -> Result<(), Memory>
     requires { length text.now ≤ 65535 }
-    ensures line { OnOk result (out.new ≡ out.old ++ identifier_line (Some text.now)) }
+    ensures appended { OnOk result (out.new ≡ out.old ++ identifier_line (Some text.now)) }
 {
     out.extend(b"ident ")?;
     push_escaped(out, text)?;
@@ -89,7 +92,7 @@ fn put_told(out: &mut Octets, text: &[u8]) -> Result<(), Memory>
 }
 
 fn put_findings(alloc: Global, out: &mut Octets, found: &[u8]) -> Result<(), Memory>
-    ensures lines { OnOk result (out.new ≡ out.old ++ flat_map finding_line found.now) }
+    ensures appended { OnOk result (out.new ≡ out.old ++ flat_map finding_line found.now) }
 {
     for number in found {
         put_finding(alloc, out, *number)?;
@@ -98,7 +101,7 @@ fn put_findings(alloc: Global, out: &mut Octets, found: &[u8]) -> Result<(), Mem
 }
 
 fn put_finding(alloc: Global, out: &mut Octets, number: u8) -> Result<(), Memory>
-    ensures line { OnOk result (out.new ≡ out.old ++ finding_line number) }
+    ensures appended { OnOk result (out.new ≡ out.old ++ finding_line number) }
 {
     let line = format!(in alloc; "finding F{number}\n")?;
     out.extend(line.as_bytes())

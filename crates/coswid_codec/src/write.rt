@@ -5,6 +5,7 @@ ghost use Rattle.cbor_det.specs.Canonical.{canon};
 ghost use Rattle.cbor_det.specs.Term.{depth};
 ghost use Rattle.cbor_det.specs.View.{view};
 ghost use Rattle.coswid_codec.specs.Items.{tag_item};
+ghost use Rattle.coswid_codec.specs.SizesFit.{SizesFit};
 
 use crate::tag::TagTable;
 use cbor_det::{Item, write_item};
@@ -16,12 +17,14 @@ use wire_base::{Boxed, Memory, Octets};
 /// The tag of CoSWID tags (RFC 9393, section 8).
 pub(crate) const COSWID: u64 = 1398229316;
 
-/// The canonical spelling of the tag's item, under the tag of CoSWID tags; `Memory` where there is no room, and where the size of a
-/// file is above 2^63 - 1, since no item holds it. What has an item is read from that spelling (`written_is_read` of `laws`). A value
-/// that was made by hand and has none is written all the same, and is never what is read from that: one with an empty list, with both
-/// a payload and evidence, or with extras in which a key of the map's table stands, or one key twice.
+/// The canonical spelling of the tag's item, under the tag of CoSWID tags; `Memory` where there is
+/// no room. What has an item is read from that spelling (`written_is_read` of `laws`). A value that
+/// was made by hand and has none is written all the same, and is never what is read from that: one
+/// with an empty list, with both a payload and evidence, or with extras in which a key of the map's
+/// table stands, or one key twice.
 pub fn write_tag(alloc: Global, tag: &Tag) -> Result<Octets, Memory>
     requires depth { depth (tag_item tag.now) ≤ 64 }
+    requires sizes { SizesFit tag.now }
     ensures canonical { IfOk result (λ written. written ≡ canon (tag_item tag.now)) }
 {
     let item = tag_item(alloc, tag)?;
@@ -29,6 +32,7 @@ pub fn write_tag(alloc: Global, tag: &Tag) -> Result<Octets, Memory>
 }
 
 fn tag_item(alloc: Global, tag: &Tag) -> Result<Item, Memory>
+    requires sizes { SizesFit tag.now }
     ensures item { IfOk result (λ made. view made ≡ tag_item tag.now) }
 {
     let pairs = TagTable::write(tag)?;

@@ -4,7 +4,7 @@ use Rattle.std.proofs.lemmas.List.{append-nil}
 use Rattle.coswid_tag.specs.declared.tag.Tag.{Tag}
 use Rattle.coswid_links.specs.declared.finding.LinkFinding.{LinkFinding}
 use Rattle.coswid_links.specs.Listed.{finding, each_from, each_pair_from}
-use Rattle.coswid_links.specs.Numbered.{AreOwnPlaces, Tells}
+use Rattle.coswid_links.specs.FirstEqual.{AreOwnPlaces, Tells}
 use Rattle.coswid_links.specs.Rivals.{same_release, same_spelling, pair_findings}
 
 -- Values of which nothing is given.

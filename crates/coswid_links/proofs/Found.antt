@@ -4,14 +4,15 @@ use Rattle.std.proofs.lemmas.Slice.Eq.{bytes_eq-Decides}
 use Rattle.std.specs.List.{list_any}
 use Rattle.coswid_tag.specs.declared.link.LinkEntry.{LinkEntry}
 use Rattle.coswid_tag.specs.declared.tag.Tag.{Tag}
-use Rattle.coswid_tag.specs.Codes.{patches, supplements}
+use Rattle.coswid_tag.specs.Codes.{patches, requires_it, supplements}
 use Rattle.coswid_links.specs.declared.finding.LinkFinding.{LinkFinding}
 use Rattle.coswid_links.specs.Aims.{scheme, name_of, is_called, is_primary, is_reference, aims_at, aims_at_some, aims_at_primary}
 use Rattle.coswid_links.specs.Listed.{finding}
-use Rattle.coswid_links.specs.Links.{link_findings, requires_it}
+use Rattle.coswid_links.specs.Links.{link_findings}
 use Rattle.coswid_links.specs.Names.{named_in, primary_of, judged, listed}
 
--- the findings, by what they rest on: whether the link is a reference, aims at some tag, aims at some primary one, requires it, changes it
+-- the findings, by what they rest on: whether the link is a reference, aims at some tag, aims at
+-- some primary one, requires it, changes it
 abbrev told : Bool → Bool → Bool → Bool → Bool → ℕ → ℕ → List LinkFinding
 told r s t q c i j = finding 1 (r && not s && not q) i j ++ finding 2 (c && s && not t) i j ++ finding 3 (r && not s && q) i j
 

@@ -3,9 +3,9 @@ use Rattle.std.proofs.Common.{◌≡◌, ℕ, suc, ◌+◌, ◌-◌, ◌<◌, �
 use Rattle.std.proofs.lemmas.List.{drop_more, get_or_default}
 use Rattle.coswid_tag.specs.declared.tag.Tag.{Tag}
 use Rattle.coswid_links.specs.declared.finding.LinkFinding.{LinkFinding}
-use Rattle.coswid_links.specs.Behind.{has, rivals, rival_findings, rivals_of, span}
+use Rattle.coswid_links.specs.RivalChains.{has, rivals, rival_findings, rivals_of, span}
 use Rattle.coswid_links.specs.Listed.{finding, each_from, each_pair_from}
-use Rattle.coswid_links.specs.Numbered.{Tells}
+use Rattle.coswid_links.specs.FirstEqual.{Tells}
 use Rattle.coswid_links.proofs.Numbers.{some_of}
 use Rattle.coswid_links.specs.Rivals.{are_rivals, same_release, same_spelling, pair_findings}
 
@@ -63,7 +63,7 @@ module _ (gs : List Tag) (releases contents : List ℕ) (by_release : Tells same
       ∙ append_assoc old here rest
       ∙ ap (λ (ys : List Tag). old ++ each_pair_from pair_findings (i + 1) ys) (sym parts) ∙ so_far
 
-  -- With the pairs of a tag put behind the rest, those of the tags behind it are left.
+  -- With the pairs of a tag put after the rest, those of the tags after it are left.
   pub pairs_more : (i : ℕ) (before old new : List LinkFinding) → i < length gs → old ++ each_pair_from pair_findings (i + 1) (drop i gs) ≡ before
       → new ≡ old ++ rivals_of releases contents i → new ++ each_pair_from pair_findings (i + 1 + 1) (drop (i + 1) gs) ≡ before
   pairs_more i before old new lt so_far put =

@@ -6,19 +6,19 @@ use Rattle.std.proofs.lemmas.Bool.{cases_lt, cases_Bool, cond-true, cond-false}
 use Rattle.std.proofs.lemmas.List.{get_or-map, length-map, map-append, length_push}
 use Rattle.std.proofs.lemmas.List.Folds.{position_or_len_push}
 use Rattle.std.proofs.lemmas.List.Sums.{prefix_len-le-length, passes_at_first, fails_before_first}
-use Rattle.coswid_links.specs.Numbered.{first_places, Tells}
-use Rattle.coswid_links.specs.Behind.{AreBelow}
+use Rattle.coswid_links.specs.FirstEqual.{first_places, Tells}
+use Rattle.coswid_links.specs.RivalChains.{AreBelow}
 
 -- It is a place of the list, or the list's length.
 pub place_within : {K : Type 0} (p : K → Bool) (xs : List K) → position_or_len p xs ≤ length xs
 place_within p xs = prefix_len-le-length (λ x. not (p x)) xs
 
--- A value that passes stands at the first place that does, or behind it.
+-- A value that passes stands at the first place that does, or after it.
 pub place_upto : {K : Type 0} (p : K → Bool) (xs : List K) (i : ℕ) (d : K) → i < length xs → p (get_or xs i d) ≡ true → position_or_len p xs ≤ i
 place_upto p xs i d lt passes =
     ⊎_elim (λ above. absurd (true≢false (sym passes ∙ fails_before_first p xs i d above))) (λ le. le) (cases_lt i (position_or_len p xs))
 
--- What stands behind a value that passes does not matter.
+-- What follows a value that passes does not matter.
 pub place_there : {K : Type 0} (p : K → Bool) (xs : List K) (y : K) (ys : List K) → p y ≡ true → position_or_len p (xs ++ y ∷ ys) ≡ position_or_len p xs
 place_there p [] y ys e = ap (λ (b : Bool). cond (not b) (1 + position_or_len p ys) 0) e
 place_there p (x ∷ xs) y ys e = ap (λ (n : ℕ). cond (not (p x)) (1 + n) 0) (place_there p xs y ys e)
@@ -44,7 +44,7 @@ place_or_len p xs n len found is n_is len_is =
     ∙ (let same : length xs ≡ position_or_len p xs = omega (arith, place_within p xs) in same))
     (cases_lt (position_or_len p xs) (length xs))
 
--- A value behind the others that does not pass is not found.
+-- A value after the others that does not pass is not found.
 push_fails : {K : Type 0} (p : K → Bool) (xs : List K) (y : K) → p y ≡ false → position p (xs ++ y ∷ []) ≡ position p xs
 push_fails p xs y e =
     let n = position_or_len p xs in

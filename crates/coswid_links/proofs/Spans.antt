@@ -1,6 +1,6 @@
 -- Places one after another, and what is given of each.
 use Rattle.std.proofs.Common.{◌≡◌, ℕ, zero, suc, ◌+◌, ◌-◌, ◌<◌, ◌≤◌, Bool, false, List, [], ◌++◌, Option, Some, None, append_assoc, refl, sym, ap, ◌∙◌, arith}
-use Rattle.coswid_links.specs.Behind.{IsFirst, span}
+use Rattle.coswid_links.specs.RivalChains.{IsFirst, span}
 
 -- Places of which nothing is given.
 pub span_none : {B : Type 0} (f : ℕ → List B) (at n : ℕ) → ((k : ℕ) → at ≤ k → k < at + n → f k ≡ []) → span f at n ≡ []
@@ -9,7 +9,7 @@ span_none f at (suc n) h =
     ap (λ (xs : List _). xs ++ span f (at + 1) n) (h at (omega arith) (omega arith))
     ∙ span_none f (at + 1) n (λ k ge lt. h k (omega arith) (omega arith))
 
--- Some places, and those behind them.
+-- Some places, and those after them.
 pub span_split : {B : Type 0} (f : ℕ → List B) (at m n : ℕ) → span f at (m + n) ≡ span f at m ++ span f (at + m) n
 span_split f at zero n =
     let count : 0 + n ≡ n = omega arith in

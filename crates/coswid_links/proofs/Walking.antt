@@ -1,10 +1,11 @@
--- A walk from rival to rival of a place, and what is known of places on a way from the last to the first.
+-- A walk from rival to rival of a place, and what is known of places on a way from the last to the
+-- first.
 use Rattle.std.proofs.Common.{◌≡◌, ℕ, suc, ◌+◌, ◌-◌, ◌<◌, ◌≤◌, Bool, true, false, not, ◌&&◌, List, [], ◌∷◌, ◌++◌, length, set, slice_index, slice_index_or, Option, Some, None, IfSome, ⊎_elim, append_assoc, sym, ap, ◌∙◌, subst, arith, eq-eqb, ne_eqb, eqb-true, get_or-set_other}
 use Rattle.std.proofs.lemmas.Bool.{cases_eq, and_parts, and_left, and_right, and_from, not_from_true, not_from_false}
 use Rattle.std.proofs.lemmas.Grind.{get_or-set_at}
-use Rattle.coswid_links.specs.declared.behind.Behind.{Behind}
+use Rattle.coswid_links.specs.declared.rival_chain.Following.{Following}
 use Rattle.coswid_links.specs.declared.finding.LinkFinding.{LinkFinding}
-use Rattle.coswid_links.specs.Behind.{IsFirst, IsBehind, has, of_release, rivals, rival_findings, rivals_of}
+use Rattle.coswid_links.specs.RivalChains.{IsFirst, IsFollowing, has, of_release, rivals, rival_findings, rivals_of}
 use Rattle.coswid_links.specs.Listed.{finding}
 use Rattle.coswid_links.proofs.Firsts.{first_here, first_earlier}
 use Rattle.coswid_links.proofs.Spans.{from_first, span_first, walks_on}
@@ -25,22 +26,22 @@ latest_more numbers place latest lt room known number d below =
     (first_earlier (has numbers number) place (length numbers) (slice_index_or latest number d) (ne_eqb number here apart) (known number d below)))
     (cases_eq number here)
 
--- What stands behind each place, from a place on: that behind the place is known in addition.
-pub behind_more : (releases contents : List ℕ) (place to : ℕ) (behinds : List Behind) (new : Behind) → place < length behinds → IsBehind releases contents place new
-    → ((at : ℕ) (d : Behind) → place + 1 ≤ at → at < to → IsBehind releases contents at (slice_index_or behinds at d))
-    → (at : ℕ) (d : Behind) → place ≤ at → at < to → IsBehind releases contents at (slice_index_or (set behinds place new) at d)
-behind_more releases contents place to behinds new lt is known at d ge below = ⊎_elim
-    (λ same. subst (λ (b : Behind). IsBehind releases contents at b) (sym (get_or-set_at behinds place at new d same lt))
-    (subst (λ (k : ℕ). IsBehind releases contents k new) (sym same) is))
-    (λ apart. subst (λ (b : Behind). IsBehind releases contents at b) (sym (get_or-set_other behinds place at new d apart)) (known at d (omega arith) below))
+-- What follows each place, from a place on: what follows the place is known in addition.
+pub following_more : (releases contents : List ℕ) (place to : ℕ) (followings : List Following) (new : Following) → place < length followings → IsFollowing releases contents place new
+    → ((at : ℕ) (d : Following) → place + 1 ≤ at → at < to → IsFollowing releases contents at (slice_index_or followings at d))
+    → (at : ℕ) (d : Following) → place ≤ at → at < to → IsFollowing releases contents at (slice_index_or (set followings place new) at d)
+following_more releases contents place to followings new lt is known at d ge below = ⊎_elim
+    (λ same. subst (λ (b : Following). IsFollowing releases contents at b) (sym (get_or-set_at followings place at new d same lt))
+    (subst (λ (k : ℕ). IsFollowing releases contents k new) (sym same) is))
+    (λ apart. subst (λ (b : Following). IsFollowing releases contents at b) (sym (get_or-set_other followings place at new d apart)) (known at d (omega arith) below))
     (cases_eq at place)
 
--- It is known of a place that was found behind it.
-pub behind_there : (releases contents : List ℕ) (test : ℕ → Bool) (from to : ℕ) (behinds : List Behind) (r : Option ℕ) → IsFirst test from to r
-    → ((at : ℕ) (d : Behind) → from ≤ at → at < to → IsBehind releases contents at (slice_index_or behinds at d))
-    → IfSome r (λ m. (d : Behind) → IsBehind releases contents m (slice_index_or behinds m d))
-behind_there releases contents test from to behinds None is known = tt
-behind_there releases contents test from to behinds (Some m) is known = λ d. known m d is.0 is.1
+-- It is known of a place that was found after it.
+pub following_there : (releases contents : List ℕ) (test : ℕ → Bool) (from to : ℕ) (followings : List Following) (r : Option ℕ) → IsFirst test from to r
+    → ((at : ℕ) (d : Following) → from ≤ at → at < to → IsFollowing releases contents at (slice_index_or followings at d))
+    → IfSome r (λ m. (d : Following) → IsFollowing releases contents m (slice_index_or followings m d))
+following_there releases contents test from to followings None is known = tt
+following_there releases contents test from to followings (Some m) is known = λ d. known m d is.0 is.1
 
 -- what is left of a walk
 abbrev pub walk_left : ℕ → Option ℕ → ℕ
@@ -54,7 +55,8 @@ module _ (releases contents : List ℕ) (first : ℕ) where
   no_rival : (k : ℕ) → rivals releases contents first k ≡ false → rival_findings releases contents first k ≡ []
   no_rival k e = nothing (rivals releases contents first k) (first + 1) (k + 1) e
 
-  -- On a walk: what was put, and what is to come from the place on, is all; the place is of the first one's release.
+  -- On a walk: what was put, and what is to come from the place on, is all; the place is of the
+  -- first one's release.
   pub record Walks (before found : List LinkFinding) (at : Option ℕ) : Type 0 where
     pub put : found ++ from_first (rival_findings releases contents first) (length releases) at ≡ before ++ rivals_of releases contents first
     pub place : IfSome at (λ m. (m < length releases) × (slice_index releases first ≡ slice_index releases m))

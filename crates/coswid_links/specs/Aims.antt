@@ -4,8 +4,8 @@ use Rattle.std.specs.List.{list_any}
 use Rattle.std.specs.Str.{bytes_eq}
 use Rattle.uuid.specs.Text.{hyphenated_text, lower}
 use Rattle.coswid_tag.specs.declared.link.LinkEntry.{LinkEntry}
-use Rattle.coswid_tag.specs.declared.sort.TagKind.{TagKind}
-use Rattle.coswid_tag.specs.declared.sort.TagKind.TheVariants.{Corpus, Patch, Supplemental, Primary}
+use Rattle.coswid_tag.specs.declared.tag_kind.TagKind.{TagKind}
+use Rattle.coswid_tag.specs.declared.tag_kind.TagKind.TheVariants.{Corpus, Patch, Supplemental, Primary}
 use Rattle.coswid_tag.specs.declared.tag.Tag.{Tag}
 use Rattle.coswid_tag.specs.declared.value.TagId.{TagId}
 use Rattle.coswid_tag.specs.declared.value.TagId.TheVariants as identifier
@@ -15,7 +15,8 @@ use Rattle.coswid_tag.specs.Kind.{kind}
 abbrev pub scheme : List ℕ
 scheme = codes "swid:"
 
--- the name by which references call a tag; a UUID stands as its text in lower case: RFC 9562, section 4
+-- the name by which references call a tag; a UUID stands as its text in lower case: RFC 9562,
+-- section 4
 abbrev pub name_of : TagId → List ℕ
 name_of (identifier.Text s) = s
 name_of (identifier.Uuid s) = hyphenated_text lower s

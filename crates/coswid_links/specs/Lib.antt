@@ -2,8 +2,9 @@ pub mod Aims
 pub mod Listed
 pub mod Links
 pub mod Rivals
-pub mod Numbered
-pub mod Behind
+pub mod FirstEqual
+pub mod RivalChains
+pub mod FindingKinds
 pub mod LinkFindings
 pub mod Names
 pub mod Releases

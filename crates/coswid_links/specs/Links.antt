@@ -1,17 +1,12 @@
 -- What is wrong with links of tags: RFC 9393, section 2.7 and 4.4. Each finding has a number.
-use Rattle.std.specs.Prelude.{ℕ, Bool, not, ◌&&◌, ◌||◌, List, ◌++◌, codes}
+use Rattle.std.specs.Prelude.{ℕ, Bool, not, ◌&&◌, ◌||◌, List, ◌++◌}
 use Rattle.coswid_tag.specs.declared.link.LinkEntry.{LinkEntry}
 use Rattle.coswid_tag.specs.declared.tag.Tag.{Tag}
-use Rattle.coswid_tag.specs.declared.value.CodeValue.{CodeValue}
-use Rattle.coswid_tag.specs.Codes.{is_named, patches, supplements}
+use Rattle.coswid_tag.specs.Codes.{patches, requires_it, supplements}
 use Rattle.coswid_tag.specs.Findings.{all_of}
 use Rattle.coswid_links.specs.declared.finding.LinkFinding.{LinkFinding}
 use Rattle.coswid_links.specs.Aims.{is_reference, aims_at_some, aims_at_primary}
 use Rattle.coswid_links.specs.Listed.{finding, each_from}
-
--- rel 8: section 4.4
-abbrev pub requires_it : CodeValue → Bool
-requires_it c = is_named 8 (codes "requires") c
 
 -- 1: It refers to no tag of the list, and does not require it.
 abbrev pub leads_nowhere : List Tag → LinkEntry → Bool

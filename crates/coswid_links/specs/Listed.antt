@@ -11,7 +11,8 @@ abbrev pub each_from : {A B : Type 0} → (ℕ → A → List B) → ℕ → Lis
 each_from f n [] = []
 each_from f n (x ∷ xs) = f n x ++ each_from f (n + 1) xs
 
--- what f gives of each pair of values and their numbers, in order of the first and then of the second, which stands behind the first
+-- what f gives of each pair of values and their numbers, in order of the first and then of the
+-- second, which comes after the first
 abbrev pub each_pair_from : {A B : Type 0} → (ℕ → A → ℕ → A → List B) → ℕ → List A → List B
 each_pair_from f n [] = []
 each_pair_from f n (x ∷ xs) = each_from (f n x) (n + 1) xs ++ each_pair_from f (n + 1) xs

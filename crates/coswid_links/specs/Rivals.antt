@@ -1,4 +1,5 @@
--- Tags that claim one release of one tag with different content: RFC 9393, section 2.3, tag-id and tag-version.
+-- Tags that claim one release of one tag with different content: RFC 9393, section 2.3, tag-id and
+-- tag-version.
 use Rattle.std.specs.Prelude.{ℕ, Bool, false, not, ◌&&◌, List}
 use Rattle.std.specs.Ordering.{int_eq}
 use Rattle.std.specs.Str.{bytes_eq}

@@ -4,9 +4,12 @@ ghost use Rattle.std.specs.Prelude.{◌≡◌, ◌≤◌, IfOk};
 ghost use Rattle.std.specs.List.{All};
 ghost use Rattle.cbor_det.specs.Term.{depth};
 ghost use Rattle.coswid_codec.specs.Items.{tag_item};
+ghost use Rattle.coswid_codec.specs.SizesFit.{SizesFit};
 ghost use Rattle.coswid_links.specs.LinkFindings.{findings};
+ghost use Rattle.coswid_links.specs.FindingKinds.{link_finding_kind};
 
 use crate::link::put_link_findings;
+use crate::link_finding_kind::LinkFindingKind;
 use crate::names::Names;
 use crate::rival::put_rivals;
 use coswid_tag::Tag;
@@ -16,12 +19,21 @@ use wire_base::{List, Memory, TryCopy};
 /// Something that is wrong between tags of a list.
 #[derive(Clone, Copy, Debug, PartialEq, Eq)]
 pub struct LinkFinding {
-    /// Which finding, 1 to 4, by the table of `docs/tags.md`.
+    /// Which finding, 1 to 4, as `LinkFindingKind` numbers them; `what` gives its name.
     pub kind: u8,
     /// The number of the tag that has the link, or of the first of two tags, from 1.
     pub first: u64,
     /// The number of the link in its tag, or of the second of two tags, from 1.
     pub second: u64,
+}
+
+impl LinkFinding {
+    /// What is wrong; `None` where its number is not 1 to 4, which `check_links` never gives.
+    pub fn what(&self) -> Option<LinkFindingKind>
+        ensures kind { result ≡ link_finding_kind self.now.kind }
+    {
+        LinkFindingKind::from_number(self.kind)
+    }
 }
 
 impl TryCopy for LinkFinding {
@@ -33,13 +45,15 @@ impl TryCopy for LinkFinding {
 /// Findings in order.
 pub type LinkFindings = List<LinkFinding>;
 
-/// All that is wrong between the tags: first 1 to 3 by tag and link, then 4 by pairs of tags; `Memory` where there is no room.
+/// All that is wrong between the tags: first 1 to 3 by tag and link, then 4 by pairs of tags;
+/// `Memory` where there is no room.
 #[tactic(auto, unfolding(crate::specs::LinkFindings::findings))]
 pub fn check_links(alloc: Global, tags: &[Tag]) -> Result<LinkFindings, Memory>
     requires depth { All (λ g. depth (tag_item g) ≤ 64) tags.now }
+    requires sizes { All SizesFit tags.now }
     ensures findings { IfOk result (λ found. found ≡ findings tags.now) }
 {
-    let names = Names::of(alloc, tags)?;
+    let names = Names::from_tags(alloc, tags)?;
     let mut found = List::new(alloc);
     put_link_findings(&mut found, &names, tags)?;
     put_rivals(alloc, &mut found, tags)?;

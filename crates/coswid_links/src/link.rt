@@ -2,15 +2,15 @@
 
 ghost use Rattle.std.specs.Prelude.{◌≡◌, ◌++◌, ◌||◌, ℕ, List, OnOk};
 ghost use Rattle.std.specs.Option.{option_copied};
-ghost use Rattle.coswid_tag.specs.Codes.{patches, supplements};
+ghost use Rattle.coswid_tag.specs.Codes.{patches, requires_it, supplements};
 ghost use Rattle.coswid_tag.specs.declared.tag.Tag as declared;
-ghost use Rattle.coswid_links.specs.Links.{link_findings, requires_it, tag_findings};
+ghost use Rattle.coswid_links.specs.Links.{link_findings, tag_findings};
 ghost use Rattle.coswid_links.specs.Listed.{each_from};
 ghost use Rattle.coswid_links.specs.Names.{AreNamesOf, judged, listed, named_in};
 
 use crate::finding::{LinkFinding, LinkFindings};
 use crate::names::Names;
-use coswid_tag::{CodeValue, LinkEntry, Tag, is_named};
+use coswid_tag::{CodeValue, LinkEntry, Rel, Tag};
 use wire_base::Memory;
 
 /// Puts what is wrong with the links of the tags, by tag and link.
@@ -20,7 +20,7 @@ pub(crate) fn put_link_findings(
     tags: &[Tag],
 ) -> Result<(), Memory>
     requires names { AreNamesOf tags.now names.now }
-    ensures findings { OnOk result (found.new ≡ found.old ++ each_from (tag_findings tags.now) 1 tags.now) }
+    ensures appended { OnOk result (found.new ≡ found.old ++ each_from (tag_findings tags.now) 1 tags.now) }
 {
     for (place, tag) in tags.iter().enumerate() {
         put_findings_of_tag(found, names, place as u64 + 1, tag)?;
@@ -88,12 +88,13 @@ fn finding_of(names: &Names, link: &LinkEntry) -> Option<u8>
     }
 }
 
-/// What is wrong with a link of this rel to a name: whether a tag of the name is primary, or `None` where no tag has it.
+/// What is wrong with a link of this rel to a name: whether a tag of the name is primary, or `None`
+/// where no tag has it.
 fn judge(is_primary: Option<bool>, rel: &CodeValue) -> Option<u8>
     ensures judged { result ≡ judged is_primary (requires_it rel.now) (patches rel.now || supplements rel.now) }
 {
     match is_primary {
-        None if requires_it(rel) => Some(3),
+        None if Rel::Requires.is(rel) => Some(3),
         None => Some(1),
         Some(is_primary) if !is_primary && asks_for_primary(rel) => Some(2),
         Some(_) => None,
@@ -107,16 +108,9 @@ fn name_in(link: &LinkEntry) -> Option<&str>
     link.href.as_str().strip_prefix("swid:")
 }
 
-/// Whether a link of this rel requires what it aims at.
-fn requires_it(rel: &CodeValue) -> bool
-    ensures required { result ≡ requires_it rel.now }
-{
-    is_named(rel, 8, "requires")
-}
-
 /// Whether what a link of this rel aims at has to be primary: it patches, or is supplemental.
 fn asks_for_primary(rel: &CodeValue) -> bool
     ensures asks { result ≡ (patches rel.now || supplements rel.now) }
 {
-    is_named(rel, 7, "patches") || is_named(rel, 11, "supplemental")
+    Rel::Patches.is(rel) || Rel::Supplemental.is(rel)
 }

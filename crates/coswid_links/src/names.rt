@@ -20,7 +20,7 @@ pub(crate) struct Names {
 
 impl Names {
     /// The names of the tags; `Memory` where there is no room.
-    pub(crate) fn of(alloc: Global, tags: &[Tag]) -> Result<Self, Memory>
+    pub(crate) fn from_tags(alloc: Global, tags: &[Tag]) -> Result<Self, Memory>
         ensures names { IfOk result (AreNamesOf tags.now) }
     {
         let mut names = Names {

@@ -3,6 +3,7 @@
 ghost use Rattle.std.specs.Prelude.{◌≡◌, ◌≤◌, IfOk};
 ghost use Rattle.cbor_det.specs.Term.{depth};
 ghost use Rattle.coswid_codec.specs.Items.{tag_item};
+ghost use Rattle.coswid_codec.specs.SizesFit.{SizesFit};
 ghost use Rattle.coswid_links.specs.Releases.{claim, claim_of, content, content_of};
 
 use coswid_codec::write_tag;
@@ -26,7 +27,7 @@ pub(crate) struct Release {
 
 impl Release {
     /// The release that the tag is; `Memory` where there is no room.
-    pub(crate) fn of(alloc: Global, tag: &Tag) -> Result<Self, Memory>
+    pub(crate) fn from_tag(alloc: Global, tag: &Tag) -> Result<Self, Memory>
         ensures release { IfOk result (λ made. claim_of made ≡ claim tag.now) }
     {
         let tag_id = match &tag.tag_id {
@@ -43,7 +44,8 @@ impl Release {
     }
 }
 
-/// A release with the canonical octets of a tag of it, in an order that looks at octets only where the releases are equal.
+/// A release with the canonical octets of a tag of it, in an order that looks at octets only where
+/// the releases are equal.
 #[derive(PartialEq, Eq, PartialOrd, Ord, Drop)]
 pub(crate) struct Content {
     release: Release,
@@ -52,12 +54,13 @@ pub(crate) struct Content {
 
 impl Content {
     /// The release that the tag is, and its canonical octets; `Memory` where there is no room.
-    pub(crate) fn of(alloc: Global, tag: &Tag) -> Result<Self, Memory>
+    pub(crate) fn from_tag(alloc: Global, tag: &Tag) -> Result<Self, Memory>
         requires depth { depth (tag_item tag.now) ≤ 64 }
+        requires sizes { SizesFit tag.now }
         ensures content { IfOk result (λ made. content_of made ≡ content tag.now) }
     {
         Ok(Content {
-            release: Release::of(alloc, tag)?,
+            release: Release::from_tag(alloc, tag)?,
             octets: write_tag(alloc, tag)?.into_vec(),
         })
     }

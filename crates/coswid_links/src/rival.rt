@@ -4,14 +4,15 @@ ghost use Rattle.std.specs.Prelude.{◌≡◌, ◌≤◌, ◌++◌, IfOk, OnOk, 
 ghost use Rattle.std.specs.List.{All};
 ghost use Rattle.cbor_det.specs.Term.{depth};
 ghost use Rattle.coswid_codec.specs.Items.{tag_item};
+ghost use Rattle.coswid_codec.specs.SizesFit.{SizesFit};
 ghost use Rattle.coswid_links.specs.Rivals.{pair_findings};
 ghost use Rattle.coswid_links.specs.Listed.{each_pair_from};
 ghost use Rattle.coswid_links.specs.Releases.{claim, claim_of, content, content_of};
 
-use crate::behind::Places;
 use crate::finding::LinkFindings;
-use crate::numbered::{first_places, has_no_repeat};
+use crate::first_equal::{first_places, has_no_repeat};
 use crate::release::{Content, Release};
+use crate::rival_chain::RivalChains;
 use coswid_tag::Tag;
 use std::alloc::Global;
 use wire_base::Memory;
@@ -23,14 +24,15 @@ pub(crate) fn put_rivals(
     tags: &[Tag],
 ) -> Result<(), Memory>
     requires depth { All (λ g. depth (tag_item g) ≤ 64) tags.now }
-    ensures findings { OnOk result (found.new ≡ found.old ++ each_pair_from pair_findings 1 tags.now) }
+    requires sizes { All SizesFit tags.now }
+    ensures appended { OnOk result (found.new ≡ found.old ++ each_pair_from pair_findings 1 tags.now) }
 {
     let releases = first_places(alloc, releases(alloc, tags)?)?;
     if has_no_repeat(releases.as_slice()) {
         return Ok(());
     }
     let contents = first_places(alloc, contents(alloc, tags)?)?;
-    let places = Places::of(alloc, releases, contents)?;
+    let places = RivalChains::new(alloc, releases, contents)?;
     for first in 0..tags.len() {
         places.put_rivals_of(found, first)?;
     }
@@ -43,7 +45,7 @@ fn releases(alloc: Global, tags: &[Tag]) -> Result<Vec<Release>, Memory>
 {
     let mut made = Vec::with_capacity(alloc, tags.len())?;
     for tag in tags {
-        made.push(Release::of(alloc, tag)?)?;
+        made.push(Release::from_tag(alloc, tag)?)?;
     }
     Ok(made)
 }
@@ -51,11 +53,12 @@ fn releases(alloc: Global, tags: &[Tag]) -> Result<Vec<Release>, Memory>
 /// The releases that the tags are, each with the canonical octets of its tag.
 fn contents(alloc: Global, tags: &[Tag]) -> Result<Vec<Content>, Memory>
     requires depth { All (λ g. depth (tag_item g) ≤ 64) tags.now }
+    requires sizes { All SizesFit tags.now }
     ensures contents { IfOk result (λ made. map content_of made.items ≡ map content tags.now) }
 {
     let mut made = Vec::with_capacity(alloc, tags.len())?;
     for tag in tags {
-        made.push(Content::of(alloc, tag)?)?;
+        made.push(Content::from_tag(alloc, tag)?)?;
     }
     Ok(made)
 }

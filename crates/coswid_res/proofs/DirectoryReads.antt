@@ -2,11 +2,11 @@
 use Rattle.std.proofs.Common.{List, [], ◌∷◌, Option, Some, None}
 use Rattle.cbor_det.specs.Lookup.{value_under}
 use Rattle.cbor_det.specs.Term.{Term, Terms, Pairs, integer, octets, text, array, map, tagged, boolean, no_terms, term}
-use Rattle.coswid_res.specs.declared.directory.DirEntry.{DirEntry}
-use Rattle.coswid_res.specs.declared.directory.PathElements.{PathElements}
-use Rattle.coswid_res.specs.declared.directory.DirEntry.TheOpen.{DirEntry-F, PathElements-F}
-use Rattle.coswid_res.specs.declared.directory.DirEntry.TheViews as views
-use Rattle.coswid_res.specs.declared.directory.DirEntry.TheViews.{roll-DirEntry, roll-PathElements}
+use Rattle.coswid_res.specs.declared.resources.directory.DirEntry.{DirEntry}
+use Rattle.coswid_res.specs.declared.resources.directory.PathElements.{PathElements}
+use Rattle.coswid_res.specs.declared.resources.directory.DirEntry.TheOpen.{DirEntry-F, PathElements-F}
+use Rattle.coswid_res.specs.declared.resources.directory.DirEntry.TheViews as views
+use Rattle.coswid_res.specs.declared.resources.directory.DirEntry.TheViews.{roll-DirEntry, roll-PathElements}
 use Rattle.coswid_res.specs.Directories.{DirectoryKeys, PathKeys, DirectoryPairs, directory, PathUnder, no_path, path, PathPairs, path_elements, DirectoriesUnder, no_directories, alone, several, EachDirectory, no_more, one_more, DirectoryMap, PathMap}
 use Rattle.coswid_res.specs.Keys as keys
 use Rattle.coswid_res.specs.Keys.{number}

@@ -2,8 +2,8 @@
 use Rattle.std.proofs.Common.{◌≡◌, ℕ, List, [], ◌∷◌, map as map_list, Option, Some, None, refl, ap, ◌∙◌, rules}
 use Rattle.cbor_det.specs.Term.{Term, Pairs, text, map, boolean}
 use Rattle.cbor_det.specs.View.{pairs_view}
-use Rattle.coswid_res.specs.declared.directory.DirEntry.{DirEntry, out-DirEntry, the_lemmas}
-use Rattle.coswid_res.specs.declared.directory.PathElements.{PathElements, out-PathElements}
+use Rattle.coswid_res.specs.declared.resources.directory.DirEntry.{DirEntry, out-DirEntry, the_lemmas}
+use Rattle.coswid_res.specs.declared.resources.directory.PathElements.{PathElements, out-PathElements}
 use Rattle.coswid_res.specs.DirectoryItems.{directory_pairs, path_pairs, directory_item, path_item, directories_item}
 use Rattle.coswid_res.specs.Files.{files_item}
 use Rattle.coswid_res.specs.Items.{row_item, required_pair, optional_pair, optional_pair_at, put_all}

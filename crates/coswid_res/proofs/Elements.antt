@@ -29,13 +29,13 @@ each_more Is vs xs i v x lt at each is =
     ap (λ (ys : List Item). map view ys) (take_more xs i x lt ∙ ap (λ (y : Item). take i xs ++ y ∷ []) (sym at)) ∙ map-append view (take i xs) (x ∷ []) in
     subst P (sym e) (each_plus Is vs (map view (take i xs)) v (view x) each is)
 
--- the fault of an element, or of those behind it
+-- the fault of an element, or of those after it
 pub element_first : (form : Form) (xs : List Item) (i : ℕ) (x : Item) → i < length xs → x ≡ get_or xs i x
     → elements_fault form i (terms_of (map view (drop i xs))) ≡ or_else (under i (field_fault (one form) (view x))) (elements_fault form (i + 1) (terms_of (map view (drop (i + 1) xs))))
 element_first form xs i x lt at =
     ap (λ (ys : List Item). elements_fault form i (terms_of (map view ys))) (drop_more xs i x lt ∙ ap (λ (y : Item). y ∷ drop (i + 1) xs) (sym at))
 
--- what stands behind is told, where nothing is told first
+-- what stands after is reported, where nothing is reported first
 pub tells_later : (first later : Option FormFault) → first ≡ None → or_else first later ≡ later
 tells_later first later is = ap (λ (o : Option FormFault). or_else o later) is
 

@@ -5,13 +5,13 @@ use Rattle.std.specs.List.{filter}
 use Rattle.std.specs.Result.{IsErrAnd}
 use Rattle.std.proofs.lemmas.List.{append-nil, append_assoc, map-append}
 use Rattle.std.proofs.lemmas.List.Elements.{filter-append}
-use Rattle.coswid_res.specs.declared.file_check.VerifyRefused.{VerifyRefused}
-use Rattle.coswid_res.specs.declared.file_check.VerifyRefused.TheVariants as refused
-use Rattle.coswid_res.specs.declared.listing.ListedFile.{ListedFile}
-use Rattle.coswid_res.specs.declared.verdict.Verdict.{Verdict}
+use Rattle.coswid_res.specs.declared.verification.verify.VerifyRefused.{VerifyRefused}
+use Rattle.coswid_res.specs.declared.verification.verify.VerifyRefused.TheVariants as refused
+use Rattle.coswid_res.specs.declared.verification.listing.ListedFile.{ListedFile}
+use Rattle.coswid_res.specs.declared.verification.verdict.Verdict.{Verdict}
 use Rattle.coswid_res.specs.Verify.{Reads, answered, is_read, paths_read, read_for}
-use Rattle.wire_base.specs.declared.outside.passing.Stopped.{Stopped}
-use Rattle.wire_base.specs.declared.outside.passing.Stopped.TheVariants as stopped
+use Rattle.wire_base.specs.declared.outside.fill_and_write.Stopped.{Stopped}
+use Rattle.wire_base.specs.declared.outside.fill_and_write.Stopped.TheVariants as stopped
 use Rattle.wire_base.specs.NamedFile.{Read, with_reads}
 use Rattle.wire_base.specs.Passing.{is_fault}
 
@@ -60,7 +60,7 @@ module _ (files left fewer : List ListedFile) (file : ListedFile) (before now af
       ∙ ap (λ (ps : List (List ℕ)). gone ++ ps) (first_left file fewer ∙ ap (λ (ps : List (List ℕ)). ps ++ paths_read fewer) one ∙ append_assoc front behind (paths_read fewer))
       ∙ sym (append_assoc gone front (behind ++ paths_read fewer))
 
-  -- the reads behind those of the files that are gone
+  -- the reads after those of the files that are gone
   behind_gone : (gone : List (List ℕ)) (reads : List Read) → now ≡ with_reads (answered gone) before → after ≡ with_reads reads now → after ≡ with_reads (answered gone ++ reads) before
   behind_gone gone reads was more = more ∙ ap (λ (o : Option (List Read)). with_reads reads o) was ∙ with_more (answered gone) reads before
 

@@ -2,11 +2,11 @@
 use Rattle.std.proofs.Common.{◌≡◌, ◌<◌, ℕ, ℤ, List, [], ◌∷◌, ◌++◌, length, Option, Some, None, refl, sym, ap, subst, ◌∙◌, replicate, rules}
 use Rattle.std.proofs.lemmas.List.{append-nil, append_assoc, length-replicate}
 use Rattle.std.specs.Option.{IfSome}
-use Rattle.coswid_res.specs.declared.hash.HashEntry.{HashEntry}
-use Rattle.coswid_res.specs.declared.listing.ListedFile.{ListedFile}
-use Rattle.coswid_res.specs.declared.verdict.Algorithm.{Algorithm}
-use Rattle.coswid_res.specs.declared.verdict.Verdict.{Verdict}
-use Rattle.coswid_res.specs.declared.verdict.Verdict.TheVariants as verdict
+use Rattle.coswid_res.specs.declared.resources.hash.HashEntry.{HashEntry}
+use Rattle.coswid_res.specs.declared.verification.listing.ListedFile.{ListedFile}
+use Rattle.coswid_res.specs.declared.verification.verdict.Algorithm.{Algorithm}
+use Rattle.coswid_res.specs.declared.verification.verdict.Verdict.{Verdict}
+use Rattle.coswid_res.specs.declared.verification.verdict.Verdict.TheVariants as verdict
 use Rattle.coswid_res.specs.Verify.{FILE_OCTETS, IsLine, IsVerdict, IsVerdicts, algorithm_of, hashed_verdict, read_verdict, verdict_on, verdicts_of}
 use Rattle.wire_base.specs.declared.outside.files.NamedFile.{NamedFile}
 use Rattle.wire_base.specs.NamedFile.{content_of}
@@ -30,7 +30,7 @@ pub unknown : (told : Option (List NamedFile)) (file : ListedFile) (h : HashEntr
 unknown told file h number some same is = subst (λ (n : ℤ). algorithm_of n ≡ None → IsVerdict told file (verdict.UnknownAlgorithm n)) (sym same)
     (λ (none : algorithm_of h.algorithm ≡ None). unread told file (verdict.UnknownAlgorithm h.algorithm) (λ (held : Option (List ℕ)). hashed file h None held some none)) is
 
--- What is told of the name that was asked for is told of the path.
+-- What is reported of the name that was asked for is reported of the path.
 by_path : (told : Option (List NamedFile)) (file : ListedFile) (name : List ℕ) (P : Option (List ℕ) → Type 0) → name ≡ file.path → IfSome told (λ (all : List NamedFile). P (content_of all name)) → IfSome told (λ (all : List NamedFile). P (content_of all file.path))
 by_path told file name P same is = subst (λ (asked : List ℕ). IfSome told (λ (all : List NamedFile). P (content_of all asked))) same is
 
@@ -56,7 +56,7 @@ module _ (file : ListedFile) (h : HashEntry) (known : Algorithm) (number : ℤ) 
   on_long None tells = on_content None file h known number name some same is asked (verdict.LongFile len) (replicate len 0) (replicate len 0) refl (long known h.value file.size (replicate len 0) len more (length-replicate len 0)) (tt {0})
   on_long (Some all) tells = on_content (Some all) file h known number name some same is asked (verdict.LongFile len) tells.0 tells.0 refl (long known h.value file.size tells.0 len more tells.2) tells.1
 
--- A verdict more is put behind those that there are.
+-- A verdict more is put after those that there are.
 pub line_pushed : (told : Option (List NamedFile)) (files left fewer : List ListedFile) (file : ListedFile) (lines : List Line) (line : Line) → left ≡ file ∷ fewer → IsLine told file line
     → ((rest : List Line) → IsVerdicts told left rest → IsVerdicts told files (lines ++ rest)) → (rest : List Line) → IsVerdicts told fewer rest → IsVerdicts told files ((lines ++ line ∷ []) ++ rest)
 line_pushed told files left fewer file lines line is new all rest more =
@@ -68,7 +68,7 @@ pub line_last : (told : Option (List NamedFile)) (files left : List ListedFile) 
 line_last told files left lines is all =
     subst (λ (ls : List Line). IsVerdicts told files ls) (append-nil lines) (all [] (subst (λ (fs : List ListedFile). IsVerdicts told fs []) (sym is) (tt {0})))
 
--- Where all files are told, the verdicts are these.
+-- Where all files are exposed, the verdicts are these.
 pub told_verdicts : (all : List NamedFile) (files : List ListedFile) (lines : List Line) → IsVerdicts (Some all) files lines → lines ≡ verdicts_of all files
 told_verdicts all [] [] is = refl
 told_verdicts all [] (line ∷ lines) is = elim is [ ]

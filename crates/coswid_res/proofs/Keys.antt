@@ -1,4 +1,5 @@
--- Keys that are unsigned integers below 256 stand behind smaller ones alone, in the order of canonical spellings.
+-- Keys that are unsigned integers below 256 stand after smaller ones alone, in the order of
+-- canonical spellings.
 use Rattle.std.proofs.Common.{◌≡◌, ℕ, ◌+◌, ◌*◌, ◌%◌, ◌^◌, ◌<◌, ◌≤◌, List, [], ◌∷◌, pos, nat_lt, refl, sym, ap, ◌∙◌, arith}
 use Rattle.std.specs.Ordering.{nat_cmp, ordering_then}
 use Rattle.std.specs.declared.cmp.Ordering.{Ordering}

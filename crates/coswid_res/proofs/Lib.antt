@@ -7,6 +7,7 @@ pub mod MapRead
 pub mod DirectoryDepths
 pub mod DirectoryReads
 pub mod DirectoryWrites
+pub mod Sizes
 pub mod Listings
 pub mod FileVerdicts
 pub mod FileReads

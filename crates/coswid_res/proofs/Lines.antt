@@ -24,7 +24,7 @@ values_fault (line ∷ lines) ps = or_else (value_fault (key_of line) (field_of 
 none_first : (first later : Option FormFault) → first ≡ None → or_else first later ≡ later
 none_first first later is = ap (λ (o : Option FormFault). or_else o later) is
 
--- Where no key is missing, the lines tell the faults of their values.
+-- Where no key is missing, the lines report the faults of their values.
 filled : (lines : List Line) (ps : Pairs) → missing (required_keys lines) ps ≡ None → lines_fault lines ps ≡ values_fault lines ps
 filled [] ps none = refl
 filled (optional k field ∷ lines) ps none = ap (λ (rest : Option FormFault). or_else (value_fault k field (value_under k ps)) rest) (filled lines ps none)
@@ -141,7 +141,7 @@ adds (line ∷ lines) low n v ps up free = elim (cases_lt n (key_of line)) [
   ]
 ]
 
--- Behind a number stand no smaller ones.
+-- After a number stand no smaller ones.
 not_that : (n k : ℕ) (l : Term) → slice_cmp nat_cmp (canon (integer (pos n))) (canon l) ≡ Less → k ≤ n → k < 256 → is_unsigned k l ≡ false
 not_that n k (integer (pos m)) less le small =
     ne_eqb m k (λ e.

@@ -3,9 +3,9 @@ use Rattle.std.proofs.Common.{◌≡◌, ◌++◌, ℕ, List, [], ◌∷◌, map
 use Rattle.std.proofs.lemmas.List.{append_assoc}
 use Rattle.std.specs.List.{flat_map}
 use Rattle.std.specs.Option.{option_map, unwrap_or}
-use Rattle.coswid_res.specs.declared.directory.DirEntry.{DirEntry, out-DirEntry, the_lemmas}
-use Rattle.coswid_res.specs.declared.directory.PathElements.{PathElements, out-PathElements}
-use Rattle.coswid_res.specs.declared.listing.ListedFile.{ListedFile}
+use Rattle.coswid_res.specs.declared.resources.directory.DirEntry.{DirEntry, out-DirEntry, the_lemmas}
+use Rattle.coswid_res.specs.declared.resources.directory.PathElements.{PathElements, out-PathElements}
+use Rattle.coswid_res.specs.declared.verification.listing.ListedFile.{ListedFile}
 use Rattle.coswid_res.specs.Listing.{Listing, directory_listing, path_listing, directories_listing, directory_path, each_listing, files_listing}
 
 -- What is listed of each may be listed of the listings of all.
@@ -36,7 +36,7 @@ path_folded p around = search (rules, the_lemmas)
 pub path_listed : (p : PathElements) (around : List ℕ) → path_listing p around ≡ files_listing (out-PathElements p).file around ++ directories_listing (out-PathElements p).directory around
 path_listed p around = path_folded p around ∙ ap (λ (files : List ListedFile). files_listing (out-PathElements p).file around ++ files) (some_each (out-PathElements p).directory around)
 
--- What a directory holds is listed behind the files in it.
+-- What a directory holds is listed after the files in it.
 pub path_pushed : (p : PathElements) (around : List ℕ) (ds : List DirEntry) (before middle after : List ListedFile) → (out-PathElements p).directory ≡ Some ds
     → middle ≡ before ++ files_listing (out-PathElements p).file around → after ≡ middle ++ flat_map (λ (d : DirEntry). directory_listing d around) ds → after ≡ before ++ path_listing p around
 path_pushed p around ds before middle after some files directories =

@@ -1,4 +1,4 @@
--- The first fault of a map is told line by line of its table.
+-- The first fault of a map is reported line by line of its table.
 use Rattle.std.proofs.Common.{◌≡◌, ℕ, Bool, true, false, List, [], ◌∷◌, Option, Some, None, if◌then◌else◌, refl, sym, ap, ◌∙◌}
 use Rattle.std.proofs.lemmas.Option.{none-some}
 use Rattle.cbor_det.specs.Term.{Term, Pairs, map, no_pairs, pair}
@@ -18,7 +18,7 @@ pub key_found : (k : ℕ) (field : Field) (ps : Pairs) → key_fault k field ps 
 key_found k field no_pairs = refl
 key_found k field (pair key v ps) = found_or_not (is_unsigned k key) k field v ps (key_found k field ps)
 
--- What stands behind counts only where nothing is told first.
+-- What stands after counts only where nothing is reported first.
 pub behind : (first a b : Option FormFault) → (first ≡ None → a ≡ b) → or_else first a ≡ or_else first b
 behind None a b same = same refl
 behind (Some f) a b same = refl
@@ -30,7 +30,7 @@ or_none (Some f) b is = absurd (none-some f (sym is))
 two : (a b c d : Option FormFault) → a ≡ b → c ≡ d → or_else a c ≡ or_else b d
 two a b c d first later = ap (λ (o : Option FormFault). or_else o c) first ∙ ap (λ (o : Option FormFault). or_else b o) later
 
--- Where no key is missing, the lines tell the faults of their values.
+-- Where no key is missing, the lines report the faults of their values.
 filled : (lines : List Line) (ps : Pairs) → missing (required_keys lines) ps ≡ None → lines_first (λ k field. key_fault k field ps) lines ≡ lines_fault lines ps
 filled [] ps none = refl
 filled (optional k field ∷ lines) ps none =

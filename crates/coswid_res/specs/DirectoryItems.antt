@@ -2,9 +2,9 @@
 use Rattle.std.specs.Prelude.{List, [], ◌∷◌, map as map_list}
 use Rattle.cbor_det.specs.Term.{Term, Pairs, text, map, boolean}
 use Rattle.cbor_det.specs.View.{pairs_view}
-use Rattle.coswid_res.specs.declared.directory.DirEntry.{DirEntry, fold-DirEntry}
-use Rattle.coswid_res.specs.declared.directory.PathElements.{PathElements, fold-PathElements}
-use Rattle.coswid_res.specs.declared.directory.DirEntry.TheOpen as layer
+use Rattle.coswid_res.specs.declared.resources.directory.DirEntry.{DirEntry, fold-DirEntry}
+use Rattle.coswid_res.specs.declared.resources.directory.PathElements.{PathElements, fold-PathElements}
+use Rattle.coswid_res.specs.declared.resources.directory.DirEntry.TheOpen as layer
 use Rattle.coswid_res.specs.Files.{files_item}
 use Rattle.coswid_res.specs.Items.{row_item, required_pair, optional_pair, put_all}
 use Rattle.coswid_res.specs.Keys as keys

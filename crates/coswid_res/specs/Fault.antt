@@ -1,4 +1,5 @@
--- The first form fault of an item: what is missing or written in no form that its key has, and where (RFC 9393, section 2).
+-- The first form fault of an item: what is missing or written in no form that its key has, and
+-- where (RFC 9393, section 2).
 use Rattle.std.specs.Prelude.{ℕ, ◌+◌, ◌==◌, ℤ, pos, Bool, true, false, List, [], ◌∷◌, length, Option, Some, None, if◌then◌else◌}
 use Rattle.cbor_det.specs.Term.{Term, Terms, Pairs, integer, octets, text, array, map, tagged, boolean, no_terms, term, no_pairs, pair}
 use Rattle.cbor_det.specs.Lookup.{value_under, is_unsigned}
@@ -22,7 +23,7 @@ abbrev pub or_else : Option FormFault → Option FormFault → Option FormFault
 or_else None later = later
 or_else (Some f) later = Some f
 
--- what is told of a key that must be there
+-- the fault of a key that must be there and is not
 abbrev pub absent : ℕ → Option Term → Option FormFault
 absent k None = fault 1 (pos k ∷ [])
 absent k (Some t) = None
@@ -88,7 +89,7 @@ abbrev pub lines_first : (ℕ → Field → Option FormFault) → List Line → 
 lines_first first [] = None
 lines_first first (line ∷ lines) = or_else (first (key_of line) (field_of line)) (lines_first first lines)
 
--- a map, where this is the first fault under each key: a missing key is told before it
+-- a map, where this is the first fault under each key: a missing key comes before it
 abbrev pub map_fault : Form → Pairs → (ℕ → Field → Option FormFault) → Option FormFault
 map_fault anything ps first = None
 map_fault (a_map name) ps first = or_else (missing (required_keys (table name)) ps) (lines_first first (table name))

@@ -36,7 +36,8 @@ pub data Form : Type 0 where
   -- what stands under a key that is not listed
   anything : Form
 
--- What stands under a key: one value, or one or more as the standard writes them, an array or one value alone.
+-- What stands under a key: one value, or one or more as the standard writes them, an array or one
+-- value alone.
 pub data Field : Type 0 where
   one : Form → Field
   one_or_more : Form → Field

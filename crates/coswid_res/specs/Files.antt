@@ -1,8 +1,9 @@
--- The items that a file is read from, and the pairs that it is written as, key by key: RFC 9393, section 2.9.2.
+-- The items that a file is read from, and the pairs that it is written as, key by key: RFC 9393,
+-- section 2.9.2.
 use Rattle.std.specs.Prelude.{List, [], ◌∷◌, map as map_list}
 use Rattle.cbor_det.specs.Term.{Term, Pairs, text, map, boolean}
 use Rattle.cbor_det.specs.View.{pairs_view}
-use Rattle.coswid_res.specs.declared.file.FileEntry.{FileEntry}
+use Rattle.coswid_res.specs.declared.resources.file.FileEntry.{FileEntry}
 use Rattle.coswid_res.specs.Items.{unsigned_item, hash_item, row_item, required_pair, optional_pair, put_all}
 use Rattle.coswid_res.specs.Keys as keys
 use Rattle.coswid_res.specs.Schema as schema

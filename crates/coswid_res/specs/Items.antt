@@ -1,9 +1,10 @@
--- The one item that a value is written as, and the pairs that a map is written with, each put at its place in key order.
+-- The one item that a value is written as, and the pairs that a map is written with, each put at
+-- its place in key order.
 use Rattle.std.specs.Prelude.{ℕ, ℤ, pos, List, [], ◌∷◌, Option, Some, None}
 use Rattle.cbor_det.specs.Term.{Term, Pairs, integer, octets, text, array, tagged, no_terms, term}
 use Rattle.cbor_det.specs.Adding.{put}
 use Rattle.cbor_det.specs.View.{terms_of}
-use Rattle.coswid_res.specs.declared.hash.HashEntry.{HashEntry}
+use Rattle.coswid_res.specs.declared.resources.hash.HashEntry.{HashEntry}
 use Rattle.coswid_res.specs.Keys.{Key, number}
 
 abbrev pub unsigned_item : ℕ → Term

@@ -3,7 +3,8 @@ use Rattle.std.specs.Prelude.{ℕ}
 use Rattle.coswid_res.specs.Fields.{Field, one, one_or_more, a_text, a_boolean, an_integer, an_unsigned, an_identifier, a_code, a_uri, a_time, a_hash, a_map}
 use Rattle.coswid_res.specs.Fields as map
 
--- The keys, by name. Two have a longer name than in the standard: `resource_type` is `type`, and `link_use` is `use`.
+-- The keys, by name. Two have a longer name than in the standard: `resource_type` is `type`, and
+-- `link_use` is `use`.
 pub data Key : Type 0 where
   tag_id : Key
   software_name : Key
@@ -63,7 +64,8 @@ pub data Key : Type 0 where
   unspsc_code : Key
   unspsc_version : Key
 
--- The table of keys: the number of each, and what stands under it. A key has one row, also where it is a key of several maps.
+-- The table of keys: the number of each, and what stands under it. A key has one row, also where it
+-- is a key of several maps.
 abbrev pub row : Key → ℕ × Field
 row tag_id = (0, one an_identifier)
 row software_name = (1, one a_text)

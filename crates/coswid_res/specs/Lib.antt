@@ -2,10 +2,12 @@ pub mod Fields
 pub mod Keys
 pub mod Schema
 pub mod Fault
+pub mod FaultKinds
 pub mod Words
 pub mod Reading
 pub mod Items
 pub mod Files
+pub mod Sizes
 pub mod Resources
 pub mod ResourceItems
 pub mod Directories

@@ -1,13 +1,14 @@
--- The files of a payload with their paths: files before directories, depth first (RFC 9393, sections 2.9.2 and 2.9.3).
+-- The files of a payload with their paths: files before directories, depth first (RFC 9393,
+-- sections 2.9.2 and 2.9.3).
 use Rattle.std.specs.Prelude.{ℕ, List, [], ◌∷◌, ◌++◌, map as map_list, Option}
 use Rattle.std.specs.List.{flat_map}
 use Rattle.std.specs.Option.{option_map, unwrap_or}
-use Rattle.coswid_res.specs.declared.directory.DirEntry.{DirEntry, fold-DirEntry}
-use Rattle.coswid_res.specs.declared.directory.PathElements.{PathElements, fold-PathElements}
-use Rattle.coswid_res.specs.declared.directory.DirEntry.TheOpen as layer
-use Rattle.coswid_res.specs.declared.file.FileEntry.{FileEntry}
-use Rattle.coswid_res.specs.declared.listing.ListedFile.{ListedFile}
-use Rattle.coswid_res.specs.declared.payload.Payload.{Payload}
+use Rattle.coswid_res.specs.declared.resources.directory.DirEntry.{DirEntry, fold-DirEntry}
+use Rattle.coswid_res.specs.declared.resources.directory.PathElements.{PathElements, fold-PathElements}
+use Rattle.coswid_res.specs.declared.resources.directory.DirEntry.TheOpen as layer
+use Rattle.coswid_res.specs.declared.resources.file.FileEntry.{FileEntry}
+use Rattle.coswid_res.specs.declared.verification.listing.ListedFile.{ListedFile}
+use Rattle.coswid_res.specs.declared.resources.payload.Payload.{Payload}
 
 -- A path and what it leads on to, with '/' between; what is empty is left out.
 abbrev pub with_part : List ℕ → List ℕ → List ℕ

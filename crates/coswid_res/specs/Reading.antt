@@ -9,12 +9,13 @@ use Rattle.coswid_res.specs.declared.fault.FormRefused.TheVariants as refused
 use Rattle.coswid_res.specs.Schema.{Name, Field, Line, one, a_map, table, required, optional, required_keys}
 use Rattle.coswid_res.specs.Fault.{or_else, absent, missing, under, field_fault, pairs_fault}
 
--- A refusal tells this fault, unless memory ran out.
+-- A refusal carries this fault, unless memory ran out.
 abbrev pub Tells : Option FormFault → FormRefused → Type 0
 Tells first (refused.Form f) = first ≡ Some f
 Tells first refused.Memory = Unit {0}
 
--- Where there is no fault the value is as told; else the answer is the fault. Memory may run out.
+-- Where there is no fault the value is as `Is` says; else the answer is the fault. Memory may run
+-- out.
 abbrev pub Gives : {A : Type 0} → (A → Type 0) → Option FormFault → Result A FormRefused → Type 0
 Gives Is first (Ok v) = (first ≡ None) × Is v
 Gives Is first (Err e) = Tells first e
@@ -36,7 +37,8 @@ lines_fault (line ∷ lines) ps = or_else (line_fault line ps) (lines_fault line
 abbrev pub keys_fault : Name → Pairs → Option FormFault
 keys_fault name ps = or_else (missing (required_keys (table name)) ps) (lines_fault (table name) ps)
 
--- The first fault of a map, where its pairs stand in key order, is that of its missing keys, and then that of its pairs as they stand.
+-- The first fault of a map, where its pairs stand in key order, is that of its missing keys, and
+-- then that of its pairs as they stand.
 abbrev pub LineByLine : Type 0
 LineByLine =
     (name : Name) (ps : Pairs) → Rises ps

@@ -2,10 +2,10 @@
 use Rattle.std.specs.Prelude.{List, [], ◌∷◌, map as map_list}
 use Rattle.cbor_det.specs.Term.{Term, Pairs, integer, text, map}
 use Rattle.cbor_det.specs.View.{pairs_view}
-use Rattle.coswid_res.specs.declared.evidence.Evidence.{Evidence}
-use Rattle.coswid_res.specs.declared.payload.Payload.{Payload}
-use Rattle.coswid_res.specs.declared.process.ProcessEntry.{ProcessEntry}
-use Rattle.coswid_res.specs.declared.resource.ResourceEntry.{ResourceEntry}
+use Rattle.coswid_res.specs.declared.resources.evidence.Evidence.{Evidence}
+use Rattle.coswid_res.specs.declared.resources.payload.Payload.{Payload}
+use Rattle.coswid_res.specs.declared.resources.process.ProcessEntry.{ProcessEntry}
+use Rattle.coswid_res.specs.declared.resources.resource.ResourceEntry.{ResourceEntry}
 use Rattle.coswid_res.specs.DirectoryItems.{directories_item}
 use Rattle.coswid_res.specs.Files.{files_item}
 use Rattle.coswid_res.specs.Items.{time_item, row_item, required_pair, optional_pair, put_all}

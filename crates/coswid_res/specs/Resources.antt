@@ -1,9 +1,9 @@
 -- The items that payload and evidence are read from, key by key: RFC 9393, section 2.9.
 use Rattle.cbor_det.specs.Term.{Term, Pairs}
-use Rattle.coswid_res.specs.declared.evidence.Evidence.{Evidence}
-use Rattle.coswid_res.specs.declared.payload.Payload.{Payload}
-use Rattle.coswid_res.specs.declared.process.ProcessEntry.{ProcessEntry}
-use Rattle.coswid_res.specs.declared.resource.ResourceEntry.{ResourceEntry}
+use Rattle.coswid_res.specs.declared.resources.evidence.Evidence.{Evidence}
+use Rattle.coswid_res.specs.declared.resources.payload.Payload.{Payload}
+use Rattle.coswid_res.specs.declared.resources.process.ProcessEntry.{ProcessEntry}
+use Rattle.coswid_res.specs.declared.resources.resource.ResourceEntry.{ResourceEntry}
 use Rattle.coswid_res.specs.Directories.{DirectoryMap}
 use Rattle.coswid_res.specs.Files.{FileMap}
 use Rattle.coswid_res.specs.Keys as keys

@@ -1,4 +1,5 @@
--- The maps of a tag, as data: the keys of each, and which of them must be there: RFC 9393, section 2.
+-- The maps of a tag, as data: the keys of each, and which of them must be there: RFC 9393,
+-- section 2.
 use Rattle.std.specs.Prelude.{ℕ, List, [], ◌∷◌}
 use Rattle.coswid_res.specs.Keys as keys
 use Rattle.coswid_res.specs.Keys.{Key, number}

@@ -3,22 +3,23 @@ use Rattle.std.specs.Prelude.{◌≡◌, ◌==◌, ◌&&◌, ◌++◌, ℕ, ℤ,
 use Rattle.std.specs.List.{AllZip, filter}
 use Rattle.std.specs.Ordering.{int_eq}
 use Rattle.std.specs.Str.{bytes_eq}
-use Rattle.coswid_res.specs.declared.hash.HashEntry.{HashEntry}
-use Rattle.coswid_res.specs.declared.listing.ListedFile.{ListedFile}
-use Rattle.coswid_res.specs.declared.verdict.Algorithm.{Algorithm}
-use Rattle.coswid_res.specs.declared.verdict.Algorithm.TheVariants as algorithm
-use Rattle.coswid_res.specs.declared.verdict.Verdict.{Verdict}
-use Rattle.coswid_res.specs.declared.verdict.Verdict.TheVariants as verdict
-use Rattle.coswid_res.specs.declared.file_check.VerifyRefused.{VerifyRefused}
-use Rattle.coswid_res.specs.declared.file_check.VerifyRefused.TheVariants as refused
+use Rattle.coswid_res.specs.declared.resources.hash.HashEntry.{HashEntry}
+use Rattle.coswid_res.specs.declared.verification.listing.ListedFile.{ListedFile}
+use Rattle.coswid_res.specs.declared.verification.verdict.Algorithm.{Algorithm}
+use Rattle.coswid_res.specs.declared.verification.verdict.Algorithm.TheVariants as algorithm
+use Rattle.coswid_res.specs.declared.verification.verdict.Verdict.{Verdict}
+use Rattle.coswid_res.specs.declared.verification.verdict.Verdict.TheVariants as verdict
+use Rattle.coswid_res.specs.declared.verification.verify.VerifyRefused.{VerifyRefused}
+use Rattle.coswid_res.specs.declared.verification.verify.VerifyRefused.TheVariants as refused
 use Rattle.sha2.specs.Sha256.{sha256}
 use Rattle.sha2.specs.Sha512.{sha384, sha512}
 use Rattle.wire_base.specs.declared.outside.files.NamedFile.{NamedFile}
 use Rattle.wire_base.specs.NamedFile.{Read, content_of, with_reads}
-use Rattle.wire_base.specs.declared.outside.passing.Stopped.{Stopped}
-use Rattle.wire_base.specs.declared.outside.passing.Stopped.TheVariants as stopped
+use Rattle.wire_base.specs.declared.outside.fill_and_write.Stopped.{Stopped}
+use Rattle.wire_base.specs.declared.outside.fill_and_write.Stopped.TheVariants as stopped
 
--- The algorithms that are known, by their numbers in the Named Information Hash Algorithm Registry (RFC 6920, section 9.4).
+-- The algorithms that are known, by their numbers in the Named Information Hash Algorithm Registry
+-- (RFC 6920, section 9.4).
 abbrev pub algorithm_of : ℤ → Option Algorithm
 algorithm_of number =
     if int_eq number (pos 1) then Some algorithm.Sha256
@@ -40,7 +41,8 @@ is_size (Some size) len = size == len
 abbrev pub FILE_OCTETS : ℕ
 FILE_OCTETS = 67108864
 
--- The verdict where the algorithm is known, on what the file holds; on nothing, where there is no such file.
+-- The verdict where the algorithm is known, on what the file holds; on nothing, where there is no
+-- such file.
 abbrev pub read_verdict : Algorithm → List ℕ → Option ℕ → Option (List ℕ) → Verdict
 read_verdict known value size None = verdict.Missing
 read_verdict known value size (Some content) =
@@ -57,11 +59,12 @@ abbrev pub verdict_on : Option HashEntry → Option ℕ → Option (List ℕ) �
 verdict_on None size held = verdict.Unhashed
 verdict_on (Some h) size held = hashed_verdict h (algorithm_of h.algorithm) size held
 
--- The verdict where the contents of all files are told.
+-- The verdict where the contents of all files are exposed.
 abbrev pub verdict_of : List NamedFile → ListedFile → Verdict
 verdict_of all file = verdict_on file.hash file.size (content_of all file.path)
 
--- The verdict is that on what the file holds, and this is what is told of it, where files are told.
+-- The verdict is that on what the file holds, and this is what is known of it, where files are
+-- exposed.
 abbrev pub IsVerdict : Option (List NamedFile) → ListedFile → Verdict → Type 0
 IsVerdict told file v = (held : Option (List ℕ)) × (v ≡ verdict_on file.hash file.size held) × IfSome told (λ all. content_of all file.path ≡ held)
 
@@ -73,11 +76,11 @@ IsLine told file line = (line.0 ≡ file.path) × IsVerdict told file line.1
 abbrev pub IsVerdicts : Option (List NamedFile) → List ListedFile → List (List ℕ × Verdict) → Type 0
 IsVerdicts told = AllZip (IsLine told)
 
--- All verdicts where the contents of all files are told.
+-- All verdicts where the contents of all files are exposed.
 abbrev pub verdicts_of : List NamedFile → List ListedFile → List (List ℕ × Verdict)
 verdicts_of all = map_list (λ file. (file.path, verdict_of all file))
 
--- Where they are told, no other verdicts are verdicts on these files.
+-- Where they are exposed, no other verdicts are verdicts on these files.
 abbrev pub ToldVerdicts : Type 0
 ToldVerdicts = (all : List NamedFile) (files : List ListedFile) (lines : List (List ℕ × Verdict)) → IsVerdicts (Some all) files lines → lines ≡ verdicts_of all files
 
@@ -104,7 +107,8 @@ paths_read files = map_list (λ file. file.path) (filter (λ file. is_read file.
 abbrev pub answered : List (List ℕ) → List Read
 answered = map_list (λ path. (path, false))
 
--- The reads that were made of these paths: of each one, in order; up to the path of a fault, with it; up to some path where memory ran out.
+-- The reads that were made of these paths: of each one, in order; up to the path of a fault, with
+-- it; up to some path where memory ran out.
 abbrev pub AreReads : {A : Type 0} → List (List ℕ) → Result A VerifyRefused → List Read → Type 0
 AreReads paths (Ok value) reads = reads ≡ answered paths
 AreReads paths (Err (refused.FileFault path)) reads = (front behind : List (List ℕ)) × (paths ≡ front ++ path ∷ behind) × (reads ≡ answered front ++ (path, true) ∷ [])
@@ -114,7 +118,8 @@ AreReads paths (Err refused.Memory) reads = (front behind : List (List ℕ)) × 
 abbrev pub Reads : {A : Type 0} → List ListedFile → Result A VerifyRefused → Option (List Read) → Option (List Read) → Type 0
 Reads files result before after = (reads : List Read) × AreReads (paths_read files) result reads × (after ≡ with_reads reads before)
 
--- The read for the verdict on one file: none where that does not hang on what it holds, and none is told where memory ran out.
+-- The read for the verdict on one file: none where that does not hang on what it holds, and none is
+-- reported where memory ran out.
 abbrev pub read_for : ListedFile → Result Verdict Stopped → List Read
 read_for file (Ok value) = if is_read file.hash then (file.path, false) ∷ [] else []
 read_for file (Err stopped.Fault) = (file.path, true) ∷ []

@@ -1,10 +1,11 @@
--- The words of the tables, as relations between a value and an item, and between a value and the pairs of a map.
+-- The words of the tables, as relations between a value and an item, and between a value and the
+-- pairs of a map.
 use Rattle.std.specs.Prelude.{◌≡◌, ◌≢◌, ◌⊎◌, ℕ, ℤ, pos, Bool, List, [], ◌∷◌, Option, Some, None}
 use Rattle.cbor_det.specs.Term.{Term, Terms, Pairs, integer, octets, text, array, map, tagged, boolean, no_terms, term}
 use Rattle.cbor_det.specs.Lookup.{value_under, other_than}
 use Rattle.cbor_det.specs.View.{pairs_view}
 use Rattle.cbor_det.specs.declared.item.Pairs as code
-use Rattle.coswid_res.specs.declared.hash.HashEntry.{HashEntry}
+use Rattle.coswid_res.specs.declared.resources.hash.HashEntry.{HashEntry}
 use Rattle.coswid_res.specs.Keys.{Key, number}
 use Rattle.coswid_res.specs.Schema.{Name, table, keys_of}
 

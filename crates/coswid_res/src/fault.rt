@@ -2,32 +2,47 @@
 
 ghost use Rattle.std.specs.Prelude.{◌≡◌, ◌<◌, ◌^◌, ◌∷◌, pos, Option, Some, []};
 ghost use Rattle.coswid_res.specs.Fault.{fault, under};
+ghost use Rattle.coswid_res.specs.FaultKinds.{fault_kind};
 ghost use Rattle.coswid_res.specs.Reading.{Tells};
 ghost use Rattle.coswid_res.specs.declared.fault.FormFault.{FormFault as FaultValue};
 ghost use Rattle.coswid_res.specs.declared.fault.FormRefused.TheVariants as refused;
 
+use crate::fault_kind::FormFaultKind;
 use std::alloc::Global;
 use std::{error, fmt};
 use thiserror::Error;
 use wire_base::{List, Memory};
 
-/// The keys and indices that lead from the top of an item to a part of it. An index stands only where an array is written.
+/// The keys and indices that lead from the top of an item to a part of it. An index stands only
+/// where an array is written.
 pub type Path = List<i64>;
 
 /// A form fault: the first in the order in which they are looked for.
 #[derive(Debug, Drop)]
 pub struct FormFault {
-    /// Which fault it is, 1 to 4: a missing key, a wrong form, both payload and evidence, an item that is too deep.
+    /// Which fault it is, 1 to 4, as `FormFaultKind` numbers them; `what` gives its name.
     pub kind: u8,
-    /// Where it is: the path to the missing key, or to the value in a wrong form; empty for kinds 3 and 4.
+    /// Where it is: the path to the missing key, or to the value in a wrong form; empty for kinds 3
+    /// and 4.
     pub path: Path,
 }
 
-/// The kind, and the steps of the path with a stroke between them; a point where there are none.
+impl FormFault {
+    /// What the fault is; `None` where its number is not 1 to 4, which no reader gives.
+    pub fn what(&self) -> Option<FormFaultKind>
+        ensures kind { result ≡ fault_kind self.now.kind }
+    {
+        FormFaultKind::from_number(self.kind)
+    }
+}
+
+/// The name of the kind, and the steps of the path with `/` between them; `.` where there are none.
 impl fmt::Display for FormFault {
     fn fmt<W: fmt::Write>(&self, f: &mut fmt::Formatter<W>) -> fmt::Result {
-        let kind = self.kind;
-        write!(f, "a form fault of kind {kind} at ")?;
+        match self.what() {
+            Some(kind) => write!(f, "{kind} at ")?,
+            None => write!(f, "a form fault at ")?,
+        }
         match self.path.as_slice().split_first() {
             None => f.write_str("."),
             Some((first, others)) => {
@@ -38,7 +53,7 @@ impl fmt::Display for FormFault {
     }
 }
 
-/// Writes the steps behind the first.
+/// Writes the steps after the first.
 fn write_others<W: fmt::Write>(steps: &[i64], f: &mut fmt::Formatter<W>) -> fmt::Result {
     for step in steps {
         write!(f, "/{step}")?;
@@ -66,7 +81,7 @@ pub enum FormRefused {
     /// The item is not in the form.
     #[error("{0}")]
     Form(FormFault),
-    /// Want of memory.
+    /// Out of memory.
     #[error("out of memory")]
     Memory,
 }
@@ -88,7 +103,8 @@ impl FormRefused {
         FormRefused::Form(FormFault { kind, path })
     }
 
-    /// A fault of what stands at the key or index `place` of the item; `Memory` where the path has no room.
+    /// A fault of what stands at the key or index `place` of the item; `Memory` where the path has
+    /// no room.
     pub fn at(alloc: Global, kind: u8, place: u32) -> Self
         ensures told { Tells (fault kind (pos place ∷ [])) result }
     {
@@ -99,7 +115,8 @@ impl FormRefused {
         }
     }
 
-    /// The same of an item in which this one stands at the key or index `place`; `Memory` where the path has no room.
+    /// The same of an item in which this one stands at the key or index `place`; `Memory` where the
+    /// path has no room.
     pub fn under(self, place: u64) -> Self
         requires { place < 2 ^ 63 }
         ensures told { (first : Option FaultValue) → Tells first self → Tells (under place first) result }

@@ -1,6 +1,8 @@
 -- Values of the registries: RFC 9393, section 4.
 use Rattle.std.specs.Prelude.{ℕ, ◌==◌, ℤ, pos, negsuc, Bool, false, List, codes}
 use Rattle.std.specs.Str.{bytes_eq}
+use Rattle.coswid_tag.specs.declared.rel.Rel.{Rel}
+use Rattle.coswid_tag.specs.declared.rel.Rel.TheVariants as rel
 use Rattle.coswid_tag.specs.declared.value.CodeValue.{CodeValue}
 use Rattle.coswid_tag.specs.declared.value.CodeValue.TheVariants as code
 
@@ -20,9 +22,18 @@ is_named n name (code.Text s) = bytes_eq s name
 abbrev pub is_creator : CodeValue → Bool
 is_creator c = is_number 1 c
 
--- rel 7 and 11: section 4.4
+-- rel 7, 8 and 11: section 4.4
 abbrev pub patches : CodeValue → Bool
 patches c = is_named 7 (codes "patches") c
 
 abbrev pub supplements : CodeValue → Bool
 supplements c = is_named 11 (codes "supplemental") c
+
+abbrev pub requires_it : CodeValue → Bool
+requires_it c = is_named 8 (codes "requires") c
+
+-- The code is that of this relation.
+abbrev pub is_rel : Rel → CodeValue → Bool
+is_rel rel.Patches c = patches c
+is_rel rel.Requires c = requires_it c
+is_rel rel.Supplemental c = supplements c

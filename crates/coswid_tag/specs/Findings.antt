@@ -1,4 +1,5 @@
--- What is wrong with a tag by itself. The first five are the rules of RFC 9393, section 2.4 and 2.7; each has a number.
+-- What is wrong with a tag by itself. The first five are the rules of RFC 9393, section 2.4 and
+-- 2.7; each has a number.
 use Rattle.std.specs.Prelude.{ℕ, Bool, true, false, not, ◌&&◌, ◌||◌, List, [], ◌∷◌, ◌++◌, Option, Some, None, if◌then◌else◌}
 use Rattle.std.specs.List.{list_any}
 use Rattle.coswid_tag.specs.declared.entity.Entity.{Entity}

@@ -1,5 +1,5 @@
--- The software identifier that a tag tells: RFC 8412, section 3.4.1, of the tag-id and the reg-id of RFC 9393,
--- sections 2.3 and 2.6.
+-- The software identifier of a tag: RFC 8412, section 3.4.1, of the tag-id and the reg-id
+-- of RFC 9393, sections 2.3 and 2.6.
 use Rattle.std.specs.Prelude.{◌≡◌, ◌<◌, ◌≤◌, ℕ, List, [], ◌∷◌, ◌++◌, length, codes, Option, Some, None, Result, Ok, Err, if◌then◌else◌}
 use Rattle.uuid.specs.Text.{urn_text, lower}
 use Rattle.coswid_tag.specs.declared.entity.Entity.{Entity}
@@ -32,7 +32,8 @@ identifier_by g e = registered e.reg_id ++ codes "__" ++ tag_id_text g.tag_id
 abbrev pub identifier_of : Tag → Option (List ℕ)
 identifier_of g = elim (creator g.entity) as (λ _. Option (List ℕ)) [ None ↦ None | Some e ↦ Some (identifier_by g e) ]
 
--- What is answered of it: none; too long for the 65535 octets that a record holds; itself, unless memory ran out.
+-- What is answered of it: none; too long for the 65535 octets that a record holds; itself, unless
+-- memory ran out.
 abbrev pub Answers : Option (List ℕ) → Result (List ℕ) IdentRefused → Type 0
 Answers told (Ok text) = (told ≡ Some text) × (length text ≤ 65535)
 Answers told (Err refused.NoCreator) = told ≡ None

@@ -1,4 +1,5 @@
 pub mod Kind
 pub mod Codes
+pub mod FindingKinds
 pub mod Findings
 pub mod Identifier

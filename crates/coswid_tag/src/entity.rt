@@ -15,7 +15,8 @@ pub struct Entity {
     pub entity_name: Text,
     /// The URI of its registration.
     pub reg_id: Option<Text>,
-    /// Its roles, at least one: tag creator 1, software creator 2, aggregator 3, distributor 4, licensor 5, maintainer 6.
+    /// Its roles, at least one: tag creator 1, software creator 2, aggregator 3, distributor 4,
+    /// licensor 5, maintainer 6.
     pub role: CodeValues,
     /// The hash of a certificate that is its own.
     pub thumbprint: Option<HashEntry>,
@@ -25,12 +26,15 @@ pub struct Entity {
 
 impl TryCopy for Entity {
     fn copy(&self) -> Result<Self, Memory> {
-        Ok(Entity {
+        let mut made = Entity {
             entity_name: self.entity_name.copy()?,
-            reg_id: copy_option(&self.reg_id)?,
+            reg_id: None,
             role: self.role.copy()?,
-            thumbprint: copy_option(&self.thumbprint)?,
+            thumbprint: None,
             extras: self.extras.copy()?,
-        })
+        };
+        made.reg_id = copy_option(&self.reg_id)?;
+        made.thumbprint = copy_option(&self.thumbprint)?;
+        Ok(made)
     }
 }

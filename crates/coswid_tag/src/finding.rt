@@ -2,18 +2,18 @@
 
 ghost use Rattle.std.specs.Prelude.{◌≡◌, ◌++◌, IfOk, OnOk};
 ghost use Rattle.std.specs.List.{list_any};
-ghost use Rattle.coswid_tag.specs.Codes.{is_named, is_number};
+ghost use Rattle.coswid_tag.specs.Codes.{is_rel};
 ghost use Rattle.coswid_tag.specs.Findings.{findings, finding, created, all_of};
 
 use crate::entity::Entity;
 use crate::link::{LinkEntries, LinkEntry};
-use crate::sort::is_true;
+use crate::rel::{Rel, is_number};
 use crate::tag::Tag;
-use crate::value::CodeValue;
+use crate::tag_kind::is_true;
 use std::alloc::Global;
 use wire_base::{List, Memory};
 
-/// Numbers of findings, 1 to 6, in order, by the table of `docs/tags.md`.
+/// Numbers of findings, 1 to 6, in order, by the table of `docs/rules/tags.md`.
 pub type Findings = List<u8>;
 
 /// All that is wrong with the tag by itself, in order; `Memory` where there is no room.
@@ -32,11 +32,11 @@ pub fn constraints(alloc: Global, tag: &Tag) -> Result<Findings, Memory>
         !(corpus || patch || supplemental) && !versioned,
     )?;
     note(&mut found, 3, corpus && !versioned)?;
-    note(&mut found, 4, patch && !any_link(&tag.link, 7, "patches"))?;
+    note(&mut found, 4, patch && !any_link(&tag.link, Rel::Patches))?;
     note(
         &mut found,
         5,
-        supplemental && !any_link(&tag.link, 11, "supplemental"),
+        supplemental && !any_link(&tag.link, Rel::Supplemental),
     )?;
     note(&mut found, 6, !has_creator(tag.entity.as_slice()))?;
     Ok(found)
@@ -44,7 +44,7 @@ pub fn constraints(alloc: Global, tag: &Tag) -> Result<Findings, Memory>
 
 /// Notes the finding where it shows.
 fn note(found: &mut Findings, number: u8, shows: bool) -> Result<(), Memory>
-    ensures noted { OnOk result (found.new ≡ found.old ++ finding number shows) }
+    ensures appended { OnOk result (found.new ≡ found.old ++ finding number shows) }
 {
     if shows {
         found.push(number)?;
@@ -52,45 +52,25 @@ fn note(found: &mut Findings, number: u8, shows: bool) -> Result<(), Memory>
     Ok(())
 }
 
-/// Whether a link's rel is this number, or the text that names it.
-fn any_link(links: &Option<LinkEntries>, number: u64, name: &str) -> bool
-    ensures any { result ≡ list_any (λ l. is_named number name.now l.rel) (all_of links.now) }
+/// Whether a link is of this relation.
+fn any_link(links: &Option<LinkEntries>, rel: Rel) -> bool
+    ensures any { result ≡ list_any (λ l. is_rel rel l.rel) (all_of links.now) }
 {
     match links {
         None => false,
-        Some(links) => has_rel(links.as_slice(), number, name),
+        Some(links) => has_rel(links.as_slice(), rel),
     }
 }
 
-fn has_rel(links: &[LinkEntry], number: u64, name: &str) -> bool
-    ensures any { result ≡ list_any (λ l. is_named number name.now l.rel) links.now }
+fn has_rel(links: &[LinkEntry], rel: Rel) -> bool
+    ensures any { result ≡ list_any (λ l. is_rel rel l.rel) links.now }
 {
     for link in links {
-        if is_named(&link.rel, number, name) {
+        if rel.is(&link.rel) {
             return true;
         }
     }
     false
-}
-
-/// Whether the code is this number of its registry, or the text that names it there (RFC 9393, section 4).
-pub fn is_named(code: &CodeValue, number: u64, name: &str) -> bool
-    ensures named { result ≡ is_named number name.now code.now }
-{
-    match code {
-        CodeValue::Int(_) => is_number(code, number),
-        CodeValue::Text(text) => text.as_str() == name,
-    }
-}
-
-/// Whether the code is this number.
-fn is_number(code: &CodeValue, number: u64) -> bool
-    ensures number { result ≡ is_number number code.now }
-{
-    match code {
-        CodeValue::Int(found) => *found >= 0 && *found as u64 == number,
-        CodeValue::Text(_) => false,
-    }
 }
 
 /// Whether an entity created the tag.

@@ -1,4 +1,4 @@
-//! The software identifier that a tag tells.
+//! The software identifier of a tag.
 
 ghost use Rattle.std.specs.Prelude.{◌≡◌, ◌++◌, OnOk, IfOk};
 ghost use Rattle.std.specs.Option.{option_copied};
@@ -14,7 +14,7 @@ use thiserror::Error;
 use uuid::Uuid;
 use wire_base::{List, Memory, Octets, Text};
 
-/// Why a tag tells no software identifier.
+/// Why a tag has no software identifier.
 #[derive(Clone, Copy, Debug, PartialEq, Eq, Error)]
 pub enum IdentRefused {
     /// No entity created the tag.
@@ -26,7 +26,7 @@ pub enum IdentRefused {
         /// Its length in octets, more than 65535.
         len: u64,
     },
-    /// Want of memory.
+    /// Out of memory.
     #[error("out of memory")]
     Memory,
 }
@@ -45,9 +45,10 @@ const MOST_OCTETS: usize = 65535;
 /// Who registered, where that is not said.
 const UNREGISTERED: &str = "invalid.unavailable";
 
-/// The software identifier that the tag tells: the registration of the first entity that created the tag, two underscores,
-/// and the tag's identifier. `NoCreator` exactly where no entity created it, `TooLong` exactly where the text has more than
-/// 65535 octets, `Memory` where there is no room.
+/// The software identifier of the tag: the registration of the first entity that created
+/// the tag, two underscores, and the tag's identifier. `NoCreator` exactly where no entity created
+/// it, `TooLong` exactly where the text has more than 65535 octets, `Memory` where there is no
+/// room.
 pub fn software_identifier(alloc: Global, tag: &Tag) -> Result<Octets, IdentRefused>
     ensures identifier { Answers (identifier_of tag.now) result }
 {
@@ -88,7 +89,7 @@ fn identifier_by(alloc: Global, tag: &Tag, entity: &Entity) -> Result<Octets, Me
 }
 
 fn put_registered(out: &mut Octets, reg_id: &Option<Text>) -> Result<(), Memory>
-    ensures puts { OnOk result (out.new ≡ out.old ++ registered reg_id.now) }
+    ensures appended { OnOk result (out.new ≡ out.old ++ registered reg_id.now) }
 {
     match reg_id {
         None => out.extend(UNREGISTERED.as_bytes()),
@@ -97,7 +98,7 @@ fn put_registered(out: &mut Octets, reg_id: &Option<Text>) -> Result<(), Memory>
 }
 
 fn put_tag_id(out: &mut Octets, tag_id: &TagId) -> Result<(), Memory>
-    ensures puts { OnOk result (out.new ≡ out.old ++ tag_id_text tag_id.now) }
+    ensures appended { OnOk result (out.new ≡ out.old ++ tag_id_text tag_id.now) }
 {
     match tag_id {
         TagId::Text(text) => out.extend(text.as_str().as_bytes()),

@@ -19,8 +19,8 @@ pub struct LinkEntry {
     pub href: Text,
     /// How strong the two own one another: abandon 1, private 2, shared 3.
     pub ownership: Option<CodeValue>,
-    /// How the two are related: ancestor 1, component 2, feature 3, installation media 4, package installer 5, parent 6,
-    /// patches 7, requires 8, see also 9, supersedes 10, supplemental 11.
+    /// How the two are related: ancestor 1, component 2, feature 3, installation media 4, package
+    /// installer 5, parent 6, patches 7, requires 8, see also 9, supersedes 10, supplemental 11.
     pub rel: CodeValue,
     /// The media type of what it leads to.
     pub media_type: Option<Text>,
@@ -32,15 +32,21 @@ pub struct LinkEntry {
 
 impl TryCopy for LinkEntry {
     fn copy(&self) -> Result<Self, Memory> {
-        Ok(LinkEntry {
-            media: copy_option(&self.media)?,
-            artifact: copy_option(&self.artifact)?,
+        let mut made = LinkEntry {
+            media: None,
+            artifact: None,
             href: self.href.copy()?,
-            ownership: copy_option(&self.ownership)?,
+            ownership: None,
             rel: self.rel.copy()?,
-            media_type: copy_option(&self.media_type)?,
-            link_use: copy_option(&self.link_use)?,
+            media_type: None,
+            link_use: None,
             extras: self.extras.copy()?,
-        })
+        };
+        made.media = copy_option(&self.media)?;
+        made.artifact = copy_option(&self.artifact)?;
+        made.ownership = copy_option(&self.ownership)?;
+        made.media_type = copy_option(&self.media_type)?;
+        made.link_use = copy_option(&self.link_use)?;
+        Ok(made)
     }
 }

@@ -8,7 +8,8 @@ use wire_base::{List, Memory, Text, TryCopy};
 /// Descriptions in order.
 pub type SoftwareMetas = List<SoftwareMeta>;
 
-/// A description of the software: an entry of software-meta (RFC 9393, section 2.8). A long text in it has the name description too.
+/// A description of the software: an entry of software-meta (RFC 9393, section 2.8). A long text in
+/// it has the name description too.
 #[derive(Debug, Drop)]
 pub struct SoftwareMeta {
     /// Whether it is licensed, on trial and the like.
@@ -47,23 +48,38 @@ pub struct SoftwareMeta {
 
 impl TryCopy for SoftwareMeta {
     fn copy(&self) -> Result<Self, Memory> {
-        Ok(SoftwareMeta {
-            activation_status: copy_option(&self.activation_status)?,
-            channel_type: copy_option(&self.channel_type)?,
-            colloquial_version: copy_option(&self.colloquial_version)?,
-            description: copy_option(&self.description)?,
-            edition: copy_option(&self.edition)?,
+        let mut made = SoftwareMeta {
+            activation_status: None,
+            channel_type: None,
+            colloquial_version: None,
+            description: None,
+            edition: None,
             entitlement_data_required: self.entitlement_data_required,
-            entitlement_key: copy_option(&self.entitlement_key)?,
-            generator: copy_option(&self.generator)?,
-            persistent_id: copy_option(&self.persistent_id)?,
-            product: copy_option(&self.product)?,
-            product_family: copy_option(&self.product_family)?,
-            revision: copy_option(&self.revision)?,
-            summary: copy_option(&self.summary)?,
-            unspsc_code: copy_option(&self.unspsc_code)?,
-            unspsc_version: copy_option(&self.unspsc_version)?,
+            entitlement_key: None,
+            generator: None,
+            persistent_id: None,
+            product: None,
+            product_family: None,
+            revision: None,
+            summary: None,
+            unspsc_code: None,
+            unspsc_version: None,
             extras: self.extras.copy()?,
-        })
+        };
+        made.activation_status = copy_option(&self.activation_status)?;
+        made.channel_type = copy_option(&self.channel_type)?;
+        made.colloquial_version = copy_option(&self.colloquial_version)?;
+        made.description = copy_option(&self.description)?;
+        made.edition = copy_option(&self.edition)?;
+        made.entitlement_key = copy_option(&self.entitlement_key)?;
+        made.generator = copy_option(&self.generator)?;
+        made.persistent_id = copy_option(&self.persistent_id)?;
+        made.product = copy_option(&self.product)?;
+        made.product_family = copy_option(&self.product_family)?;
+        made.revision = copy_option(&self.revision)?;
+        made.summary = copy_option(&self.summary)?;
+        made.unspsc_code = copy_option(&self.unspsc_code)?;
+        made.unspsc_version = copy_option(&self.unspsc_version)?;
+        Ok(made)
     }
 }

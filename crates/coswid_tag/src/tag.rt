@@ -37,8 +37,8 @@ pub struct Tag {
     pub tag_version: i64,
     /// The software's version.
     pub software_version: Option<Text>,
-    /// How the version is built: multipart numeric 1, multipart numeric with suffix 2, alphanumeric 3, decimal 4, semantic
-    /// version 16384.
+    /// How the version is built: multipart numeric 1, multipart numeric with suffix 2, alphanumeric
+    /// 3, decimal 4, semantic version 16384.
     pub version_scheme: Option<CodeValue>,
     /// The language of its texts.
     pub lang: Option<Text>,
@@ -48,23 +48,32 @@ pub struct Tag {
 
 impl TryCopy for Tag {
     fn copy(&self) -> Result<Self, Memory> {
-        Ok(Tag {
+        let mut made = Tag {
             tag_id: self.tag_id.copy()?,
             software_name: self.software_name.copy()?,
             entity: self.entity.copy()?,
-            evidence: copy_option(&self.evidence)?,
-            link: copy_option(&self.link)?,
-            software_meta: copy_option(&self.software_meta)?,
-            payload: copy_option(&self.payload)?,
+            evidence: None,
+            link: None,
+            software_meta: None,
+            payload: None,
             corpus: self.corpus,
             patch: self.patch,
-            media: copy_option(&self.media)?,
+            media: None,
             supplemental: self.supplemental,
             tag_version: self.tag_version,
-            software_version: copy_option(&self.software_version)?,
-            version_scheme: copy_option(&self.version_scheme)?,
-            lang: copy_option(&self.lang)?,
+            software_version: None,
+            version_scheme: None,
+            lang: None,
             extras: self.extras.copy()?,
-        })
+        };
+        made.evidence = copy_option(&self.evidence)?;
+        made.link = copy_option(&self.link)?;
+        made.software_meta = copy_option(&self.software_meta)?;
+        made.payload = copy_option(&self.payload)?;
+        made.media = copy_option(&self.media)?;
+        made.software_version = copy_option(&self.software_version)?;
+        made.version_scheme = copy_option(&self.version_scheme)?;
+        made.lang = copy_option(&self.lang)?;
+        Ok(made)
     }
 }

@@ -2,7 +2,8 @@
 
 use wire_base::{List, Memory, Text, TryCopy};
 
-/// What identifies a tag, and what generated one: a text, or a UUID (RFC 9393, section 2.3, tag-id).
+/// What identifies a tag, and what generated one: a text, or a UUID (RFC 9393, section 2.3,
+/// tag-id).
 #[derive(Debug, Drop)]
 pub enum TagId {
     /// A text.
@@ -20,7 +21,8 @@ impl TryCopy for TagId {
     }
 }
 
-/// A value of one of the registries (RFC 9393, section 4), any other number, or a text of the tag's own.
+/// A value of one of the registries (RFC 9393, section 4), any other number, or a text of the tag's
+/// own.
 #[derive(Debug, Drop)]
 pub enum CodeValue {
     /// A number, -2^63 to 2^63 - 1.

@@ -44,7 +44,7 @@ from_from a b (x ∷ xs) =
 
 -- ---- events
 
--- The log's events behind one more.
+-- The log's events after one more.
 pub pushed_events : (a b : ℕ) (xs : List Event) (e : Event) → b ≤ e.eid → events_from a (events_from b xs ++ e ∷ []) ≡ events_from (max b a) (xs ++ e ∷ [])
 pushed_events a b xs e le =
     let one : events_from b (e ∷ []) ≡ e ∷ [] = cond-true (leb b e.eid) (e ∷ []) [] (le-leb b e.eid le) in

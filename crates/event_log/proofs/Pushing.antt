@@ -24,7 +24,7 @@ drop_none : (k : ℕ) → [] ≡ drop {A = Event} k []
 drop_none zero = refl
 drop_none (suc k) = refl
 
--- Those from an event identifier on are those behind so many.
+-- Those from an event identifier on are those after that many.
 pub from_is_drop : (first n : ℕ) (xs : List Event) → AreNumberedFrom n xs → events_from first xs ≡ drop (first - n) xs
 from_is_drop first n [] h = drop_none (first - n)
 from_is_drop first n (x ∷ xs) h = elim (cases_lt n first) [

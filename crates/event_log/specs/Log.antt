@@ -1,10 +1,12 @@
--- A log of the latest events of an epoch, which forgets: it keeps so many at most, and none below a trim.
+-- A log of the latest events of an epoch, which forgets: it keeps that many at most, and none below
+-- a trim.
 use Rattle.std.specs.Prelude.{◌≡◌, ◌<◌, ◌≤◌, ◌+◌, ◌-◌, ◌^◌, ℕ, List, [], ◌∷◌, ◌++◌, Option, None, length, filter, max, nat_le, slice_get, if◌then◌else◌}
 use Rattle.swima_model.specs.declared.event.Event.{Event}
 use Rattle.swima_model.specs.History.{AreNumberedFrom}
 
--- A log: how many events it keeps at most, the event identifier of the first that it keeps, that of the last that was
--- pushed, and the events from the first to the last. Where it keeps none, the first is 1 above the last.
+-- A log: how many events it keeps at most, the event identifier of the first that it keeps, that of
+-- the last that was pushed, and the events from the first to the last. Where it keeps none, the
+-- first is 1 above the last.
 pub record Log : Type 0 where
   pub cap : ℕ
   pub first : ℕ
@@ -35,7 +37,8 @@ pushed log event = kept_from (event.eid + 1 - log.cap) (record log { last = even
 abbrev pub event_at : Log → ℕ → Option Event
 event_at log eid = if nat_le log.first eid then slice_get log.events (eid - log.first) else None
 
--- What is true of each log: its events are numbered from the first to the last, one by one, and are no more than it keeps.
+-- What is true of each log: its events are numbered from the first to the last, one by one, and are
+-- no more than it keeps.
 pub record IsLog (log : Log) : Type 0 where
   pub caps : (1 ≤ log.cap) × (log.cap ≤ 4096)
   pub begins : 1 ≤ log.first

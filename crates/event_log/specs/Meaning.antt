@@ -4,7 +4,8 @@ use Rattle.swima_model.specs.declared.event.Event.{Event}
 use Rattle.swima_model.specs.History.{AreNumberedFrom}
 use Rattle.event_log.specs.Log.{Log, empty_log, events_from, kept_from, pushed}
 
--- The first event identifier that is kept of so many events: not below the greatest trim, nor before the latest so many.
+-- The first event identifier that is kept of that many events: not below the greatest trim, nor
+-- before the latest that many.
 abbrev pub first_of : ℕ → ℕ → ℕ → ℕ
 first_of cap trim count = max trim (count + 1 - cap)
 

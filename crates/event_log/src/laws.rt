@@ -7,13 +7,14 @@ pub fn new_keeps_all()
     ensures law { NewKeepsAll }
 {}
 
-/// A log with one event more keeps of all events those from the first that is kept on: not below the greatest trim, nor before
-/// the latest `cap`.
+/// A log with one event more keeps of all events those from the first that is kept on: not below
+/// the greatest trim, nor before the latest `cap`.
 pub fn push_keeps()
     ensures law { PushKeeps }
 {}
 
-/// A trimmed log keeps of all events those from the first that is kept on, where its greatest trim is the greater of both.
+/// A trimmed log keeps of all events those from the first that is kept on, where its greatest trim
+/// is the greater of both.
 pub fn trim_keeps()
     ensures law { TrimKeeps }
 {}

@@ -1,14 +1,19 @@
-//! The latest events of an epoch, which a collector keeps to tell what changed (RFC 8412, section 3.7).
+//! The latest events of an epoch, which a collector keeps to report what changed (RFC 8412,
+//! section 3.7).
 //!
-//! It stands on `swima_model` and `wire_base`. The crates above rest on `pushed`, `trimmed` and `cleared`: what the log
-//! keeps behind each change, in the words of `specs/Log.antt`; and on `event` of `EventLog::get`. The functions of `laws` say
-//! what a log keeps in all.
+//! It stands on `swima_model` and `wire_base`. The crates above rest on:
+//!
+//! - `pushed`, `trimmed` and `cleared`: what the log keeps after each change, in the words of
+//!   `specs/Log.antt`.
+//! - `event` of `EventLog::get`: the event of an event identifier, where the log keeps it.
+//!
+//! | file | what it holds |
+//! |---|---|
+//! | `log.rt` | the log and its calls |
+//! | `laws.rt` | what a log keeps of all events of its epoch, as `specs/Meaning.antt` says |
 #![tactic(auto)]
 
 pub mod laws;
 mod log;
 
 pub use log::EventLog;
-
-#[cfg(test)]
-mod tests;

@@ -44,7 +44,8 @@ impl EventLog {
         })
     }
 
-    /// Puts the next event at the end, and gives back the oldest event where the log was full. It takes no memory.
+    /// Puts the next event at the end, and gives back the oldest event where the log was full. It
+    /// takes no memory.
     pub fn push(&mut self, event: Event) -> Option<Event>
         requires next { event.eid ≡ self.old.last + 1 }
         ensures pushed { self.new ≡ pushed self.old event }
@@ -56,7 +57,8 @@ impl EventLog {
         oldest
     }
 
-    /// The event identifier of the first event that is kept; 1 above the last where none is. It takes no memory.
+    /// The event identifier of the first event that is kept; 1 above the last where none is. It
+    /// takes no memory.
     pub fn first(&self) -> u32
         ensures first { result ≡ self.now.first }
         ensures log { IsLog self.now }
@@ -64,7 +66,8 @@ impl EventLog {
         self.last - self.events.len() as u32 + 1
     }
 
-    /// The event identifier of the last event that was pushed; 0 where there was none. It takes no memory.
+    /// The event identifier of the last event that was pushed; 0 where there was none. It takes no
+    /// memory.
     pub fn last(&self) -> u32
         ensures last { result ≡ self.now.last }
         ensures log { IsLog self.now }
@@ -72,7 +75,8 @@ impl EventLog {
         self.last
     }
 
-    /// The event of this event identifier; `None` exactly outside the first to the last. It takes no memory.
+    /// The event of this event identifier; `None` exactly outside the first to the last. It takes
+    /// no memory.
     pub fn get(&self, eid: u32) -> Option<&Event>
         ensures event { option_copied result ≡ event_at self.now eid }
         ensures some { IsSome result ↔ (self.now.first ≤ eid) × (eid ≤ self.now.last) }
@@ -121,7 +125,7 @@ fn put_last(events: &mut Vec<Event>, event: Event)
     events.push(event).unwrap();
 }
 
-/// Drops so many events from the front, all at once.
+/// Drops that many events from the start, all at once.
 fn drop_front(events: &mut Vec<Event>, count: usize)
     requires within { count ≤ vec_len events.old }
     ensures rest { events.new.items ≡ drop count events.old.items }

@@ -15,7 +15,7 @@ use Rattle.pa_attrs.specs.AttrForm.{AttrForm, IsNamed, attr_fields, header_field
 use Rattle.pa_attrs.specs.Header.{attr_of, header_of}
 use Rattle.pa_attrs.specs.Faults.{row, first_shown, header_rows, unless, stream_header}
 use Rattle.pa_attrs.specs.Laws.{IsFirst, WholeIsAttribute, FrontStays, NoneIsFront, WrittenIsFirst}
-use Rattle.pa_attrs.specs.Stream.{Whole, front_of}
+use Rattle.pa_attrs.specs.Stream.{Front, Whole, front_of}
 use Rattle.pa_attrs.proofs.Fronts.{front_whole, whole_is, whole_more, bad_more}
 use Rattle.pa_attrs.proofs.HeaderForm.{header_form, header_length, header_says}
 use Rattle.pa_attrs.proofs.Headers.{IsGood, stream_good}
@@ -44,7 +44,7 @@ pub attr_length : (attr : Attr) (octets : List ℕ) → IsAttr attr octets → l
 attr_length attr octets is =
     omega (arith, ap (λ (o : List ℕ). length o) is.parts, length-append is.header attr.value, header_length (header_for attr) is.header is.form)
 
--- The header is said first, and the value stands behind it.
+-- The header is said first, and the value stands after it.
 pub attr_says : (attr : Attr) (octets rest : List ℕ) → IsAttr attr octets → header_of (octets ++ rest) ≡ header_for attr
 attr_says attr octets rest is =
     let joined : octets ++ rest ≡ is.header ++ (attr.value ++ rest) = ap (λ (o : List ℕ). o ++ rest) is.parts ∙ append_assoc is.header attr.value rest in
@@ -159,11 +159,11 @@ pub none_is_front : NoneIsFront
 none_is_front attr other octets rest is is-other =
     let one : front_of (octets ++ rest) ≡ Whole attr (length octets) = first_whole attr octets rest is in
     let two : front_of (octets ++ rest) ≡ Whole other (length (octets ++ rest)) = ap front_of (sym (append-nil (octets ++ rest))) ∙ first_whole other (octets ++ rest) [] is-other in
-    let lengths = lengths_of attr other (length octets) (length (octets ++ rest)) (sym one ∙ two) in
+    let lengths = lengths_of (front_of (octets ++ rest)) attr other (length octets) (length (octets ++ rest)) one two in
     nil_from_length rest (omega (arith, lengths, length-append octets rest))
   where
-    lengths_of : (a b : Attr) (m n : ℕ) → Whole a m ≡ Whole b n → m ≡ n
-    lengths_of a b m n e = cc
+    lengths_of : (front : Front) (a b : Attr) (m n : ℕ) → front ≡ Whole a m → front ≡ Whole b n → m ≡ n
+    lengths_of front a b m n one two = cc
 
 -- ---- what is written
 

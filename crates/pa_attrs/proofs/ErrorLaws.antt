@@ -33,7 +33,7 @@ written_error_is_read base error vendor code = whole_back error_exact base (writ
 
 -- ---- a value that is no Error
 
--- What comes behind the vendor and the code, behind the vendor, and behind the reserved octet.
+-- What comes after the vendor and the code, after the vendor, and after the reserved octet.
 abbrev behind_code : ℕ → ℕ → Reader PaError
 behind_code vendor code = remaining >>= λ info. at_end (record { vendor = vendor; code = code; info = info })
 
@@ -67,7 +67,7 @@ reads_code : (base : ℕ) (all : List ℕ) → 8 ≤ length all
     → read_error (left base all) ≡ behind_code (number_of (take 3 (drop 1 all))) (number_of (take 4 (drop 4 all))) (left (base + 1 + 3 + 4) (drop 8 all))
 reads_code base all long = reads_vendor base all (omega (arith, long)) ∙ next_there (behind_code (number_of (take 3 (drop 1 all)))) 4 4 (base + 1 + 3) all long
 
--- All that is left behind the code is information.
+-- All that is left after the code is information.
 reads_info : (vendor code at : ℕ) (all : List ℕ) (place : ℕ) → value_alone (behind_code vendor code (left at all)) ≡ Err place → ⊥
 reads_info vendor code at all place e =
     let ended : List ℕ → Reader PaError = λ info. at_end (record { vendor = vendor; code = code; info = info }) in
@@ -94,7 +94,7 @@ torn_code base all long short =
     let place : base + 1 + 3 ≡ base + 4 = omega arith in
     ap value_alone (reads_vendor base all long ∙ next_short (behind_code (number_of (take 3 (drop 1 all)))) 4 4 (base + 1 + 3) all short long) ∙ ap (λ (n : ℕ). Err n) place
 
--- A reader tells one place.
+-- A reader reports one place.
 abbrev place_in : ℕ → Result PaError ℕ → ℕ
 place_in other (Ok error) = other
 place_in other (Err place) = place

@@ -1,4 +1,4 @@
--- A piece behind octets that are held.
+-- A piece after octets that are held.
 use Rattle.std.proofs.Common.{◌≡◌, ℕ, ◌+◌, ◌-◌, ◌<◌, ◌≤◌, min, Bool, false, cond, Some, None, List, [], ◌++◌, length, take, drop, Ok, Err, sym, ap, ◌∙◌, inl, inr, arith, append_assoc, length-append, length-take}
 use Rattle.std.specs.Prelude.{nat_lt}
 use Rattle.std.proofs.lemmas.Bool.{cases_lt, le-ltb}
@@ -9,7 +9,7 @@ use Rattle.pa_attrs.specs.declared.fault.AttrFault.{AttrFault}
 use Rattle.pa_attrs.specs.declared.header.Header.{Header}
 use Rattle.pa_attrs.specs.Numbers.{HEADER, MOST_OCTETS}
 use Rattle.pa_attrs.specs.Faults.{stream_header}
-use Rattle.pa_attrs.specs.Stream.{More, Bad, Whole, front_of, header_held}
+use Rattle.pa_attrs.specs.Stream.{Front, More, Bad, Whole, front_of, header_held}
 use Rattle.pa_attrs.proofs.Headers.{stream_front, stream_good}
 use Rattle.pa_attrs.proofs.Fronts.{front_short, front_bad, front_more, front_whole, more_is}
 
@@ -25,10 +25,18 @@ more_within octets e =
 pub header_within : (header value : List ℕ) → value ≡ [] → length (take 12 header ++ value) ≤ MOST_OCTETS
 header_within header value none = omega (arith, length-append (take 12 header) value, length-take 12 header, ap (λ (o : List ℕ). length o) none)
 
--- What is held is `begun` octets of a header and those of a value; the first octets of the piece went to the header.
+-- Octets begin with one thing.
+not_bad_and_more : (front : Front) (f : AttrFault) → front ≡ Bad f → front ≡ More → ⊥
+not_bad_and_more front f bad more = absurd cc
+
+not_whole_and_more : (front : Front) (a : Attr) (n : ℕ) → front ≡ Whole a n → front ≡ More → ⊥
+not_whole_and_more front a n whole more = absurd cc
+
+-- What is held is `begun` octets of a header and those of a value; the first octets of the piece
+-- went to the header.
 module _ (header value piece next : List ℕ) (begun first : ℕ) (size : length header ≡ 12) (within : begun ≤ 12) (in-order : begun < 12 → value ≡ []) (long : length next ≡ 12)
     (used : first ≡ min (12 - begun) (length piece)) (octets : take (begun + first) next ≡ take begun header ++ take first piece) where
-  -- so many octets are held
+  -- that many octets are held
   pub length-held : length (take begun header ++ value) ≡ begun + length value
   length-held = omega (arith, length-append (take begun header) value, length-take begun header)
 
@@ -72,11 +80,8 @@ module _ (header value piece next : List ℕ) (begun first : ℕ) (size : length
           | inl short ↦ in-order short
           | inr full ↦
               let bad : front_of (next ++ value) ≡ Bad fault = front_bad (next ++ value) fault (omega (arith, length-append next value)) (stream_front next value (omega arith) ∙ is) in
-              absurd (never fault (sym (ap front_of (held_before full) ∙ bad) ∙ torn))
+              absurd (not_bad_and_more _ fault (ap front_of (held_before full) ∙ bad) torn)
         ]
-      where
-        never : (f : AttrFault) → Bad f ≡ More → ⊥
-        never f e = absurd cc
 
     pub shows_bad : front_of (take begun header ++ value) ≡ More → (fault : AttrFault) → stream_header next ≡ Err fault
         → (front_of ((take begun header ++ value) ++ piece) ≡ Bad fault) × (take 12 next ++ value ≡ take 12 ((take begun header ++ value) ++ piece))
@@ -102,15 +107,12 @@ module _ (header value piece next : List ℕ) (begun first : ℕ) (size : length
             | inl short ↦ omega (arith, least, ap (λ (o : List ℕ). length o) (in-order short))
             | inr full ↦
                 let whole : said.octets ≤ length (next ++ value) → ⊥ = λ enough-there.
-                never _ _ (sym (front_whole (next ++ value) said (omega (arith, length-append next value)) (stream_front next value (omega arith) ∙ is) enough-there) ∙ sym (ap front_of (held_before full)) ∙ torn) in
+                not_whole_and_more _ _ _ (front_whole (next ++ value) said (omega (arith, length-append next value)) (stream_front next value (omega arith) ∙ is) enough-there) (sym (ap front_of (held_before full)) ∙ torn) in
                 elim (cases_lt (length (next ++ value)) said.octets) [
                   | inl less ↦ omega (arith, less, length-append next value)
                   | inr enough-there ↦ absurd (whole enough-there)
                 ]
           ]
-        where
-          never : (a : Attr) (n : ℕ) → Whole a n ≡ More → ⊥
-          never a n e = absurd cc
 
       -- So is the value that was held.
       pub value_less : length value ≤ said.octets - 12
@@ -162,7 +164,7 @@ module _ (header value piece next : List ℕ) (begun first : ℕ) (size : length
               omega (arith, taken, used, rest-length),
             )
 
--- The header that is held is the front of what is held.
+-- The header that is held is the prefix of what is held.
 pub header_is_held : (header value : List ℕ) (begun : ℕ) → length header ≡ 12 → begun ≡ 12 → Some header ≡ header_held (take begun header ++ value)
 header_is_held header value begun size full =
     let whole : take begun header ≡ header = take_all begun header (omega arith) in

@@ -3,6 +3,7 @@ use Rattle.std.proofs.Common.{◌≡◌, ℕ, suc, ◌+◌, ◌-◌, ◌<◌, �
 use Rattle.std.specs.List.{AllByRecursion}
 use Rattle.std.proofs.lemmas.Bool.{eqb-true, eqb-false}
 use Rattle.std.proofs.lemmas.List.{nil_from_length}
+use Rattle.wire_base.proofs.FaultTables.{none_shows-below, unless_err, unless_ok}
 use Rattle.pa_attrs.specs.declared.attr.PlacedAttr.{PlacedAttr}
 use Rattle.pa_attrs.specs.declared.fault.AttrFault.{AttrFault}
 use Rattle.pa_attrs.specs.declared.fault.PaFault.{PaFault}
@@ -19,26 +20,9 @@ use Rattle.pa_attrs.proofs.Walking.{fault_place, message_good, some_octets, walk
 
 -- ---- rows that show
 
--- A header, or its fault, by the first row that shows.
-shown_err : (row : Option AttrFault) (h : Header) (shown : AttrFault) → unless row h ≡ Err shown → row ≡ Some shown
-shown_err (Some fault) h shown e = cc
-shown_err None h shown e = absurd cc
-
-shown_ok : (row : Option AttrFault) (h said : Header) → unless row h ≡ Ok said → row ≡ None
-shown_ok (Some fault) h said e = absurd cc
-shown_ok None h said e = refl
-
-never : false ≡ true → ⊥
-never e = cc
-
 -- Where no row shows, none is below any limit.
 none_shows : (limit place : ℕ) (rows : List Row) → first_shown rows ≡ None → AreNotBelow limit place rows
-none_shows limit place [] e = tt
-none_shows limit place (first ∷ rows) e = by_test first.shows refl e (none_shows limit place rows)
-  where
-    by_test : (b : Bool) → first.shows ≡ b → cond b (Some first.fault) (first_shown rows) ≡ None → (first_shown rows ≡ None → AreNotBelow limit place rows) → AreNotBelow limit place (first ∷ rows)
-    by_test true is e others = absurd cc
-    by_test false is e others = (λ shows. absurd (never (sym is ∙ shows)), others e)
+none_shows limit place rows e = none_shows-below (λ (f : AttrFault). place + f.at) limit rows e
 
 -- At a place that is not below the limit no row is.
 far : (limit place : ℕ) (rows : List Row) → limit ≤ place → AreNotBelow limit place rows
@@ -68,11 +52,11 @@ small supported room octets h = (omega arith, (omega arith, (omega arith, (omega
 -- The header of an attribute, by its rows.
 pub row_err : (supported : List ℕ) (room : ℕ) (octets : List ℕ) (shown : AttrFault) → message_header supported room octets ≡ Err shown → first_shown (message_rows supported room octets (header_of octets)) ≡ Some shown
 unfolding message_header
-row_err supported room octets shown e = shown_err (first_shown (message_rows supported room octets (header_of octets))) (header_of octets) shown e
+row_err supported room octets shown e = unless_err (first_shown (message_rows supported room octets (header_of octets))) (header_of octets) shown e
 
 row_ok : (supported : List ℕ) (room : ℕ) (octets : List ℕ) (h : Header) → message_header supported room octets ≡ Ok h → first_shown (message_rows supported room octets (header_of octets)) ≡ None
 unfolding message_header
-row_ok supported room octets h e = shown_ok (first_shown (message_rows supported room octets (header_of octets))) (header_of octets) h e
+row_ok supported room octets h e = (unless_ok (first_shown (message_rows supported room octets (header_of octets))) (header_of octets) h e).0
 
 err_row : (supported : List ℕ) (room : ℕ) (octets : List ℕ) (shown : AttrFault) → first_shown (message_rows supported room octets (header_of octets)) ≡ Some shown → message_header supported room octets ≡ Err shown
 unfolding message_header
@@ -84,7 +68,7 @@ ok_row supported room octets e = ap (λ (row : Option AttrFault). unless row (he
 
 -- ---- places
 
--- What stands behind an attribute is behind its header.
+-- What stands after an attribute is after its header.
 behind_none : (attrs : List PlacedAttr) (at : ℕ) (octets : List ℕ) (place : ℕ) (left : List ℕ) → StandBefore attrs at octets place left → at ≤ place
 behind_none [] at octets place left is = omega (arith, is.0)
 behind_none (attr ∷ attrs) at octets place left is =
@@ -126,7 +110,7 @@ some_of supported room at octets before broken e = by_test (eqb (length octets) 
 are_some : (octets : List ℕ) → eqb (length octets) 0 ≡ false → 0 < length octets
 are_some octets is = let differs = eqb-false (length octets) 0 is in omega (arith, differs)
 
--- A fault at once: no row is below it, here or behind.
+-- A fault at once: no row is below it, here or after.
 lowest_here : (supported : List ℕ) (room at : ℕ) (octets : List ℕ) (shown : AttrFault) → message_header supported room octets ≡ Err shown → (attrs : List PlacedAttr) (place : ℕ) (left : List ℕ) → StandBefore attrs at octets place left
     → AreNotBelow (at + shown.at) place (rows_behind supported room attrs left)
 lowest_here supported room at octets shown e [] place left is =
@@ -149,7 +133,7 @@ stops_here supported room at octets shown some e = record {
   lowest = λ attrs place left is left-some. lowest_here supported room at octets shown e attrs place left is;
 }
 
--- An attribute without a fault, and a fault behind it.
+-- An attribute without a fault, and a fault after it.
 lowest_behind : (supported : List ℕ) (room at : ℕ) (octets : List ℕ) (h : Header) (others : List PlacedAttr) (broken : Broken) → message_header supported room octets ≡ Ok h → header_of octets ≡ h
     → IsFirstFault supported (room - 1) (at + h.octets) (drop h.octets octets) others broken → (attrs : List PlacedAttr) (place : ℕ) (left : List ℕ) → StandBefore attrs at octets place left → 0 < length left
     → AreNotBelow (broken.at + broken.fault.at) place (rows_behind supported room attrs left)
@@ -244,7 +228,7 @@ err_with_id : (octets : List ℕ) (read : Result (List PlacedAttr) PaFault) (fau
 err_with_id octets (Ok attrs) fault e = absurd cc
 err_with_id octets (Err other) fault e = cc
 
--- A fault behind attributes, and the attributes before it.
+-- A fault after attributes, and the attributes before it.
 err_kept : (supported octets : List ℕ) (walked : Walked) (broken : Option Broken) (fault : PaFault) → walked.1 ≡ broken → kept supported octets walked.0 broken ≡ Err fault
     → (first : Broken) × (walked ≡ (walked.0, Some first)) × (fault ≡ fault_of octets (is_answered walked.0) first)
 err_kept supported octets walked None fault is e = absurd cc
@@ -275,7 +259,7 @@ fault_is_first supported octets fault = (fault_forth supported octets fault, fau
 
 stream_shown : (octets : List ℕ) (fault : AttrFault) → stream_header octets ≡ Err fault → first_shown (header_rows MOST_OCTETS (header_of octets)) ≡ Some fault
 unfolding stream_header
-stream_shown octets fault e = shown_err (first_shown (header_rows MOST_OCTETS (header_of octets))) (header_of octets) fault e
+stream_shown octets fault e = unless_err (first_shown (header_rows MOST_OCTETS (header_of octets))) (header_of octets) fault e
 
 stream_err : (octets : List ℕ) (fault : AttrFault) → first_shown (header_rows MOST_OCTETS (header_of octets)) ≡ Some fault → stream_header octets ≡ Err fault
 unfolding stream_header

@@ -39,7 +39,7 @@ first_is : (all : List ℕ) → 1 ≤ length all → number_of (take 1 all) ≡ 
 first_is [] long = absurd (omega arith)
 first_is (octet ∷ all) long = omega arith
 
--- A field is read, and what comes behind it, where the octets behind it begin at a place of all.
+-- A field is read, and what comes after it, where the octets after it begin at a place of all.
 pub next_there : {B : Type 0} (next : ℕ → Reader B) (size from at : ℕ) (all : List ℕ) → from + size ≤ length all
     → (number size >>= next) (record { at = at; octets = drop from all }) ≡ next (number_of (take size (drop from all))) (record { at = at + size; octets = drop (from + size) all })
 next_there next size from at all long =
@@ -82,7 +82,7 @@ header_form all are long =
     let f = header_exact.forth (record { at = 0; octets = all }) (header_of all, record { at = 12; octets = drop 12 all }) are (header_there all long) in
     (f.front, f.takes.octets, omega (arith, f.takes.at), subst (λ (h : Header). Form (header_fields h) f.front) f.made f.form)
 
--- Its layout has so many octets.
+-- Its layout has that many octets.
 pub header_length : (h : Header) (front : List ℕ) → Form (header_fields h) front → length front ≡ 12
 header_length h front (flags, a, parts-a, is-flags, (vendor, b, parts-b, is-vendor, (kind, c, parts-c, is-kind, (len, d, parts-d, is-len, none)))) =
     omega (

@@ -9,7 +9,7 @@ use Rattle.pa_attrs.specs.Numbers.{HEADER, NO_VENDOR, NO_TYPE, MOST_OCTETS}
 use Rattle.pa_attrs.specs.Header.{header_of}
 use Rattle.pa_attrs.specs.Faults.{row, first_shown, header_rows, unless, stream_header}
 
--- Some octets of a front are there also with others behind it.
+-- Some octets of a prefix are there also with others after it.
 slice_front : (from size : ℕ) (front rest : List ℕ) → from + size ≤ length front → take size (drop from (front ++ rest)) ≡ take size (drop from front)
 slice_front from size front rest long =
     ap (λ (o : List ℕ). take size o) (drop-append-le from front rest (omega arith)) ∙ take-append-le size (drop from front) rest (omega (arith, length-drop from front))
@@ -40,7 +40,7 @@ neither : (a b : Bool) → (a || b) ≡ false → (a ≡ false) × (b ≡ false)
 neither false b e = (refl, e)
 neither true b e = absurd cc
 
--- What is so of a header without a fault, where there are so many octets for the attribute.
+-- What is so of a header without a fault, where there are that many octets for the attribute.
 pub record IsGood (most : ℕ) (octets : List ℕ) (h : Header) : Type 0 where
   pub is : header_of octets ≡ h
   pub vendor : eqb h.vendor NO_VENDOR ≡ false

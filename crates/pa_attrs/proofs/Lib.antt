@@ -1,4 +1,5 @@
 pub mod Headers
+pub mod FieldsRead
 pub mod Fronts
 pub mod Feeding
 pub mod Walking

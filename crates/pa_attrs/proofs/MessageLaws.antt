@@ -101,7 +101,7 @@ walk_one supported room at octets h others are is w =
       are = ap (λ (l : List PlacedAttr). placed at h octets ∷ l) (w.are ∙ ap (λ (n : ℕ). places (at + n) w.attrs) (sym len));
     }
 
--- What comes behind an attribute is in its layout.
+-- What comes after an attribute is in its layout.
 abbrev Behind : List ℕ → ℕ → Type 0
 Behind supported room = (at : ℕ) (octets : List ℕ) (all : List PlacedAttr) → AreOctets octets → attributes supported room at octets ≡ (all, None) → IsWalk supported room at octets all
 
@@ -141,7 +141,7 @@ walk_forth supported (suc room) at octets all are e =
 
 -- ---- a message
 
--- A header without a fault, and what comes behind it.
+-- A header without a fault, and what comes after it.
 pub start_passes : (short good : Bool) (supported octets : List ℕ) (id : ℕ) (attrs : List PlacedAttr) → unless_start (first_shown (row short 1 0 ∷ row (not good) 2 0 ∷ [])) supported octets ≡ Ok (id, attrs)
     → (short ≡ false) × (good ≡ true) × (with_id octets (attrs_of supported octets) ≡ Ok (id, attrs))
 start_passes false true supported octets id attrs e = (refl, refl, e)

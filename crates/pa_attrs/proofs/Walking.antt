@@ -25,7 +25,7 @@ skips true b c rows h said e = absurd cc
 skips false true c rows h said e = absurd cc
 skips false false true rows h said e = absurd cc
 
--- A header without a fault, where so many attributes more have room.
+-- A header without a fault, where that many attributes more have room.
 pub record MayStand (supported : List ℕ) (room : ℕ) (octets : List ℕ) (h : Header) : Type 0 where
   pub room-left : 0 < room
   pub long : HEADER ≤ length octets
@@ -57,7 +57,7 @@ fault_place supported room octets shown is =
     let h : Header = header_of octets in
     place_by (room == 0) (nat_lt (length octets) HEADER) (is_refused supported h) (h.vendor == NO_VENDOR) (h.kind == NO_TYPE) (nat_lt h.octets HEADER || nat_lt (length octets) h.octets) h shown is
 
--- ---- one attribute, and those behind it
+-- ---- one attribute, and those after it
 
 -- There are none in no octets.
 pub walk_none : (supported : List ℕ) (room at : ℕ) → attributes supported room at [] ≡ ([], None)
@@ -84,7 +84,7 @@ walk_stops supported (suc room) at octets shown some is =
     let others : ℕ → List ℕ → Walked = attributes supported room in
     ap (λ (b : Bool). cond b ([], None) (and_others others at octets (message_header supported (suc room) octets))) some ∙ ap (λ (r : Result Header AttrFault). and_others others at octets r) is
 
--- An attribute, and those behind it.
+-- An attribute, and those after it.
 pub walk_more : (supported : List ℕ) (room at : ℕ) (octets : List ℕ) (h : Header) → message_header supported room octets ≡ Ok h
     → attributes supported room at octets ≡ in_front (placed at h octets) (attributes supported (room - 1) (at + h.octets) (drop h.octets octets))
 unfolding attributes
@@ -99,11 +99,12 @@ walk_more supported (suc room) at octets h is =
 
 -- ---- a loop over them
 
--- Attributes that were read, and those that are read behind them.
+-- Attributes that were read, and those that are read after them.
 abbrev pub behind : List PlacedAttr → Walked → Walked
 behind front walked = (front ++ walked.0, walked.1)
 
--- What a loop over the attributes keeps: those that were read, and those still to be read, are all of them.
+-- What a loop over the attributes keeps: those that were read, and those still to be read, are all
+-- of them.
 pub record Walks (supported : List ℕ) (total : Walked) (room at : ℕ) (rest : List ℕ) (attrs : List PlacedAttr) (answer : Bool) : Type 0 where
   pub seen : List PlacedAttr
   pub kept-so : attrs ≡ filter (supports supported) seen

@@ -1,5 +1,5 @@
--- A PA-TNC Error (RFC 5792, section 4.2.8), the value of an attribute of vendor 0 and type 8: a code by the numbers of a
--- vendor, and information by that code.
+-- A PA-TNC Error (RFC 5792, section 4.2.8), the value of an attribute of vendor 0 and type 8: a
+-- code by the numbers of a vendor, and information by that code.
 use Rattle.std.specs.Prelude.{◌==◌, ℕ, List, [], ◌∷◌, Option, Some, None, length, if◌then◌else◌}
 use Rattle.wire_base.specs.Layout.{Field, Number, Reserved, Fixed, Form}
 use Rattle.wire_base.specs.Written.{written}
@@ -27,7 +27,8 @@ ErrorForm error octets = Form (error_fields error) octets
 abbrev pub written_error : PaError → List ℕ
 written_error error = written (error_fields error)
 
--- The same layout read field by field: the Error, or the place of the first field that does not fit.
+-- The same layout read field by field: the Error, or the place of the first field that does not
+-- fit.
 unfoldable pub read_error : Reader PaError
 read_error = do
   reserved ← octets 1
@@ -38,11 +39,13 @@ read_error = do
 
 -- ---- the information
 
--- Of an invalid parameter (section 4.2.8.1): the header of the message, and the place of the invalid value in it.
+-- Of an invalid parameter (section 4.2.8.1): the header of the message, and the place of the
+-- invalid value in it.
 abbrev pub invalid_fields : List ℕ → ℕ → List Field
 invalid_fields header offset = Fixed 8 header ∷ Number 4 offset ∷ []
 
--- Of a version that is not supported (section 4.2.8.2): the header of the message, and the versions that are.
+-- Of a version that is not supported (section 4.2.8.2): the header of the message, and the versions
+-- that are.
 abbrev pub version_fields : List ℕ → List Field
 version_fields header =
     Fixed 8 header
@@ -51,13 +54,13 @@ version_fields header =
     ∷ Reserved 2  -- Reserved
     ∷ []
 
--- Of an attribute that is not supported (section 4.2.8.3): the header of the message, and the first 8 octets of the
--- attribute.
+-- Of an attribute that is not supported (section 4.2.8.3): the header of the message, and the first
+-- 8 octets of the attribute.
 abbrev pub unsupported_fields : List ℕ → List ℕ → List Field
 unsupported_fields header first = Fixed 8 header ∷ Fixed 8 first ∷ []
 
--- Of an error about a request (RFC 8412, section 5.15): its ID, and the most octets of an answer where the code has them.
--- The description behind these is empty.
+-- Of an error about a request (RFC 8412, section 5.15): its ID, and the most octets of an answer
+-- where the code has them. The description after these is empty.
 abbrev pub most_fields : Option ℕ → List Field
 most_fields None = []
 most_fields (Some most) = Number 4 most ∷ []

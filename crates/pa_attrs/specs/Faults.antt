@@ -1,8 +1,11 @@
--- What is wrong with an attribute (RFC 5792, section 4.1), as a table, with the codes of section 4.2.8. The limits on lengths and on the
--- number of attributes are our own, and so is the order. Of the rows that show, the one with the lowest place counts, and of two at
--- one place the earlier; the rows stand in this order, so it is the first that shows.
-use Rattle.std.specs.Prelude.{◌==◌, ◌&&◌, ◌||◌, ℕ, Bool, not, List, [], ◌∷◌, Option, Some, None, Result, Ok, Err, length, nat_lt, if◌then◌else◌}
+-- What is wrong with an attribute (RFC 5792, section 4.1), as a table, with the codes of
+-- section 4.2.8. The limits on lengths and on the number of attributes are our own, and so is the
+-- order. Of the rows that show, the one with the lowest place counts, and of two at one place the
+-- earlier; the rows stand in this order, so it is the first that shows.
+use Rattle.std.specs.Prelude.{◌==◌, ◌&&◌, ◌||◌, ℕ, Bool, not, List, [], ◌∷◌, Result, length, nat_lt}
 use Rattle.std.specs.List.{list_any}
+use Rattle.wire_base.specs.FaultTable.{Row as RowOf}
+pub use Rattle.wire_base.specs.FaultTable.{first_shown, unless}
 use Rattle.pa_attrs.specs.declared.fault.AttrFault.{AttrFault}
 use Rattle.pa_attrs.specs.declared.header.Header.{Header}
 use Rattle.pa_attrs.specs.Numbers.{HEADER, IETF, NO_VENDOR, NO_TYPE, INVALID_PARAMETER, UNSUPPORTED_ATTRIBUTE, MOST_OCTETS}
@@ -12,20 +15,14 @@ use Rattle.pa_attrs.specs.Header.{header_of}
 abbrev pub fault : ℕ → ℕ → AttrFault
 fault code at = record { code = code; at = at }
 
--- A row of the table: whether it shows, and the fault that it is.
-pub record Row : Type 0 where
-  pub shows : Bool
-  pub fault : AttrFault
+-- A row of the table.
+abbrev pub Row : Type 0
+Row = RowOf AttrFault
 
 abbrev pub row : Bool → ℕ → ℕ → Row
 row shows code at = record { shows = shows; fault = fault code at }
 
--- The first row that shows.
-abbrev pub first_shown : List Row → Option AttrFault
-first_shown [] = None
-first_shown (first ∷ rows) = if first.shows then Some first.fault else first_shown rows
-
--- The rows on a header, where there are so many octets for the attribute.
+-- The rows on a header, where there are that many octets for the attribute.
 abbrev pub header_rows : ℕ → Header → List Row
 header_rows most h =
     row (h.vendor == NO_VENDOR) INVALID_PARAMETER 1
@@ -41,8 +38,8 @@ is_supported supported vendor kind = (vendor == IETF) && list_any (λ known. kno
 abbrev pub is_refused : List ℕ → Header → Bool
 is_refused supported h = h.noskip && not (is_supported supported h.vendor h.kind)
 
--- The rows on an attribute that begins with these octets, all that are left of a message, where so many attributes more
--- have room in it.
+-- The rows on an attribute that begins with these octets, all that are left of a message, where so
+-- many attributes more have room in it.
 abbrev pub message_rows : List ℕ → ℕ → List ℕ → Header → List Row
 message_rows supported room octets h =
     row (room == 0) INVALID_PARAMETER 0
@@ -50,16 +47,11 @@ message_rows supported room octets h =
     ∷ row (is_refused supported h) UNSUPPORTED_ATTRIBUTE 0
     ∷ header_rows (length octets) h
 
--- A header, unless there is a fault.
-abbrev pub unless : Option AttrFault → Header → Result Header AttrFault
-unless (Some fault) h = Err fault
-unless None h = Ok h
-
 -- The header of an attribute of a message, or its first fault.
 unfoldable pub message_header : List ℕ → ℕ → List ℕ → Result Header AttrFault
 message_header supported room octets = unless (first_shown (message_rows supported room octets (header_of octets))) (header_of octets)
 
--- The header of an attribute of a stream that begins with these octets, or its first fault. It shows once 12 octets are
--- there.
+-- The header of an attribute of a stream that begins with these octets, or its first fault. It
+-- shows once 12 octets are there.
 unfoldable pub stream_header : List ℕ → Result Header AttrFault
 stream_header octets = unless (first_shown (header_rows MOST_OCTETS (header_of octets))) (header_of octets)

@@ -1,8 +1,8 @@
--- How a feed holds octets: those of the header, and behind them those of the value.
+-- How a feed holds octets: those of the header, and after them those of the value.
 use Rattle.std.specs.Prelude.{◌≡◌, ◌<◌, ◌≤◌, ◌+◌, ℕ, List, [], ◌++◌, Option, Some, None, Result, Ok, Err, length, take}
 use Rattle.pa_attrs.specs.declared.attr.Attr.{Attr}
-use Rattle.pa_attrs.specs.declared.refused.Refused.{Refused}
-use Rattle.pa_attrs.specs.declared.refused.Refused.TheVariants as refused
+use Rattle.wire_base.specs.declared.layout.field_refused.Refused.{Refused}
+use Rattle.wire_base.specs.declared.layout.field_refused.Refused.TheVariants as refused
 use Rattle.pa_attrs.specs.declared.fault.AttrFault.{AttrFault}
 use Rattle.pa_attrs.specs.declared.held.Held.{Held}
 use Rattle.pa_attrs.specs.Numbers.{HEADER}
@@ -12,13 +12,13 @@ use Rattle.pa_attrs.specs.Stream.{More, Bad, Whole, front_of}
 abbrev pub octets_of_held : Held → List ℕ
 octets_of_held held = take held.begun held.header ++ held.value.items
 
--- Octets of the value come behind all of those of the header.
+-- Octets of the value come after all of those of the header.
 pub record IsInOrder (held : Held) : Type 0 where
   pub size : length held.header ≡ HEADER
   pub within : held.begun ≤ HEADER
   pub first : held.begun < HEADER → held.value.items ≡ []
 
--- What becomes of octets that are held, and of a piece behind them.
+-- What becomes of octets that are held, and of a piece after them.
 abbrev pub Holds : List ℕ → List ℕ → Result (Option (Attr × ℕ)) (Refused AttrFault) → List ℕ → Type 0
 Holds before piece (Ok None) after = (front_of (before ++ piece) ≡ More) × (after ≡ before ++ piece)
 Holds before piece (Ok (Some done)) after = (front_of (before ++ piece) ≡ Whole done.0 (length before + done.1)) × (0 < done.1) × (done.1 ≤ length piece) × (after ≡ [])

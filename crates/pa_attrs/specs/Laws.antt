@@ -1,6 +1,7 @@
 -- What the definitions mean. All lists of octets here have numbers below 256.
 use Rattle.std.specs.Prelude.{◌≡◌, ◌≤◌, ◌<◌, ◌+◌, ◌^◌, ◌↔◌, ◌⊎◌, ℕ, true, false, List, [], ◌∷◌, ◌++◌, Option, Some, Ok, Err, length, filter}
 use Rattle.std.specs.List.{AllByRecursion}
+use Rattle.wire_base.specs.FaultTable.{IsLowest as IsLowestBy}
 use Rattle.wire_base.specs.FirstFault.{FormOrFault}
 use Rattle.wire_base.specs.Layout.{AreOctets}
 use Rattle.wire_base.specs.Reading.{whole}
@@ -24,7 +25,7 @@ use Rattle.pa_attrs.specs.Stream.{More, Bad, Whole, front_of}
 
 -- ---- streams
 
--- The attribute stands first in the octets, and has so many of them.
+-- The attribute stands first in the octets, and has that many of them.
 abbrev pub IsFirst : Attr → ℕ → List ℕ → Type 0
 IsFirst attr len octets = (attribute : List ℕ) × (rest : List ℕ) × (octets ≡ attribute ++ rest) × (length attribute ≡ len) × AttrForm attr attribute
 
@@ -32,13 +33,14 @@ IsFirst attr len octets = (attribute : List ℕ) × (rest : List ℕ) × (octets
 abbrev pub WholeIsAttribute : Type 0
 WholeIsAttribute = (octets : List ℕ) (attr : Attr) (len : ℕ) → AreOctets octets → (front_of octets ≡ Whole attr len) ↔ IsFirst attr len octets
 
--- What octets begin with they begin with whatever follows: an attribute that is whole and a fault that shows stay.
+-- What octets begin with they begin with whatever follows: an attribute that is whole and a fault
+-- that shows stay.
 abbrev pub FrontStays : Type 0
 FrontStays = (octets rest : List ℕ)
     → ((attr : Attr) (len : ℕ) → front_of octets ≡ Whole attr len → front_of (octets ++ rest) ≡ Whole attr len)
     × ((fault : AttrFault) → front_of octets ≡ Bad fault → front_of (octets ++ rest) ≡ Bad fault)
 
--- No attribute is a front of another one.
+-- No attribute is a prefix of another one.
 abbrev pub NoneIsFront : Type 0
 NoneIsFront = (attr other : Attr) (octets rest : List ℕ) → AttrForm attr octets → AttrForm other (octets ++ rest) → rest ≡ []
 
@@ -58,7 +60,8 @@ places at (attr ∷ attrs) = record { at = at + HEADER; attr = attr } ∷ places
 abbrev pub IsPassed : List ℕ → Attr → Type 0
 IsPassed supported attr = is_refused supported (header_for attr) ≡ false
 
--- The octets are a message with this identifier, and with these attributes that are supported, at these places.
+-- The octets are a message with this identifier, and with these attributes that are supported, at
+-- these places.
 pub record IsRead (supported octets : List ℕ) (id : ℕ) (attrs : List PlacedAttr) : Type 0 where
   pub message : PaMessage
   pub form : MessageForm message octets
@@ -80,7 +83,7 @@ abbrev pub WrittenIsRead : Type 0
 WrittenIsRead = (supported : List ℕ) (message : PaMessage) → message.id < 2 ^ 32 → CanBeWritten message → AllByRecursion (IsSupported supported) message.attrs
     → message_of supported (written_message message) ≡ Ok (message.id, places MESSAGE_HEADER message.attrs)
 
--- It has so many octets as are counted.
+-- It has as many octets as are counted.
 abbrev pub WrittenIsCounted : Type 0
 WrittenIsCounted = (message : PaMessage) → length (written_message message) ≡ message_octets message
 
@@ -88,7 +91,7 @@ WrittenIsCounted = (message : PaMessage) → length (written_message message) �
 
 -- Of the rows that show none has a lower place than this fault.
 abbrev pub IsLowest : AttrFault → List Row → Type 0
-IsLowest fault rows = AllByRecursion (λ (row : Row). row.shows ≡ true → fault.at ≤ row.fault.at) rows
+IsLowest fault rows = IsLowestBy (λ (f : AttrFault). f.at) fault rows
 
 -- The fault of an attribute, of a message and of a stream, is that of a row with the lowest place.
 abbrev pub FaultIsLowest : Type 0
@@ -96,8 +99,8 @@ FaultIsLowest = (supported octets : List ℕ) (room most : ℕ) (h : Header) (fa
     → (first_shown (message_rows supported room octets h) ≡ Some fault → IsLowest fault (message_rows supported room octets h))
     × (first_shown (header_rows most h) ≡ Some fault → IsLowest fault (header_rows most h))
 
--- A message is refused with a fault exactly where that is the first: of all rows that show, on whichever attribute, the one
--- with the lowest place.
+-- A message is refused with a fault exactly where that is the first: of all rows that show, on
+-- whichever attribute, the one with the lowest place.
 abbrev pub FaultIsFirst : Type 0
 FaultIsFirst = (supported octets : List ℕ) (fault : PaFault) → (message_of supported octets ≡ Err fault) ↔ IsFault supported octets fault
 
@@ -105,7 +108,8 @@ FaultIsFirst = (supported octets : List ℕ) (fault : PaFault) → (message_of s
 abbrev pub ShowsFault : List ℕ → AttrFault → Type 0
 ShowsFault octets fault = (HEADER ≤ length octets) × (first_shown (header_rows MOST_OCTETS (header_of octets)) ≡ Some fault)
 
--- A fault shows in a stream exactly where the 12 octets of a header are there and it is the first row that shows on them.
+-- A fault shows in a stream exactly where the 12 octets of a header are there and it is the first
+-- row that shows on them.
 abbrev pub BadIsFault : Type 0
 BadIsFault = (octets : List ℕ) (fault : AttrFault) → (front_of octets ≡ Bad fault) ↔ ShowsFault octets fault
 
@@ -141,15 +145,16 @@ AttributeOrFault = (octets : List ℕ) → AreOctets octets → HasAttributeOrFa
 abbrev pub ErrorIsForm : Type 0
 ErrorIsForm = (base : ℕ) (octets : List ℕ) (error : PaError) → AreOctets octets → (whole read_error base octets ≡ Ok error) ↔ ErrorForm error octets
 
--- A value of so many octets is no Error, and its fault is at a place: that of the reserved octet, of the vendor or of the code,
--- the first of them that does not fit.
+-- A value of that many octets is no Error, and its fault is at a place: that of the reserved octet,
+-- of the vendor or of the code, the first of them that does not fit.
 abbrev pub IsTorn : ℕ → ℕ → ℕ → Type 0
 IsTorn base count place =
     ((count < 1) × (place ≡ base))
     ⊎ (((1 ≤ count) × (count < 4) × (place ≡ base + 1))
     ⊎ ((4 ≤ count) × (count < 8) × (place ≡ base + 4)))
 
--- A value has a fault exactly where it has fewer than 8 octets, at the first field that does not fit.
+-- A value has a fault exactly where it has fewer than 8 octets, at the first field that does not
+-- fit.
 abbrev pub ErrorIsTorn : Type 0
 ErrorIsTorn = (base : ℕ) (octets : List ℕ) (place : ℕ) → (whole read_error base octets ≡ Err place) ↔ IsTorn base (length octets) place
 

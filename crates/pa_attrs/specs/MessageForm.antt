@@ -16,7 +16,8 @@ message_fields message =
     ∷ Number 4 message.id  -- Message Identifier
     ∷ flat_map attr_fields message.attrs
 
--- A message may have so many octets: its attributes are named and not too many, and the octets not either.
+-- A message may have that many octets: its attributes are named and not too many, and the octets
+-- not either.
 pub record IsMessage (message : PaMessage) (octets : ℕ) : Type 0 where
   pub named : AllByRecursion IsNamed message.attrs
   pub count : length message.attrs ≤ MOST_ATTRIBUTES

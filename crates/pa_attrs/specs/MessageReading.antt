@@ -1,4 +1,5 @@
--- Reading a message (RFC 5792, section 3.6) whole: its attributes with their places, or its first fault.
+-- Reading a message (RFC 5792, section 3.6) whole: its attributes with their places, or its first
+-- fault.
 use Rattle.std.specs.Prelude.{◌≡◌, ◌==◌, ◌&&◌, ◌≤◌, ◌+◌, ◌-◌, ℕ, zero, suc, Bool, true, not, List, [], ◌∷◌, ◌++◌, Option, Some, None, Result, Ok, Err, length, take, drop, filter, replicate, slice_index, slice_range, nat_lt, if◌then◌else◌}
 use Rattle.std.specs.List.{Contains, AllByRecursion, list_any}
 use Rattle.wire_base.specs.Numbers.{number_of}
@@ -6,8 +7,8 @@ use Rattle.pa_attrs.specs.declared.attr.PlacedAttr.{PlacedAttr}
 use Rattle.pa_attrs.specs.declared.fault.AttrFault.{AttrFault}
 use Rattle.pa_attrs.specs.declared.fault.PaFault.{PaFault}
 use Rattle.pa_attrs.specs.declared.header.Header.{Header}
-use Rattle.pa_attrs.specs.declared.refused.Refused.{Refused}
-use Rattle.pa_attrs.specs.declared.refused.Refused.TheVariants as refused
+use Rattle.wire_base.specs.declared.layout.field_refused.Refused.{Refused}
+use Rattle.wire_base.specs.declared.layout.field_refused.Refused.TheVariants as refused
 use Rattle.pa_attrs.specs.declared.read.PaRead.{PaRead}
 use Rattle.pa_attrs.specs.declared.read.PaRead.TheVariants as read
 use Rattle.pa_attrs.specs.Numbers.{VERSION, MESSAGE_HEADER, HEADER, IETF, ERROR, INVALID_PARAMETER, VERSION_NOT_SUPPORTED, UNSUPPORTED_ATTRIBUTE, MOST_ATTRIBUTES}
@@ -16,7 +17,8 @@ use Rattle.pa_attrs.specs.Faults.{Row, row, first_shown, is_supported, message_h
 
 -- ---- attributes one after another
 
--- What has the first fault: where it begins, the octets of the message from there on, and the fault.
+-- What has the first fault: where it begins, the octets of the message from there on, and the
+-- fault.
 pub record Broken : Type 0 where
   pub at : ℕ
   pub octets : List ℕ
@@ -26,7 +28,7 @@ pub record Broken : Type 0 where
 abbrev pub Walked : Type 0
 Walked = List PlacedAttr × Option Broken
 
--- An attribute in front of others.
+-- An attribute before others.
 abbrev pub in_front : PlacedAttr → Walked → Walked
 in_front attr others = (attr ∷ others.0, others.1)
 
@@ -34,12 +36,13 @@ in_front attr others = (attr ∷ others.0, others.1)
 abbrev pub placed : ℕ → Header → List ℕ → PlacedAttr
 placed at h octets = record { at = at + HEADER; attr = attr_of h octets }
 
--- An attribute and those behind it, or its fault.
+-- An attribute and those after it, or its fault.
 abbrev pub and_others : (ℕ → List ℕ → Walked) → ℕ → List ℕ → Result Header AttrFault → Walked
 and_others others at octets (Ok h) = in_front (placed at h octets) (others (at + h.octets) (drop h.octets octets))
 and_others others at octets (Err fault) = ([], Some (record { at = at; octets = octets; fault = fault }))
 
--- The attributes of octets that begin at `at`, where so many have room; there are none in no octets.
+-- The attributes of octets that begin at `at`, where that many have room; there are none in no
+-- octets.
 abbrev pub one_more : (ℕ → List ℕ → Walked) → List ℕ → ℕ → ℕ → List ℕ → Walked
 one_more others supported room at octets = if length octets == 0 then ([], None) else and_others others at octets (message_header supported room octets)
 
@@ -47,15 +50,16 @@ unfoldable pub attributes : List ℕ → ℕ → ℕ → List ℕ → Walked
 attributes supported zero at octets = one_more (λ at rest. ([], None)) supported 0 at octets
 attributes supported (suc room) at octets = one_more (attributes supported room) supported (suc room) at octets
 
--- ---- what is told of a fault
+-- ---- what is reported of a fault
 
 -- The attribute is a PA-TNC Error.
 abbrev pub is_error : PlacedAttr → Bool
 is_error placed = (placed.attr.vendor == IETF) && (placed.attr.kind == ERROR)
 
--- Which faults are answered: no Error answers an Error (RFC 5792, section 4.2.8). The sender is told of a fault of the framing behind
--- these attributes, and of one in a value where these are all that the message has, where none of them is a PA-TNC Error.
--- A fault of the message's own header is always told.
+-- Which faults are answered: no Error answers an Error (RFC 5792, section 4.2.8). The sender
+-- learns of a fault of the framing after these attributes, and of one in a value where these are
+-- all that the message has, where none of them is a PA-TNC Error. A fault of the message's own
+-- header is always reported.
 abbrev pub is_answered : List PlacedAttr → Bool
 is_answered attrs = not (list_any is_error attrs)
 
@@ -63,7 +67,7 @@ is_answered attrs = not (list_any is_error attrs)
 abbrev pub first_octets : List ℕ → List ℕ
 first_octets octets = take 8 octets ++ replicate (8 - length octets) 0
 
--- The first octets of an attribute are told where it is not supported.
+-- The first octets of an attribute are part of the fault where it is not supported.
 abbrev pub first_told : ℕ → List ℕ → List ℕ
 first_told code octets = if code == UNSUPPORTED_ATTRIBUTE then first_octets octets else replicate 8 0
 
@@ -98,7 +102,7 @@ abbrev pub kept : List ℕ → List ℕ → List PlacedAttr → Option Broken �
 kept supported octets attrs None = Ok (filter (supports supported) attrs)
 kept supported octets attrs (Some broken) = Err (fault_of octets (is_answered attrs) broken)
 
--- The attributes of a message behind its header.
+-- The attributes of a message after its header.
 abbrev pub attrs_of : List ℕ → List ℕ → Result (List PlacedAttr) PaFault
 attrs_of supported octets =
     let walked : Walked = attributes supported MOST_ATTRIBUTES MESSAGE_HEADER (drop MESSAGE_HEADER octets) in kept supported octets walked.0 walked.1
@@ -126,7 +130,7 @@ message_of supported octets = unless_start (first_shown (start_rows octets)) sup
 
 -- ---- what calls give
 
--- A call gave this, but for want of memory, of which nothing is said.
+-- A call gave this, except running out of memory, of which nothing is said.
 abbrev pub Answers : {A : Type 0} → Result A (Refused PaFault) → Result A PaFault → Type 0
 Answers (Ok value) message = message ≡ Ok value
 Answers (Err (refused.Fault fault)) message = message ≡ Err fault

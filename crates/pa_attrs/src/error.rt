@@ -1,15 +1,14 @@
 //! PA-TNC Errors.
 
-ghost use Rattle.std.specs.Prelude.{◌≡◌, ◌+◌, ◌<◌, ◌^◌, ◌++◌, length, IfOk, OnOk};
-ghost use Rattle.pa_attrs.specs.ErrorForm.{error_of, invalid_error, read_error, swima_error, unsupported_error, version_error, written_error};
-ghost use Rattle.wire_base.specs.Reading.{Gives, value_alone, whole};
+ghost use Rattle.std.specs.Prelude.{◌≡◌, IfOk};
+ghost use Rattle.pa_attrs.specs.ErrorForm.{error_of, invalid_error, swima_error, unsupported_error, version_error};
 
 use crate::fault::PaFault;
 use crate::numbers::{
     IETF, INVALID_PARAMETER, UNSUPPORTED_ATTRIBUTE, VERSION, VERSION_NOT_SUPPORTED,
 };
 use std::alloc::Global;
-use wire_base::{Cursor, FieldRefused, List, Memory, Octets, put_u8, put_u16, put_u24, put_u32};
+use wire_base::{List, Memory, Octets, put_u32};
 
 /// A PA-TNC Error, the value of an attribute of vendor 0 and type 8 (RFC 5792, section 4.2.8).
 #[derive(Debug, Drop)]
@@ -38,8 +37,8 @@ impl PaError {
         }
     }
 
-    /// A value of a message is invalid: the header of the message, and the place of the value in it (RFC 5792, section
-    /// 4.2.8.1).
+    /// A value of a message is invalid: the header of the message, and the place of the value in it
+    /// (RFC 5792, section 4.2.8.1).
     #[tactic(auto, unfolding(wire_base::specs::Written::written))]
     pub fn invalid(alloc: Global, header: [u8; 8], offset: u32) -> Result<Self, Memory>
         ensures error { IfOk result (λ error. error ≡ invalid_error header offset) }
@@ -54,7 +53,8 @@ impl PaError {
         })
     }
 
-    /// The version of a message is not supported: the header of the message (RFC 5792, section 4.2.8.2).
+    /// The version of a message is not supported: the header of the message (RFC 5792,
+    /// section 4.2.8.2).
     #[tactic(auto, unfolding(wire_base::specs::Written::written, wire_base::specs::Numbers::octets_of))]
     pub fn version(alloc: Global, header: [u8; 8]) -> Result<Self, Memory>
         ensures error { IfOk result (λ error. error ≡ version_error header) }
@@ -69,8 +69,8 @@ impl PaError {
         })
     }
 
-    /// An attribute that may not be passed over is not supported: the header of the message, and the first octets of the
-    /// attribute (RFC 5792, section 4.2.8.3).
+    /// An attribute that may not be passed over is not supported: the header of the message, and
+    /// the first octets of the attribute (RFC 5792, section 4.2.8.3).
     #[tactic(auto, unfolding(wire_base::specs::Written::written))]
     pub fn unsupported(alloc: Global, header: [u8; 8], first: [u8; 8]) -> Result<Self, Memory>
         ensures error { IfOk result (λ error. error ≡ unsupported_error header first) }
@@ -85,8 +85,9 @@ impl PaError {
         })
     }
 
-    /// An error about the request with an ID, of a code from `SWIMA_ERROR` on (`SWIMA_SUBSCRIPTION_DENIED_ERROR` and so on);
-    /// `max` is the most octets of an answer, which `SWIMA_RESPONSE_TOO_LARGE_ERROR` alone tells (RFC 8412, section 5.15).
+    /// An error about the request with an ID, of a code from `SWIMA_ERROR` on
+    /// (`SWIMA_SUBSCRIPTION_DENIED_ERROR` and so on); `max` is the most octets of an answer, which
+    /// `SWIMA_RESPONSE_TOO_LARGE_ERROR` alone has (RFC 8412, section 5.15).
     #[tactic(auto, unfolding(wire_base::specs::Written::written))]
     pub fn swima(alloc: Global, code: u32, id: u32, max: Option<u32>) -> Result<Self, Memory>
         ensures error { IfOk result (λ error. error ≡ swima_error code id max) }
@@ -102,53 +103,4 @@ impl PaError {
             info,
         })
     }
-}
-
-/// The octets of an Error: the value of its attribute (RFC 5792, section 4.2.8), with 0 in what is reserved.
-#[tactic(auto, unfolding(wire_base::specs::Written::written, wire_base::specs::Numbers::octets_of))]
-pub fn write_error(alloc: Global, error: &PaError) -> Result<Octets, Memory>
-    requires vendor { error.now.vendor < 2 ^ 24 }
-    ensures octets { IfOk result (λ made. made ≡ written_error error.now) }
-{
-    let mut out = List::new(alloc);
-    put_u8(&mut out, 0)?;
-    put_u24(&mut out, error.vendor)?;
-    put_u32(&mut out, error.code)?;
-    out.extend(error.info.as_slice())?;
-    Ok(out)
-}
-
-/// The Error that is the value of an attribute of vendor 0 and type 8 (RFC 5792, section 4.2.8).
-///
-/// `Fault` comes exactly where the value has fewer than 8 octets; its offset is the place of the first field that does not
-/// fit, counted from `base`, the place of the value's first octet.
-pub fn read_error(alloc: Global, value: &[u8], base: u32) -> Result<PaError, FieldRefused>
-    requires places { base + length value.now < 2 ^ 32 }
-    ensures value { Gives (λ read. read) result (whole read_error base value.now) }
-{
-    error(alloc, Cursor::new(base, value))
-}
-
-/// The Error in what is left, all of it.
-#[tactic(auto, unfolding(crate::specs::ErrorForm::read_error))]
-fn error(alloc: Global, mut cursor: Cursor) -> Result<PaError, FieldRefused>
-    ensures error { Gives (λ read. read) result (value_alone (read_error cursor.entry)) }
-{
-    cursor.octets(1)?;
-    let vendor = cursor.u24()?;
-    let code = cursor.u32()?;
-    let octets = cursor.octets(cursor.left())?;
-    cursor.end()?;
-    Ok(PaError {
-        vendor,
-        code,
-        info: copy_of(alloc, octets)?,
-    })
-}
-
-/// A list of the octets.
-fn copy_of(alloc: Global, octets: &[u8]) -> Result<Octets, Memory>
-    ensures equal { IfOk result (λ made. made ≡ octets.now) }
-{
-    Ok(List::from_vec(Vec::from_slice(alloc, octets)?))
 }

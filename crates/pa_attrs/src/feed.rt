@@ -7,25 +7,26 @@ ghost use Rattle.pa_attrs.specs.Stream.{Feeding, Feeds, More, fresh, front_of, h
 use crate::attr::Attr;
 use crate::fault::AttrFault;
 use crate::held::Held;
-use crate::refused::Refused;
 use std::alloc::Global;
 use std::marker::Model;
+use wire_base::Refused;
 
 /// What a feed answers to a piece.
 #[derive(Debug, Drop)]
 pub enum AttrFed {
     /// The octets so far are the beginning of an attribute, or may be.
     More,
-    /// An attribute is whole, with so many octets of the piece, at least one. Those behind them were not looked at.
+    /// An attribute is whole, with that many octets of the piece, at least one. Those after them
+    /// were not looked at.
     Done(Attr, usize),
     /// The octets so far have a fault; its place is counted from the attribute's first octet.
     Fault(AttrFault),
-    /// Want of memory.
+    /// Out of memory.
     Memory,
 }
 
-/// Takes the octets of one attribute after another in pieces of any size. Once it has answered a fault or want of memory
-/// it answers the same for ever.
+/// Takes the octets of one attribute after another in pieces of any size. Once it has answered a
+/// fault or that memory ran out, it answers the same for ever.
 #[derive(Debug, Drop)]
 pub struct AttrFeed {
     held: Held,
@@ -58,8 +59,8 @@ impl AttrFeed {
         }
     }
 
-    /// How many octets of the attribute that is not whole yet were taken; of one whose fault was answered, the 12 of its
-    /// header. It takes no memory.
+    /// How many octets of the attribute that is not whole yet were taken; of one whose fault was
+    /// answered, the 12 of its header. It takes no memory.
     pub fn have(&self) -> u64
         ensures have { result ≡ length self.now.octets }
         ensures within { result ≤ MOST_OCTETS }
@@ -67,8 +68,9 @@ impl AttrFeed {
         self.held.len() as u64
     }
 
-    /// The first 12 octets of the attribute that is not whole yet, or of the one whose fault was answered; `None` exactly
-    /// where fewer were taken. `read_header` says what they mean. It takes no memory.
+    /// The first 12 octets of the attribute that is not whole yet, or of the one whose fault was
+    /// answered; `None` exactly where fewer were taken. `read_header` says what they mean. It takes
+    /// no memory.
     pub fn header(&self) -> Option<[u8; 12]>
         ensures header { result ≡ header_held self.now.octets }
     {

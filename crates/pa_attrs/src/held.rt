@@ -7,15 +7,16 @@ ghost use Rattle.pa_attrs.specs.Numbers.{HEADER, MOST_OCTETS};
 ghost use Rattle.pa_attrs.specs.Stream.{More, front_of, header_held};
 
 use crate::attr::Attr;
-use crate::fault::{AttrFault, stream_header};
+use crate::fault::AttrFault;
 use crate::header::Header;
+use crate::header_fault::stream_header;
 use crate::numbers::HEADER_OCTETS;
-use crate::refused::Refused;
 use std::alloc::Global;
 use std::mem;
-use wire_base::{List, Memory};
+use wire_base::{List, Memory, Refused};
 
-/// The octets of an attribute: of those of its header so many as are there, and then those of its value.
+/// The octets of an attribute: as many of those of its header as are there, and then those of its
+/// value.
 #[derive(Debug, Drop)]
 pub(crate) struct Held {
     header: [u8; 12],
@@ -56,7 +57,7 @@ impl Held {
         Some(self.header)
     }
 
-    /// Takes a piece behind the octets, up to the end of the attribute where that is in it.
+    /// Takes a piece after the octets, up to the end of the attribute where that is in it.
     pub(crate) fn take(&mut self, piece: &[u8]) -> Result<Option<(Attr, usize)>, Refused<AttrFault>>
         requires order { IsInOrder self.old }
         requires torn { front_of (octets_of_held self.old) ≡ More }
@@ -109,7 +110,7 @@ impl Held {
     }
 }
 
-/// Puts octets of the piece behind those of the header that are there, and says how many.
+/// Puts octets of the piece after those of the header that are there, and says how many.
 fn begin_header(header: &mut [u8; 12], begun: usize, piece: &[u8]) -> usize
     requires { begun ≤ HEADER }
     ensures used { result ≡ min (HEADER - begun) (length piece.now) }
@@ -120,14 +121,14 @@ fn begin_header(header: &mut [u8; 12], begun: usize, piece: &[u8]) -> usize
     used
 }
 
-/// Puts octets of the piece behind those of the value that are there, up to `len` in all, and says how many. At `Memory`
-/// the value is as it was.
+/// Puts octets of the piece after those of the value that are there, up to `len` in all, and says
+/// how many. At `Memory` the value is as it was.
 fn take_value(value: &mut Vec<u8>, piece: &[u8], len: usize) -> Result<usize, Memory>
     requires len { length value.old.items ≤ len }
     requires most { len ≤ MOST_OCTETS }
     ensures used { IfOk result (λ used. used ≡ min (len - length value.old.items) (length piece.now)) }
     ensures octets { IfOk result (λ used. value.new.items ≡ value.old.items ++ take used piece.now) }
-    ensures memory { OnErr result (value.new.items ≡ value.old.items) }
+    ensures unchanged { OnErr result (value.new.items ≡ value.old.items) }
 {
     let used = (len - value.len()).min(piece.len());
     make_room(value, used, len)?;
@@ -135,7 +136,8 @@ fn take_value(value: &mut Vec<u8>, piece: &[u8], len: usize) -> Result<usize, Me
     Ok(used)
 }
 
-/// Makes room for so many octets more; where it was wanting, for as many as there are, but for `most` in all.
+/// Makes room for that many octets more; where there was too little, for as many again as there
+/// are, but at most `most` in all.
 fn make_room(value: &mut Vec<u8>, more: usize, most: usize) -> Result<(), Memory>
     requires within { length value.old.items + more ≤ most }
     requires most { most ≤ MOST_OCTETS }

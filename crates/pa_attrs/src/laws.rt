@@ -4,17 +4,18 @@ ghost use Rattle.pa_attrs.specs.Laws.{AttributeOrFault, BadIsFault, FaultIsFirst
 ghost use Rattle.pa_attrs.specs.Laws.{ErrorIsForm, ErrorIsTorn, ErrorOrFault, FaultIsReported, SwimaErrorIsShort, WrittenErrorIsCounted, WrittenErrorIsRead};
 ghost use Rattle.pa_attrs.specs.Laws.{ReadingIsForm, WholeIsAttribute, WrittenIsCounted, WrittenIsFirst, WrittenIsRead};
 
-/// Octets of a stream begin with a whole attribute exactly where an attribute in its form stands first.
+/// Octets of a stream begin with a whole attribute exactly where an attribute in its form stands
+/// first.
 pub fn whole_is_attribute()
     ensures law { WholeIsAttribute }
 {}
 
-/// A whole attribute at the front of a stream, and a fault that shows there, stay whatever follows.
+/// A whole attribute at the start of a stream, and a fault that shows there, stay whatever follows.
 pub fn front_stays()
     ensures law { FrontStays }
 {}
 
-/// No attribute is a front of another one.
+/// No attribute is a prefix of another one.
 pub fn none_is_front()
     ensures law { NoneIsFront }
 {}
@@ -44,13 +45,14 @@ pub fn fault_is_lowest()
     ensures law { FaultIsLowest }
 {}
 
-/// A message is refused with a fault exactly where, of all rows of the table that show on its header and its attributes, this
-/// one counts.
+/// A message is refused with a fault exactly where, of all rows of the table that show on its
+/// header and its attributes, this one counts.
 pub fn fault_is_first()
     ensures law { FaultIsFirst }
 {}
 
-/// A fault shows in a stream exactly where the 12 octets of a header are there, and it is the first row that shows on them.
+/// A fault shows in a stream exactly where the 12 octets of a header are there, and it is the first
+/// row that shows on them.
 pub fn bad_is_fault()
     ensures law { BadIsFault }
 {}
@@ -71,7 +73,8 @@ pub fn error_is_form()
     ensures law { ErrorIsForm }
 {}
 
-/// A value is refused as an Error exactly where it has fewer than 8 octets, at the first field that does not fit.
+/// A value is refused as an Error exactly where it has fewer than 8 octets, at the first field that
+/// does not fit.
 pub fn error_is_torn()
     ensures law { ErrorIsTorn }
 {}

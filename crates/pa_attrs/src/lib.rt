@@ -1,32 +1,39 @@
-//! PA-TNC messages and attributes (RFC 5792): whole messages, errors, and attributes from a stream of octets.
+//! PA-TNC messages and attributes (RFC 5792): whole messages, errors, and attributes from a stream
+//! of octets.
 //!
-//! It stands on `wire_base`. The crates above rest on these clauses:
+//! It stands on `wire_base`, and on `thiserror` for the texts of errors. The crates above rest on
+//! these clauses:
 //!
-//! - `read` of `read_message`: the attributes with the places of their values, or the first fault of
-//!   the message; with `few`, `within` and `supported` of these attributes.
+//! - `read` of `read_message`: the attributes with the places of their values, or the first fault
+//!   of the message; with `few`, `within` and `supported` of these attributes.
 //! - `octets` of `write_message` and of `write_error`, and `value` of `read_error`.
-//! - `fault` of `value_fault`, `answered` of `is_value_fault_answered` and `error` of `PaError::of`:
-//!   the fault of a value, whether a fault is answered, and by which Error.
+//! - `fault` of `value_fault`, `answered` of `is_value_fault_answered` and `error` of
+//!   `PaError::of`: the fault of a value, whether a fault is answered, and by which Error.
 //! - `fed` of `AttrFeed::feed`: what a feed answers, by the octets that it was handed, joined.
 //!
 //! The layouts are in `specs/AttrForm.antt`, `MessageForm.antt` and `ErrorForm.antt`, the table of
-//! faults in `Faults.antt`; the functions of `laws` say what the definitions mean.
+//! faults in `Faults.antt`; the functions of `laws` say what the definitions mean. In code, headers
+//! and their faults are in `header.rt` and `header_fault.rt`, messages in `read.rt` and `write.rt`.
 #![tactic(auto)]
 
 mod attr;
 mod error;
+mod error_code;
+mod error_octets;
 mod fault;
 mod feed;
 mod header;
+mod header_fault;
 mod held;
 pub mod laws;
 mod numbers;
 mod read;
-mod refused;
 mod write;
 
 pub use attr::{Attr, Attrs, PaMessage, PlacedAttr, PlacedAttrs};
-pub use error::{PaError, read_error, write_error};
+pub use error::PaError;
+pub use error_code::PaErrorCode;
+pub use error_octets::{read_error, write_error};
 pub use fault::{AttrFault, PaFault};
 pub use feed::{AttrFed, AttrFeed};
 pub use header::{Header, read_header};
@@ -37,12 +44,3 @@ pub use numbers::{
 };
 pub use read::{PaRead, is_value_fault_answered, read_message, value_fault};
 pub use write::write_message;
-
-#[cfg(test)]
-mod attr_tests;
-#[cfg(test)]
-mod error_tests;
-#[cfg(test)]
-mod feed_tests;
-#[cfg(test)]
-mod tests;

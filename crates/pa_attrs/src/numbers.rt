@@ -1,4 +1,5 @@
-//! The numbers of RFC 5792 with the error codes that RFC 8412 adds, and the limits that this project sets.
+//! The numbers of RFC 5792 with the error codes that RFC 8412 adds, and the limits that this
+//! project sets.
 
 /// The version of PA-TNC messages (section 3.6).
 pub(crate) const VERSION: u8 = 1;
@@ -9,7 +10,8 @@ pub(crate) const MESSAGE_HEADER_OCTETS: usize = 8;
 /// How many octets the header of an attribute has (section 4.1).
 pub const HEADER_OCTETS: usize = 12;
 
-/// The flag of an attribute that may not be passed over: the highest bit of the flags (section 4.1).
+/// The flag of an attribute that may not be passed over: the highest bit of the flags
+/// (section 4.1).
 pub(crate) const NOSKIP: u8 = 0x80;
 
 /// The vendor number of the IETF (section 4.1).
@@ -30,25 +32,27 @@ pub const INVALID_PARAMETER: u32 = 1;
 /// The error code of another version: Version Not Supported (section 4.2.8.2).
 pub const VERSION_NOT_SUPPORTED: u32 = 2;
 
-/// The error code of an attribute that is not supported and may not be passed over: Attribute Type Not Supported
-/// (section 4.2.8.3).
+/// The error code of an attribute that is not supported and may not be passed over: Attribute Type
+/// Not Supported (section 4.2.8.3).
 pub const UNSUPPORTED_ATTRIBUTE: u32 = 3;
 
-/// The error code of a fault that no other code tells: SWIMA Error (RFC 8412, section 5.15).
+/// The error code of a fault that no other code reports: SWIMA Error (RFC 8412, section 5.15).
 pub const SWIMA_ERROR: u32 = 4;
 
-/// The error code of a subscription that is not taken: SWIMA Subscription Denied Error (RFC 8412, section 5.15).
+/// The error code of a subscription that is not taken: SWIMA Subscription Denied Error (RFC 8412,
+/// section 5.15).
 pub const SWIMA_SUBSCRIPTION_DENIED_ERROR: u32 = 5;
 
-/// The error code of an answer that would be too large: SWIMA Response Too Large Error (RFC 8412, section 5.15).
+/// The error code of an answer that would be too large: SWIMA Response Too Large Error (RFC 8412,
+/// section 5.15).
 pub const SWIMA_RESPONSE_TOO_LARGE_ERROR: u32 = 6;
 
-/// The error code of a subscription that could not be fulfilled: SWIMA Subscription Fulfillment Error (RFC 8412, section
-/// 5.15).
+/// The error code of a subscription that could not be fulfilled: SWIMA Subscription Fulfillment
+/// Error (RFC 8412, section 5.15).
 pub const SWIMA_SUBSCRIPTION_FULFILLMENT_ERROR: u32 = 7;
 
-/// The error code of a request that takes the ID of another subscription: SWIMA Subscription ID Reuse Error (RFC 8412,
-/// section 5.15).
+/// The error code of a request that takes the ID of another subscription: SWIMA Subscription ID
+/// Reuse Error (RFC 8412, section 5.15).
 pub const SWIMA_SUBSCRIPTION_ID_REUSE_ERROR: u32 = 8;
 
 /// The most octets of an attribute of a stream.

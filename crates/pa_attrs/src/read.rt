@@ -2,20 +2,22 @@
 
 ghost use Rattle.std.specs.Prelude.{◌≡◌, ◌==◌, ◌&&◌, not, ◌≤◌, ◌+◌, ◌∷◌, ◌++◌, ◌<◌, ◌^◌, [], drop, length, filter, OnOk, OnErr, IfOk};
 ghost use Rattle.std.specs.List.{list_any};
-ghost use Rattle.pa_attrs.specs.Header.{attr_of, header_of};
+ghost use Rattle.pa_attrs.specs.Header.{attr_of, header_of, read_start};
 ghost use Rattle.pa_attrs.specs.MessageReading.{Answers, AreSupported, LieWithin, OnRead, Reads, attributes, attrs_of, fault_of, first_octets, first_told, is_answered, is_error, message_of, placed, supports, value_fault};
 ghost use Rattle.pa_attrs.specs.Numbers.{ERROR as ERROR_TYPE, HEADER, IETF as IETF_VENDOR, MESSAGE_HEADER, MOST_ATTRIBUTES as MOST_COUNT, MOST_OCTETS};
+ghost use Rattle.wire_base.specs.Reading.{GivesExactly, value_alone};
 
 use crate::attr::{Attr, PlacedAttr, PlacedAttrs};
-use crate::fault::{AttrFault, PaFault, is_supported, message_header};
+use crate::error_code::PaErrorCode;
+use crate::fault::{AttrFault, PaFault};
 use crate::header::Header;
+use crate::header_fault::{is_supported, message_header};
 use crate::numbers::{
     ERROR, HEADER_OCTETS, IETF, INVALID_PARAMETER, MESSAGE_HEADER_OCTETS, MOST_ATTRIBUTES,
-    UNSUPPORTED_ATTRIBUTE, VERSION, VERSION_NOT_SUPPORTED,
+    UNSUPPORTED_ATTRIBUTE, VERSION,
 };
-use crate::refused::Refused;
 use std::alloc::Global;
-use wire_base::{List, Memory, u32_at};
+use wire_base::{Cursor, FieldRefused, List, Memory, Refused};
 
 /// What the octets of a message are read as.
 #[derive(Debug, Drop)]
@@ -29,15 +31,15 @@ pub enum PaRead {
     },
     /// A message with a fault, of which nothing is handed out.
     Refused(PaFault),
-    /// Want of memory.
+    /// Out of memory.
     Memory,
 }
 
 /// The message whose octets these are, all of them (RFC 5792, section 3.6).
 ///
-/// `supported` lists the types of vendor 0 that are supported. Other attributes are left out, but where one may not be
-/// passed over the message is refused. `Refused` comes exactly where the octets have no form of a message, or such an
-/// attribute; it has the first fault.
+/// `supported` lists the types of vendor 0 that are supported. Other attributes are left out, but
+/// where one may not be passed over the message is refused. `Refused` comes exactly where the
+/// octets have no form of a message, or such an attribute; it has the first fault.
 ///
 /// The attributes are at most 64. The value of each lies in the message.
 pub fn read_message(alloc: Global, bytes: &[u8], supported: &[u32]) -> PaRead
@@ -64,19 +66,30 @@ fn message(
     requires { length bytes.now ≤ MOST_OCTETS }
     ensures message { Answers result (message_of supported.now bytes.now) }
 {
-    if bytes.len() < MESSAGE_HEADER_OCTETS {
-        let fault = AttrFault::new(INVALID_PARAMETER, 0);
+    let Ok((version, id)) = message_start(Cursor::new(0, bytes)) else {
+        let fault = AttrFault::new(PaErrorCode::InvalidParameter, 0);
+        return Err(Refused::Fault(fault_of(bytes, true, 0, bytes, fault)));
+    };
+    if version != VERSION {
+        let fault = AttrFault::new(PaErrorCode::VersionNotSupported, 0);
         return Err(Refused::Fault(fault_of(bytes, true, 0, bytes, fault)));
     }
-    if bytes[0] != VERSION {
-        let fault = AttrFault::new(VERSION_NOT_SUPPORTED, 0);
-        return Err(Refused::Fault(fault_of(bytes, true, 0, bytes, fault)));
-    }
-    let attrs = attributes(alloc, bytes, supported)?;
-    Ok((u32_at(bytes, 4), attrs))
+    let kept = attributes(alloc, bytes, supported)?;
+    Ok((id, kept))
 }
 
-/// The attributes of a message that are supported, or the first fault behind its header.
+/// The version of a message and its identifier, which its header has (RFC 5792, section 3.6).
+#[tactic(auto, unfolding(crate::specs::Header::read_start))]
+fn message_start(mut cursor: Cursor) -> Result<(u8, u32), FieldRefused>
+    ensures start { GivesExactly (λ read. read) result (value_alone (read_start cursor.entry)) }
+{
+    let version = cursor.u8()?;
+    cursor.octets(3)?; // reserved
+    let id = cursor.u32()?;
+    Ok((version, id))
+}
+
+/// The attributes of a message that are supported, or the first fault after its header.
 fn attributes(
     alloc: Global,
     bytes: &[u8],
@@ -109,8 +122,8 @@ fn attributes(
     Ok(attrs)
 }
 
-/// Puts the attribute with the header that stands first in the octets, which begin at `at`, behind the others, if it is
-/// supported.
+/// Puts the attribute with the header that stands first in the octets, which begin at `at`, after
+/// the others, if it is supported.
 fn keep(
     alloc: Global,
     supported: &[u32],
@@ -122,7 +135,7 @@ fn keep(
     requires least { HEADER ≤ header.octets }
     requires within { header.octets ≤ length octets.now }
     requires places { at + HEADER < 2 ^ 32 }
-    ensures kept { OnOk result (attrs.new ≡ attrs.old ++ filter (supports supported.now) (placed at header octets.now ∷ [])) }
+    ensures appended { OnOk result (attrs.new ≡ attrs.old ++ filter (supports supported.now) (placed at header octets.now ∷ [])) }
 {
     if !is_supported(supported, header.vendor, header.kind) {
         return Ok(());
@@ -140,25 +153,26 @@ fn keep(
     })
 }
 
-/// Whether a fault behind the attribute is told to the sender, where one before it was to be.
+/// Whether a fault after the attribute is reported to the sender, where one before it was to be.
 fn is_still_answered(answer: bool, header: Header) -> bool
     ensures answer { result ≡ answer && not ((header.vendor == IETF_VENDOR) && (header.kind == ERROR_TYPE)) }
 {
     answer && !(header.vendor == IETF && header.kind == ERROR)
 }
 
-/// Whether the sender is told of a fault in the value of an attribute, where these are all attributes of its message: none of
-/// them is a PA-TNC Error, since no Error answers an Error (RFC 5792, section 4.2.8). A message that was read has its Errors
-/// among them where their type is one of those that are supported. It takes no memory.
+/// Whether the sender is informed of a fault in the value of an attribute, where these are all
+/// attributes of its message: none of them is a PA-TNC Error, since no Error answers an Error
+/// (RFC 5792, section 4.2.8). A message that was read has its Errors among them where their type is
+/// one of those that are supported. It takes no memory.
 pub fn is_value_fault_answered(attrs: &[PlacedAttr]) -> bool
     ensures answered { result ≡ is_answered attrs.now }
 {
     !has_error(attrs)
 }
 
-/// The fault of a value in the message whose octets and attributes these are (RFC 5792, section
-/// 4.2.8.1): an invalid parameter at `offset`, which is counted from the start of the message. It is
-/// answered as `is_value_fault_answered` says. It takes no memory.
+/// The fault of a value in the message whose octets and attributes these are (RFC 5792,
+/// section 4.2.8.1): an invalid parameter at `offset`, which is counted from the start of the
+/// message. It is answered as `is_value_fault_answered` says. It takes no memory.
 pub fn value_fault(bytes: &[u8], attrs: &[PlacedAttr], offset: u32) -> PaFault
     ensures fault { result ≡ value_fault bytes.now attrs.now offset }
 {

@@ -1,19 +1,19 @@
 //! Writing messages.
 
-ghost use Rattle.std.specs.Prelude.{◌≡◌, ◌+◌, ◌<◌, ◌≤◌, ◌^◌, ◌++◌, ◌∷◌, [], length, IfOk, OnOk};
+ghost use Rattle.std.specs.Prelude.{◌≡◌, ◌+◌, ◌<◌, ◌≤◌, ◌^◌, ◌++◌, length, IfOk, OnOk};
 ghost use Rattle.std.specs.List.{AllByRecursion};
 ghost use Rattle.pa_attrs.specs.AttrForm.{IsNamed, attr_fields};
 ghost use Rattle.pa_attrs.specs.MessageForm.{message_octets, written_message};
-ghost use Rattle.pa_attrs.specs.Numbers.{HEADER, MOST_ATTRIBUTES, MOST_OCTETS, NOSKIP as NOSKIP_FLAG};
-ghost use Rattle.wire_base.specs.Written.{flags_octet, written};
+ghost use Rattle.pa_attrs.specs.Numbers.{HEADER, MOST_ATTRIBUTES, MOST_OCTETS};
+ghost use Rattle.wire_base.specs.Written.{written};
 
 use crate::attr::{Attr, PaMessage};
 use crate::numbers::{HEADER_OCTETS, NOSKIP, VERSION};
 use std::alloc::Global;
-use wire_base::{List, Memory, Octets, put_u8, put_u24, put_u32};
+use wire_base::{List, Memory, Octets, flag, put_u8, put_u24, put_u32};
 
-/// The octets of a message (RFC 5792, section 3.6): its one written form, with 0 in what is reserved and in the flags
-/// other than NOSKIP.
+/// The octets of a message (RFC 5792, section 3.6): its one written form, with 0 in what is
+/// reserved and in the flags other than NOSKIP.
 #[tactic(auto, unfolding(wire_base::specs::Written::written))]
 pub fn write_message(alloc: Global, message: &PaMessage) -> Result<Octets, Memory>
     requires named { AllByRecursion IsNamed message.now.attrs }
@@ -38,16 +38,9 @@ fn put_attr(out: &mut Octets, attr: &Attr) -> Result<(), Memory>
     requires len { HEADER + length attr.now.value < 2 ^ 32 }
     ensures appended { OnOk result (out.new ≡ out.old ++ written (attr_fields attr.now)) }
 {
-    out.push(flags_of(attr.noskip))?;
+    out.push(flag(attr.noskip, NOSKIP))?;
     put_u24(out, attr.vendor)?;
     put_u32(out, attr.kind)?;
     put_u32(out, (HEADER_OCTETS + attr.value.len()) as u32)?;
     out.extend(attr.value.as_slice())
-}
-
-/// The octet of flags of an attribute.
-fn flags_of(noskip: bool) -> u8
-    ensures flags { result ≡ flags_octet ((NOSKIP_FLAG, noskip) ∷ []) }
-{
-    if noskip { NOSKIP } else { 0 }
 }

@@ -1,22 +1,26 @@
--- Octets that are found to begin with a batch have its form in front, and octets in its form are found to begin with it.
+-- Octets that are found to begin with a batch have its form before, and octets in its form are
+-- found to begin with it.
 use Rattle.std.proofs.Common.{◌≡◌, ℕ, ◌-◌, ◌+◌, ◌%◌, ◌≤◌, ◌<◌, Bool, true, false, cond, eqb, ltb, is_none, List, [], ◌∷◌, ◌++◌, length, take, drop, get_or, slice_range, unwrap_or, Result, Ok, Option, Some, None, refl, sym, ap, subst, ◌∙◌, arith, length-append}
 use Rattle.std.proofs.lemmas.Bool.{eqb-true, ltb-false, le-ltb, eq-eqb, or_parts, or_from, not-false, not_from_true}
 use Rattle.std.proofs.lemmas.List.{take-append-drop, length-take-le, drop_more}
 use Rattle.wire_base.specs.Numbers.{number_of}
 use Rattle.wire_base.specs.Layout.{AreOctets, Form, is_set}
+use Rattle.wire_base.specs.FaultTable.{first_shown, unless}
+use Rattle.wire_base.specs.Feeding.{Whole}
 use Rattle.pb_batch.specs.declared.batch.Batch.{Batch}
 use Rattle.pb_batch.specs.declared.batch.Message.{Message}
 use Rattle.pb_batch.specs.declared.kind.BatchKind.{BatchKind}
 use Rattle.pb_batch.specs.declared.kind.BatchKind.TheVariants.{Cdata, Sdata, Outcome, Cretry, Sretry, Close}
 use Rattle.pb_batch.specs.declared.fault.PbFault.{PbFault}
-use Rattle.pb_batch.specs.declared.header.Header.{Header}
+use Rattle.pb_batch.specs.declared.batch_header.Header.{Header}
 use Rattle.pb_batch.specs.Types.{kind_of, number_of_kind}
 use Rattle.pb_batch.specs.Form.{FLAG, BatchForm, batch_octets, header_fields}
-use Rattle.pb_batch.specs.Faults.{first_fault, number, header_rows, batch_length, differ}
-use Rattle.pb_batch.specs.Front.{Whole, front_of, whole_front, header_in, header_of, messages_of, unless}
+use Rattle.pb_batch.specs.Faults.{number, header_rows, batch_length, differ}
+use Rattle.pb_batch.specs.Front.{batches, front_of, header_in, header_of, messages_of}
 use Rattle.pb_batch.specs.Shown.{Begins}
-use Rattle.pb_batch.proofs.Rows.{unless_ok, none_show, show_none}
-use Rattle.pb_batch.proofs.Fronts.{Seen, Short, Refused, Waits, Full, seen, WholeOf, whole_of, front_full}
+use Rattle.wire_base.proofs.FaultTables.{unless_ok, none_show, show_none}
+use Rattle.wire_base.proofs.Fronts.{Seen, Short, Torn, Waits, Full}
+use Rattle.pb_batch.proofs.Fronts.{whole_front, seen, WholeOf, whole_of, front_full}
 use Rattle.pb_batch.proofs.Fields.{Stands, length-between, between_split, AreOctets-between, number_forth, flags_forth, reserved_forth, end_forth, number_back, flags_back, reserved_back, end_back}
 use Rattle.pb_batch.proofs.Heads.{placed}
 use Rattle.pb_batch.proofs.MessageLists.{forms_length, messages_forth, messages_back}
@@ -70,14 +74,14 @@ number_kind Close = refl
 
 -- ---- a batch that is found has its form
 
--- The octets up to a place are those in front.
+-- The octets up to a place are those before.
 from_start : (octets : List ℕ) (n : ℕ) → slice_range octets 0 n ≡ take n octets
 from_start octets n = let all : n - 0 ≡ n = omega arith in ap (λ (k : ℕ). take k octets) all
 
 form_of : (s : Bool) (octets : List ℕ) (b : Batch) (n : ℕ) (h : Header) → AreOctets octets → 8 ≤ length octets → header_of s octets ≡ Ok h → h.octets ≤ length octets
     → WholeOf s h (messages_of 64 8 (slice_range octets 8 h.octets)) b n → Begins s octets b n
 form_of s octets b n h are long ok all w =
-    let o = unless_ok (first_fault (header_rows s octets)) (header_in octets) h ok in
+    let o = unless_ok (first_shown (header_rows s octets)) (header_in octets) h ok in
     let none = none_show (header_rows s octets) o.0 in
     let lengths = or_parts (ltb (batch_length octets) 8) (ltb 16777216 (batch_length octets)) none.1.1.1.0 in
     let count : batch_length octets ≡ n = ap (λ (x : Header). x.octets) o.1 ∙ w.octets in
@@ -116,9 +120,9 @@ form_of s octets b n h are long ok all w =
       };
     }
 
-whole_forth_by : (s : Bool) (octets : List ℕ) (b : Batch) (n : ℕ) → AreOctets octets → Seen s octets (front_of s octets) → front_of s octets ≡ Whole b n → Begins s octets b n
+whole_forth_by : (s : Bool) (octets : List ℕ) (b : Batch) (n : ℕ) → AreOctets octets → Seen (batches s) octets (front_of s octets) → front_of s octets ≡ Whole b n → Begins s octets b n
 whole_forth_by s octets b n are (Short short is) e = absurd cc
-whole_forth_by s octets b n are (Refused f long err is) e = absurd cc
+whole_forth_by s octets b n are (Torn f long err is) e = absurd cc
 whole_forth_by s octets b n are (Waits h long ok short is) e = absurd cc
 whole_forth_by s octets b n are (Full h long ok all is) e = form_of s octets b n h are long ok all (whole_of s h (messages_of 64 8 (slice_range octets 8 h.octets)) b n (sym is ∙ e))
 

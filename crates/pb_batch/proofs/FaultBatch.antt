@@ -1,4 +1,4 @@
--- The batch that tells a fault can be written.
+-- The batch that reports a fault can be written.
 use Rattle.std.proofs.Common.{ℕ, ◌≤◌, Bool, true, false, cond, eqb, [], ◌∷◌, length, inl, inr, arith}
 use Rattle.std.proofs.lemmas.List.Elements.{All-cons, All-nil}
 use Rattle.pb_batch.specs.declared.batch.Message.TheVariants.{Error}
@@ -8,7 +8,7 @@ use Rattle.pb_batch.specs.Written.{IsBatch, IsTold, error_info, fault_batch_of}
 use Rattle.wire_base.specs.Numbers.{octets_of}
 use Rattle.wire_base.proofs.Spelled.{length-octets_of}
 
--- It is told with 4 octets at most.
+-- It is reported with 4 octets at most.
 choice_short : (none version : Bool) (f : PbFault) → length (cond none [] (cond version (f.version ∷ VERSION ∷ VERSION ∷ 0 ∷ []) (octets_of 4 f.offset))) ≤ 4
 choice_short true version f = omega arith
 choice_short false true f = omega arith

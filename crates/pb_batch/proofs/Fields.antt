@@ -34,7 +34,7 @@ one_between octets k there =
     let one : k + 1 - k ≡ 1 = omega arith in
     ap (λ (c : ℕ). take c (drop k octets)) one ∙ ap (λ (o : List ℕ). take 1 o) (drop_more octets k 0 there)
 
--- Two parts that are a part make its front and its rest.
+-- Two parts that are a part make its prefix and its rest.
 pub parts_of : (octets front rest : List ℕ) (k size n : ℕ) → n ≤ length octets → k ≤ n → length front ≡ size → slice_range octets k n ≡ front ++ rest
     → (k + size ≤ n) × (slice_range octets k (k + size) ≡ front) × (slice_range octets (k + size) n ≡ rest)
 parts_of octets front rest k size n there within len joined =

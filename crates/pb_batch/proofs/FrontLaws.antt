@@ -1,22 +1,23 @@
 -- What the tables of faults and the layout mean for octets that are handed to a feed.
 use Rattle.std.proofs.Common.{◌≡◌, ℕ, ◌≤◌, Bool, true, false, cond, IsTrue, List, [], ◌∷◌, ◌++◌, length, slice_range, get_or, Option, Some, Result, Ok, Err, ◌⊎◌, inl, inr, refl, sym, ap, subst, ◌∙◌, arith, length-append}
-use Rattle.std.specs.List.{AllByRecursion}
 use Rattle.std.proofs.lemmas.List.{append-nil, nil_from_length}
-use Rattle.std.proofs.lemmas.List.Elements.{All-from_recursion}
 use Rattle.wire_base.specs.Layout.{AreOctets, is_set}
+use Rattle.wire_base.specs.FaultTable.{first_shown, unless}
+use Rattle.wire_base.specs.Feeding.{More, Bad, Whole}
 use Rattle.pb_batch.specs.declared.batch.Batch.{Batch}
 use Rattle.pb_batch.specs.declared.batch.Message.{Message}
 use Rattle.pb_batch.specs.declared.fault.PbFault.{PbFault}
-use Rattle.pb_batch.specs.declared.header.Header.{Header}
+use Rattle.pb_batch.specs.declared.batch_header.Header.{Header}
 use Rattle.pb_batch.specs.declared.kind.MessageType.{MessageType}
 use Rattle.pb_batch.specs.declared.kind.MessageType.TheVariants as type
 use Rattle.pb_batch.specs.Form.{FLAG, MessagesForm}
-use Rattle.pb_batch.specs.Faults.{Row, first_fault, header_rows, message_rows, head_rows, value_rows, type_in, batch_length}
-use Rattle.pb_batch.specs.Front.{Front, More, Bad, Whole, front_of, whole_front, header_in, header_of, messages_of, unless}
-use Rattle.pb_batch.specs.Shown.{Begins, MessageFault, ShowsFault, WholeIsForm, BadIsFault, AreOneOfThree, FrontsStay, LengthsCount, NoneBeginsAnother, LowestCounts, WrittenIsRead}
+use Rattle.pb_batch.specs.Faults.{header_rows, message_rows, head_rows, value_rows, type_in, batch_length}
+use Rattle.pb_batch.specs.Front.{batches, Front, front_of, header_in, header_of, messages_of}
+use Rattle.pb_batch.specs.Shown.{Begins, MessageFault, ShowsFault, WholeIsForm, BadIsFault, AreOneOfThree, FrontsStay, LengthsCount, NoneBeginsAnother, LowestCounts, WrittenIsRead, place_of}
 use Rattle.pb_batch.specs.Written.{IsBatch, written}
-use Rattle.pb_batch.proofs.Rows.{unless_ok, unless_err}
-use Rattle.pb_batch.proofs.Fronts.{Seen, Short, Refused, Waits, Full, seen, whole_more, bad_more, whole_longer, front_refused, front_full}
+use Rattle.wire_base.proofs.FaultTables.{AreRising, first_is_lowest, unless_ok, unless_err}
+use Rattle.wire_base.proofs.Fronts.{Seen, Short, Torn, Waits, Full}
+use Rattle.pb_batch.proofs.Fronts.{whole_front, seen, whole_more, bad_more, whole_longer, front_refused, front_full}
 use Rattle.pb_batch.proofs.Fields.{AreOctets-between}
 use Rattle.pb_batch.proofs.MessageBack.{form_length}
 use Rattle.pb_batch.proofs.MessageLists.{faults_forth, faults_back, forms_valid}
@@ -35,15 +36,15 @@ full_bad : (s : Bool) (h : Header) (read : Result (List Message) PbFault) (f : P
 full_bad s h (Ok ms) f e = absurd cc
 full_bad s h (Err g) f e = let same : g ≡ f = cc in ap (λ (x : PbFault). Err x) same
 
-bad_forth_by : (s : Bool) (octets : List ℕ) (f : PbFault) → AreOctets octets → Seen s octets (front_of s octets) → front_of s octets ≡ Bad f → ShowsFault s octets f
+bad_forth_by : (s : Bool) (octets : List ℕ) (f : PbFault) → AreOctets octets → Seen (batches s) octets (front_of s octets) → front_of s octets ≡ Bad f → ShowsFault s octets f
 bad_forth_by s octets f are (Short short is) e = absurd cc
 bad_forth_by s octets f are (Waits h long ok short is) e = absurd cc
-bad_forth_by s octets f are (Refused g long err is) e =
+bad_forth_by s octets f are (Torn g long err is) e =
     let same : Bad g ≡ Bad f = sym is ∙ e in
     let one : g ≡ f = cc in
-    inl (record { long = long; row = unless_err (first_fault (header_rows s octets)) (header_in octets) g err ∙ ap (λ (x : PbFault). Some x) one })
+    inl (record { long = long; row = unless_err (first_shown (header_rows s octets)) (header_in octets) g err ∙ ap (λ (x : PbFault). Some x) one })
 bad_forth_by s octets f are (Full h long ok all is) e =
-    let o = unless_ok (first_fault (header_rows s octets)) (header_in octets) h ok in
+    let o = unless_ok (first_shown (header_rows s octets)) (header_in octets) h ok in
     let count : batch_length octets ≡ h.octets = ap (λ (x : Header). x.octets) o.1 in
     let read : messages_of 64 8 (slice_range octets 8 h.octets) ≡ Err f = full_bad s h (messages_of 64 8 (slice_range octets 8 h.octets)) f (sym is ∙ e) in
     let fault = faults_forth 64 8 (slice_range octets 8 h.octets) f (AreOctets-between octets 8 h.octets are) read in
@@ -132,38 +133,7 @@ fronts_stay s octets more = record { whole = whole_more s octets more; bad = bad
 
 -- ---- the lowest place counts
 
--- The rows of a table stand in the order of their places.
-abbrev Rising : ℕ → List Row → Type 0
-Rising low [] = Unit {0}
-Rising low (r ∷ rs) = (low ≤ r.fault.offset) × Rising r.fault.offset rs
-
-lower : (low place : ℕ) (rows : List Row) → low ≤ place → Rising place rows → Rising low rows
-lower low place [] le rising = tt
-lower low place (r ∷ rs) le rising = (omega (arith, le, rising.0), rising.1)
-
--- What is below the first place is below all.
-all_above : (low : ℕ) (rows : List Row) → Rising low rows → AllByRecursion (λ (r : Row). IsTrue r.shows → low ≤ r.fault.offset) rows
-all_above low [] rising = tt
-all_above low (r ∷ rs) rising = (λ shows. rising.0, all_above low rs (lower low r.fault.offset rs rising.0 rising.1))
-
--- The first row that shows, or one behind it.
-first_or_later : (shows : Bool) (g f : PbFault) (rest : Option PbFault) → cond shows (Some g) rest ≡ Some f → (g ≡ f) ⊎ ((shows ≡ false) × (rest ≡ Some f))
-first_or_later true g f rest e = inl cc
-first_or_later false g f rest e = inr (refl, e)
-
-not_shown : {A : Type 0} (shows : Bool) → shows ≡ false → IsTrue shows → A
-not_shown true hidden shown = absurd cc
-not_shown false hidden shown = absurd cc
-
-lowest : (low : ℕ) (rows : List Row) (f : PbFault) → Rising low rows → first_fault rows ≡ Some f → AllByRecursion (λ (r : Row). IsTrue r.shows → f.offset ≤ r.fault.offset) rows
-lowest low [] f rising e = tt
-lowest low (r ∷ rs) f rising e =
-    elim (first_or_later r.shows r.fault f (first_fault rs) e) [
-      | inl is ↦ subst (λ (g : PbFault). AllByRecursion (λ (r : Row). IsTrue r.shows → g.offset ≤ r.fault.offset) (r ∷ rs)) is (λ shows. omega arith, all_above r.fault.offset rs rising.1)
-      | inr later ↦ (λ shows. not_shown r.shows later.0 shows, lowest r.fault.offset rs f rising.1 later.1)
-    ]
-
-message_rising : (t : MessageType) (left place : ℕ) (rest : List ℕ) → Rising place (head_rows left place rest ++ value_rows t place rest)
+message_rising : (t : MessageType) (left place : ℕ) (rest : List ℕ) → AreRising place_of place (head_rows left place rest ++ value_rows t place rest)
 message_rising type.Pa left place rest = (omega arith, (omega arith, (omega arith, (omega arith, (omega arith, (omega arith, (omega arith, (omega arith, tt))))))))
 message_rising type.Assessment left place rest = (omega arith, (omega arith, (omega arith, (omega arith, (omega arith, (omega arith, (omega arith, tt)))))))
 message_rising type.Recommendation left place rest = (omega arith, (omega arith, (omega arith, (omega arith, (omega arith, (omega arith, (omega arith, tt)))))))
@@ -172,10 +142,8 @@ message_rising type.Other left place rest = (omega arith, (omega arith, (omega a
 
 pub lowest_counts : LowestCounts
 lowest_counts = record {
-  header = λ s octets f first. All-from_recursion (λ (r : Row). IsTrue r.shows → f.offset ≤ r.fault.offset) (header_rows s octets)
-      (lowest 0 (header_rows s octets) f (omega arith, (omega arith, (omega arith, (omega arith, tt)))) first);
-  message = λ left place rest f first. All-from_recursion (λ (r : Row). IsTrue r.shows → f.offset ≤ r.fault.offset) (message_rows left place rest)
-      (lowest place (message_rows left place rest) f (message_rising (type_in rest) left place rest) first);
+  header = λ s octets f first. first_is_lowest place_of 0 (header_rows s octets) f (omega arith, (omega arith, (omega arith, (omega arith, tt)))) first;
+  message = λ left place rest f first. first_is_lowest place_of place (message_rows left place rest) f (message_rising (type_in rest) left place rest) first;
 }
 
 -- ---- what is written

@@ -4,15 +4,16 @@ use Rattle.std.proofs.lemmas.Bool.{ltb-false, le-ltb, or_parts, not-false, eqb-t
 use Rattle.std.proofs.lemmas.List.{take_at}
 use Rattle.wire_base.specs.Layout.{AreOctets}
 use Rattle.wire_base.proofs.Spelled.{number_of-below}
+use Rattle.wire_base.specs.FaultTable.{first_shown, unless}
 use Rattle.pb_batch.specs.declared.kind.MessageType.{MessageType}
 use Rattle.pb_batch.specs.declared.kind.MessageType.TheVariants as type
-use Rattle.pb_batch.specs.declared.message.MessageHead.{MessageHead}
+use Rattle.pb_batch.specs.declared.message_head.MessageHead.{MessageHead}
 use Rattle.pb_batch.specs.declared.fault.PbFault.{PbFault}
 use Rattle.pb_batch.specs.Types.{type_of, is_known}
 use Rattle.pb_batch.specs.Form.{NO_VENDOR, NO_TYPE}
-use Rattle.pb_batch.specs.Faults.{first_fault, number, head_rows, noskip_in, vendor_in, kind_in, length_in, type_in, may_have}
-use Rattle.pb_batch.specs.Front.{unless, head_in, head_of}
-use Rattle.pb_batch.proofs.Rows.{unless_ok, none_show, show_none}
+use Rattle.pb_batch.specs.Faults.{number, head_rows, noskip_in, vendor_in, kind_in, length_in, type_in, may_have}
+use Rattle.pb_batch.specs.Front.{head_in, head_of}
+use Rattle.wire_base.proofs.FaultTables.{unless_ok, none_show, show_none}
 use Rattle.pb_batch.proofs.Fields.{length-between, AreOctets-between, parts_of}
 
 -- What holds of the head of a message in which no fault shows.
@@ -26,7 +27,7 @@ pub record HeadIs (rest : List ℕ) : Type 0 where
 
 pub head_is : (left place : ℕ) (rest : List ℕ) (h : MessageHead) → head_of left place rest ≡ Ok h → HeadIs rest
 head_is left place rest h ok =
-    let o = unless_ok (first_fault (head_rows left place rest)) (head_in rest) h ok in
+    let o = unless_ok (first_shown (head_rows left place rest)) (head_in rest) h ok in
     let n = none_show (head_rows left place rest) o.0 in
     let last = or_parts (ltb (length rest) (length_in rest)) (not (may_have (type_in rest) (length_in rest))) n.1.1.1.1.1.0 in
     record {
@@ -97,7 +98,7 @@ type_error v k e = let c = chose_error (eqb v 0) (eqb k 1) (eqb k 2) (eqb k 3) (
 
 -- ---- numbers
 
--- A number of so many octets is below its limit.
+-- A number of that many octets is below its limit.
 pub number_below : (size k : ℕ) (octets : List ℕ) → AreOctets octets → k + size ≤ length octets → number octets k size < 256 ^ size
 number_below size k octets are there = number_of-below size (slice_range octets k (k + size)) (length-between octets k (k + size) there ∙ omega arith) (AreOctets-between octets k (k + size) are)
 
@@ -107,11 +108,11 @@ below_last v last below other = let ne : v ≡ last → ⊥ = eqb-false v last o
 
 -- ---- a message in its place
 
--- What stands in front of other octets.
+-- What stands before other octets.
 pub front_between : (front more : List ℕ) → slice_range (front ++ more) 0 (length front) ≡ front
 front_between front more = take_at front more (length front - 0) (omega arith)
 
--- The fields and the body of a message that stands in front.
+-- The fields and the body of a message that stands first.
 pub record Placed (rest head body : List ℕ) (count : ℕ) : Type 0 where
   pub within : length head ≤ count
   pub there : count ≤ length rest

@@ -1,8 +1,8 @@
-pub mod Rows
 pub mod Reading
 pub mod Fronts
 pub mod Growing
 pub mod Fields
+pub mod FieldsRead
 pub mod FaultBatch
 pub mod Heads
 pub mod MessageForms

@@ -2,6 +2,7 @@
 use Rattle.std.proofs.Common.{◌≡◌, ℕ, ◌+◌, ◌≤◌, ◌<◌, Bool, true, false, ◌&&◌, not, ltb, IsTrue, List, [], ◌∷◌, ◌++◌, length, get_or, slice_range, Ok, Option, refl, sym, ap, subst, ◌∙◌, arith, length-append}
 use Rattle.std.proofs.lemmas.Bool.{le-ltb, le-leb, eq-eqb, ne_eqb, or_from, and_right, not_from_true}
 use Rattle.wire_base.specs.Layout.{Field, Number, Flags, AreFlags, Form, is_set}
+use Rattle.wire_base.specs.FaultTable.{unless}
 use Rattle.pb_batch.specs.declared.batch.Message.{Message}
 use Rattle.pb_batch.specs.declared.batch.Message.TheVariants.{Pa, Assessment, Recommendation, Error, Frame}
 use Rattle.pb_batch.specs.declared.kind.MessageType.{MessageType}
@@ -10,18 +11,18 @@ use Rattle.pb_batch.specs.declared.fault.PbFault.{PbFault}
 use Rattle.pb_batch.specs.Types.{type_of, is_known}
 use Rattle.pb_batch.specs.Form.{NO_VENDOR, NO_TYPE, FLAG, MessageForm, message_fields, read_flags, body_of, message_octets}
 use Rattle.pb_batch.specs.Faults.{number, noskip_in, vendor_in, kind_in, length_in, type_in, may_have, value_rows}
-use Rattle.pb_batch.specs.Front.{unless, message_of_type, value_of}
-use Rattle.pb_batch.proofs.Rows.{NoneShow, show_none}
+use Rattle.pb_batch.specs.Front.{message_of_type, value_of}
+use Rattle.wire_base.proofs.FaultTables.{NoneShow, show_none}
 use Rattle.pb_batch.proofs.Fields.{Stands, number_back, flags_back, reserved_back, end_back}
 use Rattle.pb_batch.proofs.Heads.{HeadIs, placed}
 
--- What is read where a message stands in front of octets.
+-- What is read where a message stands before octets.
 pub record Found (m : Message) (rest : List ℕ) (count : ℕ) : Type 0 where
   pub head : HeadIs rest
   pub len : length_in rest ≡ count
   pub value : (place : ℕ) → value_of place rest (type_in rest) ≡ Ok m
 
--- The fields of the head, and those behind them.
+-- The fields of the head, and those after them.
 record HeadFields (flags : List (ℕ × Bool)) (vendor kind count : ℕ) (rest : List ℕ) (fields : List Field) (n : ℕ) : Type 0 where
   long : 12 ≤ n
   flagged : AreFlags (get_or rest 0 0) flags
@@ -39,7 +40,7 @@ head_back there stands =
     let d = number_back there c.0 c.3 in
     record { long = d.0; flagged = a.1; is_vendor = b.1; is_kind = c.1; is_count = d.1; behind = d.3 }
 
--- The fields of a message that stands in front of octets.
+-- The fields of a message that stands before octets.
 fields_there : {m : Message} {front : List ℕ} (more : List ℕ) (form : MessageForm m front) → Stands (front ++ more) (message_fields (read_flags m) m) 0 (length form.head)
 fields_there {m = m} {front = front} more form =
     let p = placed front more form.head (body_of m) form.joined in

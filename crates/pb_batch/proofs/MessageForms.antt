@@ -1,26 +1,28 @@
--- What a message without a fault is read as has the message's form, and what has the form is read as the message.
+-- What a message without a fault is read as has the message's form, and what has the form is read
+-- as the message.
 use Rattle.std.proofs.Common.{◌≡◌, ℕ, ◌+◌, ◌≤◌, ◌<◌, Bool, true, false, ◌&&◌, not, ltb, IsTrue, List, [], ◌∷◌, length, get_or, slice_range, Ok, refl, sym, ap, subst, ◌∙◌, arith}
 use Rattle.std.proofs.lemmas.Bool.{ltb-false, leb-true, eqb-true, or_parts}
 use Rattle.std.proofs.lemmas.List.{append-nil}
 use Rattle.wire_base.specs.Layout.{AreOctets, Field, Number, Flags, AreFlags, is_set}
+use Rattle.wire_base.specs.FaultTable.{first_shown}
 use Rattle.pb_batch.specs.declared.batch.Message.{Message}
 use Rattle.pb_batch.specs.declared.kind.MessageType.{MessageType}
 use Rattle.pb_batch.specs.declared.kind.MessageType.TheVariants as type
 use Rattle.pb_batch.specs.Types.{is_known}
 use Rattle.pb_batch.specs.Form.{NO_VENDOR, NO_TYPE, FLAG, MessageForm}
-use Rattle.pb_batch.specs.Faults.{first_fault, number, noskip_in, vendor_in, kind_in, length_in, type_in, may_have, value_rows}
+use Rattle.pb_batch.specs.Faults.{number, noskip_in, vendor_in, kind_in, length_in, type_in, may_have, value_rows}
 use Rattle.pb_batch.specs.Front.{message_of_type, value_of}
-use Rattle.pb_batch.proofs.Rows.{NoneShow, unless_ok, none_show}
+use Rattle.wire_base.proofs.FaultTables.{NoneShow, unless_ok, none_show}
 use Rattle.pb_batch.proofs.Fields.{Stands, length-between, between_split, number_forth, flags_forth, reserved_forth, end_forth}
 use Rattle.pb_batch.proofs.Heads.{HeadIs, type_pa, type_assessment, type_recommendation, type_error, number_below, below_last}
 
 -- ---- what is read has the form
 
--- A message of at least so many octets has the rest behind them.
+-- A message of at least that many octets has the rest after them.
 behind_fields : (rest : List ℕ) (fields count : ℕ) → fields ≤ count → count ≤ length rest → fields + length (slice_range rest fields count) ≡ count
 behind_fields rest fields count least there = omega (arith, least, length-between rest fields count there)
 
--- The fields of the head, and those behind them.
+-- The fields of the head, and those after them.
 head_forth : {vendor kind count n : ℕ} {rest : List ℕ} {fields : List Field} (flags : List (ℕ × Bool)) → AreOctets rest → n ≤ length rest → 12 ≤ n
     → AreFlags (get_or rest 0 0) flags → vendor_in rest ≡ vendor → kind_in rest ≡ kind → length_in rest ≡ count → Stands rest fields 12 n
     → Stands rest (Flags flags ∷ Number 3 vendor ∷ Number 4 kind ∷ Number 4 count ∷ fields) 0 n
@@ -129,5 +131,5 @@ message_forth_by type.Other place rest are h is none = other_forth rest are h is
 -- A message without a fault has its form.
 pub message_forth : (place : ℕ) (rest : List ℕ) (m : Message) → AreOctets rest → HeadIs rest → value_of place rest (type_in rest) ≡ Ok m → MessageForm m (slice_range rest 0 (length_in rest))
 message_forth place rest m are h ok =
-    let o = unless_ok (first_fault (value_rows (type_in rest) place rest)) (message_of_type (type_in rest) rest) m ok in
+    let o = unless_ok (first_shown (value_rows (type_in rest) place rest)) (message_of_type (type_in rest) rest) m ok in
     subst (λ (x : Message). MessageForm x (slice_range rest 0 (length_in rest))) o.1 (message_forth_by (type_in rest) place rest are h refl (none_show (value_rows (type_in rest) place rest) o.0))

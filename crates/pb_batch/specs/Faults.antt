@@ -1,6 +1,8 @@
--- The faults of a batch, as tables: a row for each, with the code of RFC 5793, section 4.9.1, and the place. The rows of a
--- table stand in the order of their places, so the first that shows has the lowest place, and is the first of those there.
-use Rattle.std.specs.Prelude.{◌==◌, ◌&&◌, ◌||◌, ◌+◌, ◌%◌, ℕ, Bool, not, List, [], ◌∷◌, ◌++◌, Option, Some, None, is_none, length, slice_index, slice_range, nat_lt, nat_le, if◌then◌else◌}
+-- The faults of a batch, as tables: a row for each, with the code of RFC 5793, section 4.9.1, and
+-- the place. The rows of a table stand in the order of their places, so the first that shows has
+-- the lowest place, and is the first of those there.
+use Rattle.std.specs.Prelude.{◌==◌, ◌&&◌, ◌||◌, ◌+◌, ◌%◌, ℕ, Bool, not, List, [], ◌∷◌, ◌++◌, is_none, length, slice_index, slice_range, nat_lt, nat_le, if◌then◌else◌}
+use Rattle.wire_base.specs.FaultTable.{Row}
 use Rattle.wire_base.specs.Numbers.{number_of}
 use Rattle.wire_base.specs.Layout.{is_set}
 use Rattle.pb_batch.specs.declared.fault.PbFault.{PbFault}
@@ -9,7 +11,8 @@ use Rattle.pb_batch.specs.declared.kind.MessageType.TheVariants as type
 use Rattle.pb_batch.specs.Types.{kind_of, type_of, is_known}
 use Rattle.pb_batch.specs.Form.{VERSION, HEADER_OCTETS, BATCH_OCTETS, NO_VENDOR, NO_TYPE, FLAG}
 
--- The codes: Invalid Parameter, Unsupported Mandatory Message, Version Not Supported.
+-- The codes: Invalid Parameter, Unsupported Mandatory Message, Version Not Supported
+-- (`number_of_code`).
 abbrev pub INVALID_PARAMETER : ℕ
 INVALID_PARAMETER = 1
 
@@ -19,25 +22,15 @@ UNSUPPORTED_MESSAGE = 3
 abbrev pub VERSION_NOT_SUPPORTED : ℕ
 VERSION_NOT_SUPPORTED = 4
 
--- A row: whether it shows, and the fault that it is.
-pub record Row : Type 0 where
-  pub shows : Bool
-  pub fault : PbFault
-
 -- The fault of a code at a place.
 abbrev pub fault : ℕ → ℕ → PbFault
 fault code place = record { code = code; offset = place; version = 0 }
 
 -- A row of a table: whether it shows, the code and the place.
-abbrev pub row : Bool → ℕ → ℕ → Row
+abbrev pub row : Bool → ℕ → ℕ → Row PbFault
 row shows code place = record { shows = shows; fault = fault code place }
 
--- The first row of a table that shows.
-abbrev pub first_fault : List Row → Option PbFault
-first_fault [] = None
-first_fault (r ∷ rs) = if r.shows then Some r.fault else first_fault rs
-
--- The number of so many octets from a place on.
+-- The number of that many octets from a place on.
 abbrev pub number : List ℕ → ℕ → ℕ → ℕ
 number octets place size = number_of (slice_range octets place (place + size))
 
@@ -51,8 +44,9 @@ differ a b = if a then not b else b
 abbrev pub batch_length : List ℕ → ℕ
 batch_length octets = number octets 4 4
 
--- The faults of a header, which show once its 8 octets are there. The direction is the one that is expected.
-abbrev pub header_rows : Bool → List ℕ → List Row
+-- The faults of a header, which show once its 8 octets are there. The direction is the one that is
+-- expected.
+abbrev pub header_rows : Bool → List ℕ → List (Row PbFault)
 header_rows from_server octets =
     record { shows = not (slice_index octets 0 == VERSION); fault = record { code = VERSION_NOT_SUPPORTED; offset = 0; version = slice_index octets 0 } }
     ∷ row (differ (is_set (slice_index octets 1) FLAG) from_server) INVALID_PARAMETER 1
@@ -78,7 +72,7 @@ length_in rest = number rest 8 4
 abbrev pub type_in : List ℕ → MessageType
 type_in rest = type_of (vendor_in rest) (kind_in rest)
 
--- A message of the type may have so many octets.
+-- A message of the type may have that many octets.
 abbrev pub may_have : MessageType → ℕ → Bool
 may_have type.Pa count = nat_le 24 count
 may_have type.Assessment count = count == 16
@@ -86,9 +80,9 @@ may_have type.Recommendation count = count == 16
 may_have type.Error count = nat_le 20 count
 may_have type.Other count = nat_le 12 count
 
--- The faults of the head of a message that begins at the place, where `rest` is left of the batch and so many messages may
--- still come.
-abbrev pub head_rows : ℕ → ℕ → List ℕ → List Row
+-- The faults of the head of a message that begins at the place, where `rest` is left of the batch
+-- and that many messages may still come.
+abbrev pub head_rows : ℕ → ℕ → List ℕ → List (Row PbFault)
 head_rows left place rest =
     row (left == 0) INVALID_PARAMETER place
     ∷ row (nat_lt (length rest) 12) INVALID_PARAMETER place
@@ -99,7 +93,7 @@ head_rows left place rest =
     ∷ []
 
 -- The faults of the value, by the type.
-abbrev pub value_rows : MessageType → ℕ → List ℕ → List Row
+abbrev pub value_rows : MessageType → ℕ → List ℕ → List (Row PbFault)
 value_rows type.Pa place rest =
     row (number rest 13 3 == NO_VENDOR) INVALID_PARAMETER (place + 13)
     ∷ row (number rest 16 4 == NO_TYPE) INVALID_PARAMETER (place + 16)
@@ -114,5 +108,5 @@ value_rows type.Error place rest = []
 value_rows type.Other place rest = []
 
 -- All faults of a message, which show once the batch is whole.
-abbrev pub message_rows : ℕ → ℕ → List ℕ → List Row
+abbrev pub message_rows : ℕ → ℕ → List ℕ → List (Row PbFault)
 message_rows left place rest = head_rows left place rest ++ value_rows (type_in rest) place rest

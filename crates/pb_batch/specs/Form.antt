@@ -1,5 +1,5 @@
--- The layout of a batch and of its messages (RFC 5793, section 4): which octets are which value. Octets that are reserved
--- may be any, and so may the flags that are not read.
+-- The layout of a batch and of its messages (RFC 5793, section 4): which octets are which value.
+-- Octets that are reserved may be any, and so may the flags that are not read.
 use Rattle.std.specs.Prelude.{◌≡◌, ◌≤◌, ◌<◌, ◌+◌, ◌^◌, ◌%◌, ℕ, Bool, true, IsTrue, List, [], ◌∷◌, ◌++◌, length, sum_by}
 use Rattle.wire_base.specs.Layout.{Field, Number, Reserved, Flags, Form}
 use Rattle.pb_batch.specs.declared.batch.Batch.{Batch}
@@ -18,6 +18,10 @@ VERSION = 2
 abbrev pub HEADER_OCTETS : ℕ
 HEADER_OCTETS = 8
 
+-- The octets of a message before its value.
+abbrev pub MESSAGE_HEAD_OCTETS : ℕ
+MESSAGE_HEAD_OCTETS = 12
+
 -- The most octets of a batch.
 abbrev pub BATCH_OCTETS : ℕ
 BATCH_OCTETS = 16777216
@@ -33,8 +37,8 @@ NO_VENDOR = 0xffffff
 abbrev pub NO_TYPE : ℕ
 NO_TYPE = 0xffffffff
 
--- The highest bit of an octet: the flags SERVER of a batch, NOSKIP of a message, EXCL of a PB-PA message and FATAL of a
--- PB-Error.
+-- The highest bit of an octet: the flags SERVER of a batch, NOSKIP of a message, EXCL of a PB-PA
+-- message and FATAL of a PB-Error.
 abbrev pub FLAG : ℕ
 FLAG = 128
 
@@ -79,7 +83,7 @@ value_fields (Error fatal vendor code info) =
     ∷ []
 value_fields (Frame noskip vendor kind body) = []
 
--- The octets behind the fields.
+-- The octets after the fields.
 abbrev pub body_of : Message → List ℕ
 body_of (Pa excl vendor subtype collector validator body) = body
 body_of (Assessment result) = []
@@ -116,8 +120,8 @@ read_flags (Recommendation code) = []
 read_flags (Error fatal vendor code info) = []
 read_flags (Frame noskip vendor kind body) = (FLAG, noskip) ∷ []
 
--- What the numbers of a message may be. A message whose value is not looked at is of none of the types whose value is,
--- and has NOSKIP only on a type that a receiver has to know.
+-- What the numbers of a message may be. A message whose value is not looked at is of none of the
+-- types whose value is, and has NOSKIP only on a type that a receiver has to know.
 abbrev pub IsMessage : Message → Type 0
 IsMessage (Pa excl vendor subtype collector validator body) = (vendor < NO_VENDOR) × (subtype < NO_TYPE) × (collector < 2 ^ 16) × (validator < 2 ^ 16)
 IsMessage (Assessment result) = result ≤ 4
@@ -126,7 +130,7 @@ IsMessage (Error fatal vendor code info) = (vendor < 2 ^ 24) × (code < 2 ^ 16)
 IsMessage (Frame noskip vendor kind body) =
     (vendor < NO_VENDOR) × (kind < NO_TYPE) × (type_of vendor kind ≡ type.Other) × (noskip ≡ true → IsTrue (is_known vendor kind))
 
--- The octets are a message: its fields, and behind them its body.
+-- The octets are a message: its fields, and after them its body.
 pub record MessageForm (m : Message) (octets : List ℕ) : Type 0 where
   pub valid : IsMessage m
   pub head : List ℕ

@@ -1,6 +1,7 @@
 pub mod Types
 pub mod Form
 pub mod Faults
+pub mod FieldReading
 pub mod Front
 pub mod Gives
 pub mod Feeding

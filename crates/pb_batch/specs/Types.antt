@@ -1,5 +1,8 @@
--- The numbers of batch types (RFC 5793, section 4.1) and of message types (section 4.3).
+-- The numbers of batch types (RFC 5793, section 4.1), of message types (section 4.3) and of error
+-- codes (section 4.9.1).
 use Rattle.std.specs.Prelude.{◌==◌, ◌&&◌, ℕ, Bool, Option, Some, None, nat_lt, if◌then◌else◌}
+use Rattle.pb_batch.specs.declared.error_code.PbErrorCode.{PbErrorCode}
+use Rattle.pb_batch.specs.declared.error_code.PbErrorCode.TheVariants as code
 use Rattle.pb_batch.specs.declared.kind.BatchKind.{BatchKind}
 use Rattle.pb_batch.specs.declared.kind.BatchKind.TheVariants as batch
 use Rattle.pb_batch.specs.declared.kind.MessageType.{MessageType}
@@ -42,3 +45,11 @@ type_of vendor kind =
 -- The vendor and number of a type that a receiver has to know: those of the IETF from 1 to 7.
 abbrev pub is_known : ℕ → ℕ → Bool
 is_known vendor kind = (vendor == 0) && (nat_lt 0 kind && nat_lt kind 8)
+
+-- The number of an error code.
+abbrev pub number_of_code : PbErrorCode → ℕ
+number_of_code code.UnexpectedBatchType = 0
+number_of_code code.InvalidParameter = 1
+number_of_code code.LocalError = 2
+number_of_code code.UnsupportedMandatoryMessage = 3
+number_of_code code.VersionNotSupported = 4

@@ -1,5 +1,5 @@
--- What is written of a batch: its one written form. Of a layout of fields it is what is written of each, with 0 in all that
--- may be any.
+-- What is written of a batch: its one written form. Of a layout of fields it is what is written of
+-- each, with 0 in all that may be any.
 use Rattle.std.specs.Prelude.{◌≡◌, ◌≤◌, ◌==◌, ◌⊎◌, ℕ, Bool, true, false, List, [], ◌∷◌, ◌++◌, length, All, if◌then◌else◌}
 use Rattle.std.specs.List.{flat_map}
 use Rattle.wire_base.specs.Numbers.{octets_of}
@@ -10,7 +10,7 @@ use Rattle.pb_batch.specs.declared.batch.Message.{Message}
 use Rattle.pb_batch.specs.declared.batch.Message.TheVariants.{Pa, Assessment, Recommendation, Error, Frame}
 use Rattle.pb_batch.specs.declared.fault.PbFault.{PbFault}
 use Rattle.pb_batch.specs.declared.kind.BatchKind.TheVariants as batch
-use Rattle.pb_batch.specs.declared.message.MessageHead.{MessageHead}
+use Rattle.pb_batch.specs.declared.message_head.MessageHead.{MessageHead}
 use Rattle.pb_batch.specs.Types.{number_of_kind}
 use Rattle.pb_batch.specs.Form.{VERSION, BATCH_MESSAGES, BATCH_OCTETS, FLAG, IsMessage, vendor_of, number_of_type, message_octets, message_fields, header_fields, body_of, batch_octets}
 use Rattle.pb_batch.specs.Faults.{INVALID_PARAMETER, UNSUPPORTED_MESSAGE, VERSION_NOT_SUPPORTED}
@@ -48,19 +48,20 @@ pub record IsBatch (b : Batch) : Type 0 where
   pub few : length b.messages ≤ BATCH_MESSAGES
   pub short : batch_octets b ≤ BATCH_OCTETS
 
--- ---- the batch that tells a fault
+-- ---- the batch that reports a fault
 
--- The code is one of those that are told: Unexpected Batch Type, and those of faults (RFC 5793, section 4.9.1).
+-- The code is one of those that are reported: Unexpected Batch Type, and those of faults (RFC 5793,
+-- section 4.9.1).
 abbrev pub IsTold : ℕ → Type 0
 IsTold code = (code ≡ 0) ⊎ ((code ≡ INVALID_PARAMETER) ⊎ ((code ≡ UNSUPPORTED_MESSAGE) ⊎ (code ≡ VERSION_NOT_SUPPORTED)))
 
--- What the code is told with (section 4.9.2): the place of the fault; or the version that is not supported, and the highest
--- and the lowest that are.
+-- What the code is reported with (section 4.9.2): the place of the fault; or the version that is
+-- not supported, and the highest and the lowest that are.
 abbrev pub error_info : PbFault → List ℕ
 error_info f =
     if f.code == 0 then []
     else (if f.code == VERSION_NOT_SUPPORTED then f.version ∷ VERSION ∷ VERSION ∷ 0 ∷ [] else octets_of 4 f.offset)
 
--- The batch that tells a fault, and ends the session.
+-- The batch that reports a fault, and ends the session.
 abbrev pub fault_batch_of : Bool → PbFault → Batch
 fault_batch_of from_server f = record { from_server = from_server; kind = batch.Close; messages = Error true 0 f.code (error_info f) ∷ [] }

@@ -47,12 +47,13 @@ pub enum Message {
         vendor: u32,
         /// What the error is.
         code: u16,
-        /// The octets that the code is told with.
+        /// The octets that the code is reported with.
         info: Octets,
     },
     /// Any other message, whose value is not looked at.
     Frame {
-        /// Whether a receiver that does not know it may not pass it over. Then it is of the types 4, 6 and 7 of the IETF.
+        /// Whether a receiver that does not know it may not pass it over. Then it is of the types
+        /// 4, 6 and 7 of the IETF.
         noskip: bool,
         /// The vendor of the type, below 16777215.
         vendor: u32,

@@ -1,32 +1,22 @@
-//! What is wrong with a batch, and the batch that tells it to the peer.
+//! What is wrong with a batch.
 
-ghost use Rattle.std.specs.Prelude.{◌≡◌, ◌<◌, ◌^◌, IfOk, Result, Ok, Err};
+ghost use Rattle.std.specs.Prelude.{◌≡◌, ◌≢◌, MatchOption};
 ghost use Rattle.pb_batch.specs.Faults.{fault};
-ghost use Rattle.pb_batch.specs.Written.{IsTold, error_info, fault_batch_of, written};
-ghost use Rattle.pb_batch.specs.declared.fault.BatchRefused.TheVariants as refused;
+ghost use Rattle.pb_batch.specs.Gives.{refused_of};
+ghost use Rattle.pb_batch.specs.Types.{number_of_code};
+ghost use Rattle.pb_batch.specs.declared.error_code.PbErrorCode.{PbErrorCode as CodeValue};
+ghost use Rattle.wire_base.specs.declared.layout.field_refused.Refused.TheVariants as refused;
 
-use crate::batch::{Batch, Message};
-use crate::kind::BatchKind;
-use crate::write::write_batch;
-use std::alloc::Global;
-use wire_base::{List, Memory, Octets, put_u32};
-
-/// The code of a fault in a field (RFC 5793, section 4.9.1: Invalid Parameter).
-pub(crate) const INVALID_PARAMETER: u16 = 1;
-
-/// The code of a message that may not be passed over (Unsupported Mandatory Message).
-pub(crate) const UNSUPPORTED_MESSAGE: u16 = 3;
-
-/// The code of another version (Version Not Supported).
-pub(crate) const VERSION_NOT_SUPPORTED: u16 = 4;
-
-/// The version of PB-TNC.
-pub(crate) const VERSION: u8 = 2;
+use crate::error_code::PbErrorCode;
+use std::fmt;
+use thiserror::Error;
+use wire_base::{FieldRefused, Refused};
 
 /// A fault in a batch.
-#[derive(Clone, Copy, Debug, PartialEq, Eq)]
+#[derive(Clone, Copy, Debug, PartialEq, Eq, Error)]
 pub struct PbFault {
-    /// The code of the PB-Error that tells it (RFC 5793, section 4.9.1).
+    /// The number of the code of the PB-Error that reports it (RFC 5793, section 4.9.1).
+    /// `error_code` names the code.
     pub code: u16,
     /// The place of the fault, in octets from the start of the batch.
     pub offset: u32,
@@ -36,72 +26,57 @@ pub struct PbFault {
 
 impl PbFault {
     /// The fault of the code at a place.
-    pub(crate) fn at(code: u16, offset: u32) -> Self
-        ensures fault { result ≡ fault code offset }
+    pub(crate) fn at(code: PbErrorCode, offset: u32) -> Self
+        ensures fault { result ≡ fault (number_of_code code) offset }
     {
         PbFault {
-            code,
+            code: code.number(),
             offset,
             version: 0,
         }
     }
+
+    /// The code of the fault; `None` exactly where no code has the number, so never where a feed
+    /// reports the fault.
+    pub fn error_code(&self) -> Option<PbErrorCode>
+        ensures code { MatchOption result ((code : CodeValue) → number_of_code code ≢ self.now.code)
+            (λ code. number_of_code code ≡ self.now.code) }
+    {
+        PbErrorCode::from_number(self.code)
+    }
+}
+
+/// The name of the code, or its number where it has no name, and the place.
+impl fmt::Display for PbFault {
+    fn fmt<W: fmt::Write>(&self, f: &mut fmt::Formatter<W>) -> fmt::Result {
+        match self.error_code() {
+            Some(code) => write!(f, "{code}")?,
+            None => write!(f, "code {}", self.code)?,
+        }
+        write!(f, " at octet {}", self.offset)
+    }
 }
 
 /// Why octets are not read as a batch.
-#[derive(Clone, Copy, Debug, PartialEq, Eq)]
-pub(crate) enum BatchRefused {
-    /// They have a fault.
-    Fault(PbFault),
-    /// Want of memory.
-    Memory,
-}
+pub(crate) type BatchRefused = Refused<PbFault>;
 
-impl From<PbFault> for BatchRefused {
+impl From<PbFault> for Refused<PbFault> {
     ghost from_gives = { λ fault e. e ≡ refused.Fault fault };
 
     fn from(fault: PbFault) -> Self {
-        BatchRefused::Fault(fault)
+        Refused::Fault(fault)
     }
 }
 
-impl From<Memory> for BatchRefused {
-    ghost from_gives = { λ _ e. e ≡ refused.Memory };
-
-    fn from(_memory: Memory) -> Self {
-        BatchRefused::Memory
-    }
-}
-
-/// The octets of the CLOSE batch that tells the fault by one fatal PB-Error (RFC 5793, section 4.9).
-pub fn fault_batch(alloc: Global, from_server: bool, fault: &PbFault) -> Result<Octets, Memory>
-    requires code { IsTold fault.now.code }
-    ensures octets { IfOk result (λ made. made ≡ written (fault_batch_of from_server fault.now)) }
+/// Why a message is not read, where its value is not: every fault in a value is an invalid
+/// parameter.
+pub(crate) fn in_value(refused: FieldRefused) -> BatchRefused
+    ensures refused { result ≡ refused_of refused }
 {
-    let mut messages = List::new(alloc);
-    messages.push(Message::Error {
-        fatal: true,
-        vendor: 0,
-        code: fault.code,
-        info: fault_info(alloc, fault)?,
-    })?;
-    let batch = Batch {
-        from_server,
-        kind: BatchKind::Close,
-        messages,
-    };
-    write_batch(alloc, &batch)
-}
-
-/// The octets that the code of a fault is told with (RFC 5793, section 4.9.2).
-#[tactic(auto, unfolding(wire_base::specs::Numbers::octets_of))]
-fn fault_info(alloc: Global, fault: &PbFault) -> Result<Octets, Memory>
-    ensures info { IfOk result (λ made. made ≡ error_info fault.now) }
-{
-    let mut info = List::new(alloc);
-    match fault.code {
-        0 => {}
-        VERSION_NOT_SUPPORTED => info.extend(&[fault.version, VERSION, VERSION, 0])?,
-        _ => put_u32(&mut info, fault.offset)?,
+    match refused {
+        FieldRefused::Fault { offset } => {
+            Refused::Fault(PbFault::at(PbErrorCode::InvalidParameter, offset))
+        }
+        FieldRefused::Memory => Refused::Memory,
     }
-    Ok(info)
 }

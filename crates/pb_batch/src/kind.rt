@@ -22,7 +22,7 @@ pub enum BatchKind {
 
 impl BatchKind {
     /// The kind that the number of a batch type stands for; `None` where it is not 1 to 6.
-    pub(crate) fn of_number(number: u8) -> Option<Self>
+    pub(crate) fn from_number(number: u8) -> Option<Self>
         ensures kind { result ≡ kind_of number }
     {
         match number {
@@ -68,7 +68,7 @@ pub(crate) enum MessageType {
 
 impl MessageType {
     /// The type of a message of the vendor with the number `kind`.
-    pub(crate) fn of(vendor: u32, kind: u32) -> Self
+    pub(crate) fn from_numbers(vendor: u32, kind: u32) -> Self
         ensures kind { result ≡ type_of vendor kind }
     {
         match (vendor, kind) {

@@ -1,17 +1,18 @@
 //! Octets of batches.
 
-ghost use Rattle.std.specs.Prelude.{◌≡◌, ◌≤◌, ◌<◌, ◌^◌, ◌++◌, ◌∷◌, [], IfOk, OnOk};
+ghost use Rattle.std.specs.Prelude.{◌≡◌, ◌≤◌, ◌<◌, ◌^◌, ◌++◌, IfOk, OnOk};
 ghost use Rattle.pb_batch.specs.Form.{BATCH_OCTETS, IsMessage, batch_octets, body_of, message_octets, value_fields};
 ghost use Rattle.pb_batch.specs.Written.{IsBatch, head_of_message, written, written_head, written_header, written_message};
-ghost use Rattle.wire_base.specs.Written.{flags_octet, written as written_fields};
+ghost use Rattle.wire_base.specs.Written.{written as written_fields};
 
 use crate::batch::{Batch, Message};
-use crate::fault::VERSION;
-use crate::header::{HEADER, SERVER};
-use crate::message::{MESSAGE_HEAD, MessageHead, NOSKIP};
-use crate::value::{ERROR_FIELDS, EXCL, FATAL, PA_FIELDS};
+use crate::message_head::MessageHead;
+use crate::numbers::{
+    ASSESSMENT, ERROR_FIELDS, EXCL, FATAL, HEADER, IETF, MESSAGE_HEAD, NOSKIP, PA_FIELDS,
+    RECOMMENDATION, SERVER, VERSION,
+};
 use std::alloc::Global;
-use wire_base::{List, Memory, Octets, put_u8, put_u16, put_u24, put_u32};
+use wire_base::{List, Memory, Octets, flag, put_u8, put_u16, put_u24, put_u32};
 
 /// The octets of a batch: its one written form, with 0 in what is reserved.
 #[tactic(auto, unfolding(crate::specs::Written::written))]
@@ -28,7 +29,7 @@ pub fn write_batch(alloc: Global, batch: &Batch) -> Result<Octets, Memory>
     Ok(out)
 }
 
-/// The header of a batch of so many octets (RFC 5793, section 4.1).
+/// The header of a batch of that many octets (RFC 5793, section 4.1).
 #[tactic(auto, unfolding(wire_base::specs::Written::written))]
 fn put_header(out: &mut Octets, batch: &Batch, count: u32) -> Result<(), Memory>
     requires count { count ≡ batch_octets batch.now }
@@ -60,8 +61,8 @@ fn octets_of_message(message: &Message) -> u32
 {
     match message {
         Message::Pa { body, .. } => PA_FIELDS as u32 + body.len() as u32,
-        Message::Assessment(_) => 16,
-        Message::Recommendation(_) => 16,
+        Message::Assessment(_) => ASSESSMENT as u32,
+        Message::Recommendation(_) => RECOMMENDATION as u32,
         Message::Error { info, .. } => ERROR_FIELDS as u32 + info.len() as u32,
         Message::Frame { body, .. } => MESSAGE_HEAD as u32 + body.len() as u32,
     }
@@ -79,17 +80,18 @@ fn put_message(out: &mut Octets, message: &Message) -> Result<(), Memory>
     out.extend(body_of(message))
 }
 
-/// What stands in the message before its value. NOSKIP stands on what a receiver has to know to go on.
+/// What stands in the message before its value. NOSKIP stands on what a receiver has to know to go
+/// on.
 fn head_of(message: &Message) -> MessageHead
     requires short { message_octets message.now ≤ BATCH_OCTETS }
     ensures head { result ≡ head_of_message message.now }
 {
     let octets = octets_of_message(message);
     let (noskip, vendor, kind) = match message {
-        Message::Pa { .. } => (true, 0, 1),
-        Message::Assessment(_) => (true, 0, 2),
-        Message::Recommendation(_) => (false, 0, 3),
-        Message::Error { .. } => (true, 0, 5),
+        Message::Pa { .. } => (true, IETF, 1),
+        Message::Assessment(_) => (true, IETF, 2),
+        Message::Recommendation(_) => (false, IETF, 3),
+        Message::Error { .. } => (true, IETF, 5),
         Message::Frame {
             noskip,
             vendor,
@@ -158,7 +160,7 @@ fn put_value(out: &mut Octets, message: &Message) -> Result<(), Memory>
     }
 }
 
-/// The octets behind the fields.
+/// The octets after the fields.
 fn body_of(message: &Message) -> &[u8]
     ensures body { result.now ≡ body_of message.now }
 {
@@ -169,11 +171,4 @@ fn body_of(message: &Message) -> &[u8]
         Message::Error { info, .. } => info.as_slice(),
         Message::Frame { body, .. } => body.as_slice(),
     }
-}
-
-/// The bit, where it is set.
-fn flag(is_set: bool, bit: u8) -> u8
-    ensures octet { result ≡ flags_octet ((bit, is_set) ∷ []) }
-{
-    if is_set { bit } else { 0 }
 }

@@ -1,4 +1,5 @@
--- The worlds that are reached are those of a list, which is shown by trying every step from each of them.
+-- The worlds that are reached are those of a list, which is shown by trying every step from each of
+-- them.
 use Rattle.std.proofs.Common.{◌≡◌, ◌≢◌, ℕ, zero, suc, Bool, true, false, ◌&&◌, ◌||◌, eqb, List, [], ◌∷◌, ◌++◌, Option, Some, None, inl, inr, refl, sym, ap, ◌∙◌}
 use Rattle.std.proofs.lemmas.Bool.{and_parts, or_cases, eqb-true}
 use Rattle.pb_batch.specs.declared.kind.BatchKind.{BatchKind}
@@ -148,7 +149,7 @@ abbrev if_sent : Option State → (State → Bool) → Bool
 if_sent None test = true
 if_sent (Some next) test = test next
 
--- Where a batch is on its way, a test holds of it and of those behind it.
+-- Where a batch is on its way, a test holds of it and of those after it.
 abbrev if_first : List BatchKind → (BatchKind → List BatchKind → Bool) → Bool
 if_first [] test = true
 if_first (kind ∷ rest) test = test kind rest

@@ -1,5 +1,5 @@
--- The worlds that are reached, of which there are 81: for the states of both ends, what may be on its way to the client
--- and to the server. The steps from each of them lead to others of them.
+-- The worlds that are reached, of which there are 81: for the states of both ends, what may be on
+-- its way to the client and to the server. The steps from each of them lead to others of them.
 use Rattle.std.specs.Prelude.{List, [], ◌∷◌, ◌++◌, map}
 use Rattle.pb_batch.specs.declared.kind.BatchKind.{BatchKind}
 use Rattle.pb_batch.specs.declared.kind.BatchKind.TheVariants.{Cdata, Sdata, Outcome, Cretry, Sretry, Close}
@@ -7,7 +7,8 @@ use Rattle.pb_machine.specs.declared.machine.State.{State}
 use Rattle.pb_machine.specs.declared.machine.State.TheVariants.{Init, ServerWorking, ClientWorking, Decided, End}
 use Rattle.pb_machine.specs.World.{World}
 
--- The client is in the first state and the server in the second, with any of these pairs on its way.
+-- The client is in the first state and the server in the second, with any of these pairs on its
+-- way.
 abbrev both : State → State → List (List BatchKind × List BatchKind) → List World
 both client server ways = map (λ (way : List BatchKind × List BatchKind). record { client = client; server = server; to_client = way.0; to_server = way.1 }) ways
 

@@ -1,6 +1,6 @@
--- The state machines of a PB-TNC session (RFC 5793, section 3.2). The RFC leaves open what becomes of two retries that
--- cross; here a client that awaits the server's batch ignores a retry of the server, and a server takes a retry of the
--- client also while it or the client works.
+-- The state machines of a PB-TNC session (RFC 5793, section 3.2). The RFC leaves open what becomes
+-- of two retries that cross; here a client that awaits the server's batch ignores a retry of the
+-- server, and a server takes a retry of the client also while it or the client works.
 use Rattle.std.specs.Prelude.{◌≡◌, ◌≢◌, Bool, true, false, IsTrue, Option, Some, None, is_some, unwrap_or}
 use Rattle.pb_batch.specs.declared.kind.BatchKind.{BatchKind}
 use Rattle.pb_batch.specs.declared.kind.BatchKind.TheVariants as batch
@@ -68,8 +68,8 @@ MayClose = (role : Role) (state : State) → state ≢ End → IsTrue (is_some (
 abbrev pub NoneUnexpectedAtEnd : Type 0
 NoneUnexpectedAtEnd = (role : Role) (state : State) (kind : BatchKind) → (receiving role state kind).0 ≡ Unexpected → state ≢ End
 
--- Which kinds answer a kind that an end hears: CDATA answers SDATA and SRETRY, CRETRY answers RESULT,
--- and SDATA and RESULT answer CDATA and CRETRY.
+-- Which kinds answer a kind that an end hears: CDATA answers SDATA and SRETRY, CRETRY answers
+-- RESULT, and SDATA and RESULT answer CDATA and CRETRY.
 abbrev pub is_answer : Role → BatchKind → BatchKind → Bool
 is_answer Client batch.Sdata batch.Cdata = true
 is_answer Client batch.Sretry batch.Cdata = true

@@ -7,8 +7,8 @@ use Rattle.pb_machine.specs.declared.machine.State.TheVariants.{Init}
 use Rattle.pb_machine.specs.declared.machine.Heard.TheVariants.{Unexpected}
 use Rattle.pb_machine.specs.Table.{sending, receiving}
 
--- The states of both ends, and the kinds of the batches that are on their way to each, in the order in which they were
--- sent.
+-- The states of both ends, and the kinds of the batches that are on their way to each, in the order
+-- in which they were sent.
 pub record World : Type 0 where
   pub client : State
   pub server : State
@@ -19,7 +19,8 @@ pub record World : Type 0 where
 abbrev pub begin : World
 begin = record { client = Init; server = Init; to_client = []; to_server = [] }
 
--- One step of the world: an end sends a batch that it may send, or hears the first of those that are on their way to it.
+-- One step of the world: an end sends a batch that it may send, or hears the first of those that
+-- are on their way to it.
 pub data Step : World → World → Type 0 where
   ClientSends : (w : World) (kind : BatchKind) (next : State) → sending Client w.client kind ≡ Some next
       → Step w (record w { client = next; to_server = w.to_server ++ kind ∷ [] })
@@ -35,8 +36,8 @@ pub data Reached : World → Type 0 where
   Begun : Reached begin
   After : (before after : World) → Reached before → Step before after → Reached after
 
--- In a world, the batch that is delivered next to an end is one that it expects, and where none is on its way both ends
--- are in one state.
+-- In a world, the batch that is delivered next to an end is one that it expects, and where none is
+-- on its way both ends are in one state.
 pub record Agrees (w : World) : Type 0 where
   pub client_expects : (kind : BatchKind) (rest : List BatchKind) → w.to_client ≡ kind ∷ rest → (receiving Client w.client kind).0 ≢ Unexpected
   pub server_expects : (kind : BatchKind) (rest : List BatchKind) → w.to_server ≡ kind ∷ rest → (receiving Server w.server kind).0 ≢ Unexpected

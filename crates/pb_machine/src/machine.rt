@@ -11,7 +11,8 @@ use pb_batch::BatchKind;
 use pb_batch::BatchKind::{Cdata, Close, Cretry, Outcome, Sdata, Sretry};
 use std::marker::Model;
 
-/// An end of a session. The client is the Posture Broker Client, the server the Posture Broker Server.
+/// An end of a session. The client is the Posture Broker Client, the server the Posture Broker
+/// Server.
 #[derive(Clone, Copy, Debug, PartialEq, Eq)]
 pub enum Role {
     /// The end that speaks first.
@@ -46,7 +47,8 @@ pub enum Heard {
     Unexpected,
 }
 
-/// The state in which `role` is once it has sent a batch of the kind in `state`; `None` where it may not send one.
+/// The state in which `role` is once it has sent a batch of the kind in `state`; `None` where it
+/// may not send one.
 fn after_sending(role: Role, state: State, kind: BatchKind) -> Option<State>
     ensures next { result ≡ sending role state kind }
 {
@@ -63,7 +65,8 @@ fn after_sending(role: Role, state: State, kind: BatchKind) -> Option<State>
     }
 }
 
-/// What `role` does with a batch of the kind that it hears in `state`, and the state in which it is then.
+/// What `role` does with a batch of the kind that it hears in `state`, and the state in which it is
+/// then.
 fn after_hearing(role: Role, state: State, kind: BatchKind) -> (Heard, State)
     ensures next { result ≡ receiving role state kind }
 {

@@ -17,9 +17,9 @@ use Rattle.validator_core.specs.Held.{Held, empty_mirror}
 use Rattle.validator_core.specs.Judge.{judge, same_kind}
 use Rattle.validator_core.specs.Right.{IsRight}
 use Rattle.validator_core.proofs.Righting.{judged_right, judged_kind}
-use Rattle.swid_cli.specs.declared.front.Front.{Front}
-use Rattle.swid_cli.specs.declared.front.Front.TheVariants as front
-use Rattle.swid_cli.specs.declared.step.Ending.TheVariants as ending
+use Rattle.swid_cli.specs.declared.mirror.first_attribute.Front.{Front}
+use Rattle.swid_cli.specs.declared.mirror.first_attribute.Front.TheVariants as front
+use Rattle.swid_cli.specs.declared.ending.Ending.TheVariants as ending
 use Rattle.swid_cli.specs.Answering.{StandsIn, report_kind, AllAnswer, EndsRight, PrintedMirrorIsRight, PrintsRight}
 use Rattle.swid_cli.specs.Answering.StandsIn.{as_first, behind_first}
 use Rattle.wire_base.specs.Outside.{Adds}
@@ -29,7 +29,7 @@ use Rattle.swid_cli.specs.Stream.{INPUT_OCTETS, Printed, Goes, after_line, and_o
 use Rattle.swid_cli.specs.Text.{mirror_text, skipped_line, took_line}
 use Rattle.swid_cli.proofs.Running.{is_whole}
 
--- The reports of the kind that stand in octets behind a place answer.
+-- The reports of the kind that stand in octets after a place answer.
 abbrev Answering : History → Kind → ℕ → List ℕ → Type 0
 Answering history kind at octets = (report : Report) → StandsIn at octets report → report_kind report ≡ kind → Answers history report
 

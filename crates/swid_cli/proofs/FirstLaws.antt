@@ -16,8 +16,8 @@ use Rattle.pa_attrs.specs.Stream.{Front as Begun, More, Bad, Whole, front_of}
 use Rattle.pa_attrs.proofs.AttrLaws.{whole_is_attribute as first_is_attribute}
 use Rattle.pa_attrs.proofs.Headers.{stream_good}
 use Rattle.pa_attrs.proofs.Fronts.{front_bad, front_none, bad_is, whole_is, whole_less, whole_more, whole_within}
-use Rattle.swid_cli.specs.declared.front.Front.{Front}
-use Rattle.swid_cli.specs.declared.front.Front.TheVariants as front
+use Rattle.swid_cli.specs.declared.mirror.first_attribute.Front.{Front}
+use Rattle.swid_cli.specs.declared.mirror.first_attribute.Front.TheVariants as front
 use Rattle.swid_cli.specs.Front.{REPORT_TYPES, begins, cut, first_of, shows_refused}
 use Rattle.swid_cli.specs.FirstLaws.{Shows, IsUnfinished, EndIsNothing, TornIsUnfinished, LimitIsBeyond, FaultyShows, WholeIsAttribute}
 use Rattle.swid_cli.proofs.Fronts.{first_begins, first_refused, long_shows, short_open}
@@ -84,10 +84,10 @@ shows_is octets bad shows =
       | inr others ↦ inr (long_shows octets shows.header ∙ others.0, front_bad octets bad shows.header (rows_stream octets bad others.1))
     ]
 
-more_bad : (bad : AttrFault) → More ≡ Bad bad → ⊥
+more_bad : (bad : AttrFault) → ◌≡◌ {A = Begun} More (Bad bad) → ⊥
 more_bad bad e = cc
 
-more_whole : (attr : Attr) (len : ℕ) → More ≡ Whole attr len → ⊥
+more_whole : (attr : Attr) (len : ℕ) → ◌≡◌ {A = Begun} More (Whole attr len) → ⊥
 more_whole attr len e = cc
 
 false_true : false ≡ true → ⊥

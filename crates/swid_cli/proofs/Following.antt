@@ -6,16 +6,16 @@ use Rattle.wire_base.specs.Passing.{AddsFront, WroteFront}
 use Rattle.wire_base.proofs.Streams.{adds_none, adds_more}
 use Rattle.swima_model.specs.declared.report.Kind.{Kind}
 use Rattle.validator_core.specs.Held.{Held, empty_mirror}
-use Rattle.swid_cli.specs.declared.step.Ending.{Ending}
-use Rattle.swid_cli.specs.declared.step.Step.TheVariants as step
+use Rattle.swid_cli.specs.declared.ending.Ending.{Ending}
+use Rattle.swid_cli.specs.declared.mirror.step.Step.TheVariants as step
 use Rattle.swid_cli.specs.Run.{Ran}
-use Rattle.wire_base.specs.declared.outside.passing.Stopped.{Stopped}
+use Rattle.wire_base.specs.declared.outside.fill_and_write.Stopped.{Stopped}
 use Rattle.swid_cli.specs.Steps.{TakesStep}
 use Rattle.swid_cli.specs.Stream.{Printed, after_line, stream, stream_text}
 use Rattle.swid_cli.proofs.Streaming.{goes_on, ends}
 
--- Of all octets that were left so many are still left, and so much was printed that, with what the rest prints behind it,
--- it is the whole text.
+-- Of all octets that were left that many are still left, and so much was printed that, with what
+-- the rest prints after it, it is the whole text.
 pub record FollowsTold (kind : Kind) (octets : List ℕ) (left : Option (List ℕ)) (before after : Option (List ℕ)) (at : ℕ) (mirror : Held) : Type 0 where
   pub rest : List ℕ
   pub so_far : List ℕ
@@ -37,7 +37,7 @@ lines_join first second printed = ap (λ (text : List ℕ). with_text printed te
 pub begun : (kind : Kind) (left written : Option (List ℕ)) → Follows kind left left written written 0 (empty_mirror kind)
 begun kind left written = λ octets told. record { rest = octets; so_far = []; still = told; added = adds_none written; whole = refl }
 
--- A line and what is behind it.
+-- A line and what is after it.
 pub goes_further : (kind : Kind) (left0 left1 left2 written0 written1 written2 : Option (List ℕ)) (at count : ℕ) (before after : Held) (text : List ℕ)
     → Follows kind left0 left1 written0 written1 at before → TakesStep at before left1 left2 (step.Goes text count) after → Adds written1 written2 text
     → Follows kind left0 left2 written0 written2 (at + count) after
@@ -52,12 +52,12 @@ goes_further kind left0 left1 left2 written0 written1 written2 at count before a
       whole = lines_join f.so_far text (stream (at + count) after (drop count f.rest)) ∙ ap (λ (p : Printed). after_line f.so_far p) (sym on.0) ∙ f.whole;
     }
 
--- What was printed so far is a front of the text.
+-- What was printed so far is a prefix of the text.
 pub front_so_far : (kind : Kind) (octets : List ℕ) (left written0 written1 : Option (List ℕ)) (at : ℕ) (mirror : Held) → FollowsTold kind octets left written0 written1 at mirror → AddsFront written0 written1 (stream_text kind octets).text
 front_so_far kind octets left written0 written1 at mirror f =
     ((stream at mirror f.rest).text, record { front = f.so_far; parts = ap (λ (p : Printed). p.text) f.whole; wrote = f.added })
 
--- A front of a line was printed behind it.
+-- A prefix of a line was printed after it.
 pub front_of_line : (kind : Kind) (octets : List ℕ) (left1 left2 written0 written1 written2 : Option (List ℕ)) (at count : ℕ) (before after : Held) (text unwritten : List ℕ)
     → FollowsTold kind octets left1 written0 written1 at before → TakesStep at before left1 left2 (step.Goes text count) after → WroteFront written1 written2 text unwritten
     → AddsFront written0 written2 (stream_text kind octets).text
@@ -75,7 +75,7 @@ front_of_line kind octets left1 left2 written0 written1 written2 at count before
       },
     )
 
--- A front of the last text was printed behind it.
+-- A prefix of the last text was printed after it.
 pub front_of_last : (kind : Kind) (octets : List ℕ) (left1 left2 written0 written1 written2 : Option (List ℕ)) (at : ℕ) (before after : Held) (text unwritten : List ℕ) (how : Ending)
     → FollowsTold kind octets left1 written0 written1 at before → TakesStep at before left1 left2 (step.Ends text how) after → WroteFront written1 written2 text unwritten
     → AddsFront written0 written2 (stream_text kind octets).text
@@ -101,12 +101,12 @@ all_printed kind octets left1 left2 written0 written1 written2 at before after t
       on.2 ∙ ap (λ (p : Printed). Some p.left) f.whole,
     )
 
--- What holds of all that may be told.
+-- What holds of all that may be reported.
 if_told : (told : Option (List ℕ)) (P : List ℕ → Type 0) → ((octets : List ℕ) → told ≡ Some octets → P octets) → IfSome told P
 if_told None P holds = tt
 if_told (Some octets) P holds = holds octets refl
 
--- A command that stopped printed a front.
+-- A command that stopped printed a prefix.
 pub ran_stopped : (kind : Kind) (left-before left-after written0 written2 : Option (List ℕ)) (result : Result Ending Stopped) (stop : Stopped) → result ≡ Err stop
     → ((octets : List ℕ) → left-before ≡ Some octets → AddsFront written0 written2 (stream_text kind octets).text)
     → IfSome left-before (λ octets. Ran (stream_text kind octets) left-after written0 written2 result)

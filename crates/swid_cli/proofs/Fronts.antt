@@ -13,7 +13,7 @@ use Rattle.pa_attrs.specs.Faults.{fault, is_refused}
 use Rattle.pa_attrs.specs.Stream.{Front as Begun, More, Bad, Whole, front_of}
 use Rattle.pa_attrs.proofs.Headers.{header_front}
 use Rattle.pa_attrs.proofs.Fronts.{front_short, bad_more, whole_more}
-use Rattle.swid_cli.specs.declared.front.Front.TheVariants as front
+use Rattle.swid_cli.specs.declared.mirror.first_attribute.Front.TheVariants as front
 use Rattle.swid_cli.specs.Front.{REPORT_TYPES, begins, cut, first_of, left_behind, shows_refused}
 
 -- Of some octets, `held` were read and `rest` is left; where fewer than `want` were, nothing is.
@@ -24,12 +24,12 @@ pub record HasRead (want : ℕ) (octets : List ℕ) (left : Option (List ℕ)) (
   pub within : length held ≤ want
   pub ended : length held < want → rest ≡ []
 
--- Moved octets are the front of those that were left.
+-- Moved octets are the prefix of those that were left.
 pub moves_told : (before : List ℕ) (after : Option (List ℕ)) (moved : List ℕ) → Moves (Some before) after moved → (rest : List ℕ) × (after ≡ Some rest) × (before ≡ moved ++ rest)
 moves_told before None moved moves = absurd (cc)
 moves_told before (Some rest) moved moves = (rest, refl, cc)
 
--- Reading on behind what was read.
+-- Reading on after what was read.
 has_read : (want : ℕ) (octets before held after : List ℕ) (left-before left-after : Option (List ℕ))
     → left-before ≡ Some before → octets ≡ held ++ before → Fills want left-before left-after held after → HasRead want octets left-after after
 has_read want octets before held after left-before left-after told parts fills =
@@ -67,7 +67,8 @@ pub first_begins : (room : ℕ) (octets : List ℕ) (begun : Begun) → shows_re
 unfolding first_of
 first_begins room octets begun passed is = rw (passed, is) refl
 
--- What may be looked at of octets, of which those that are held may, is these and others behind them.
+-- What may be looked at of octets, of which those that are held may, is these and others after
+-- them.
 pub seen_held : (room : ℕ) (held rest : List ℕ) → length held ≤ room → take room (held ++ rest) ≡ held ++ take (room - length held) rest
 seen_held room held rest within =
     let sum : room ≡ length held + (room - length held) = omega arith in
@@ -110,7 +111,7 @@ behind_cut true none room have octets left more ended = more refl
 behind_cut false true room have octets left more ended = ended refl
 behind_cut false false room have octets left more ended = ended refl
 
--- What is left are the octets behind those that were read.
+-- What is left are the octets after those that were read.
 pub rest_is : (octets held rest : List ℕ) → octets ≡ held ++ rest → rest ≡ drop (length held) octets
 rest_is octets held rest parts = sym (ap (λ (o : List ℕ). drop (length held) o) parts ∙ drop-append_seam held rest)
 

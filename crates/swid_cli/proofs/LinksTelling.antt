@@ -1,4 +1,4 @@
--- What `links` tells of octets.
+-- What `links` reports of octets.
 use Rattle.std.proofs.Common.{◌≡◌, ℕ, ◌<◌, ◌≤◌, ◌⊎◌, inl, inr, min, Bool, true, false, cond, List, [], length, take, Result, Ok, Err, refl, sym, ap, subst, ◌∙◌, arith}
 use Rattle.std.specs.Prelude.{IfOk, nat_lt, ◌&&◌}
 use Rattle.std.proofs.lemmas.Bool.{cases_lt, lt-ltb}
@@ -6,11 +6,11 @@ use Rattle.std.proofs.lemmas.List.{take_min}
 use Rattle.wire_base.specs.declared.values.memory.Memory.{Memory}
 use Rattle.coswid_tag.specs.declared.tag.Tag.{Tag}
 use Rattle.swid_cli.specs.declared.answer.Answer.{Answer}
-use Rattle.swid_cli.specs.declared.step.Ending.{Ending}
-use Rattle.swid_cli.specs.declared.step.Ending.TheVariants as ending
-use Rattle.swid_cli.specs.declared.tag_list.Behind.{Behind}
-use Rattle.swid_cli.specs.declared.tag_list.Behind.TheVariants as behind
-use Rattle.swid_cli.specs.declared.tag_list.TagList.{TagList}
+use Rattle.swid_cli.specs.declared.ending.Ending.{Ending}
+use Rattle.swid_cli.specs.declared.ending.Ending.TheVariants as ending
+use Rattle.swid_cli.specs.declared.links.tag_list.Behind.{Behind}
+use Rattle.swid_cli.specs.declared.links.tag_list.Behind.TheVariants as behind
+use Rattle.swid_cli.specs.declared.links.tag_list.TagList.{TagList}
 use Rattle.swid_cli.specs.Links.{LIST_OCTETS, LinksTells, answer_behind, is_cut, list_answer}
 use Rattle.swid_cli.specs.TagList.{IsTagList}
 use Rattle.swid_cli.proofs.Telling.{IsSound, IsWide}

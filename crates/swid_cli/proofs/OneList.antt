@@ -19,10 +19,10 @@ use Rattle.coswid_codec.specs.TagFault.{tag_fault}
 use Rattle.coswid_codec.proofs.Outcomes.{begins_one_tag, fault_same, form_same, item_not_refused, tag_not_faulty}
 use Rattle.coswid_codec.proofs.Whole.{no_fault_or_no_tag}
 use Rattle.swid_cli.specs.declared.answer.Answer.{Answer}
-use Rattle.swid_cli.specs.declared.step.Ending.{Ending}
-use Rattle.swid_cli.specs.declared.tag_list.Behind.{Behind}
-use Rattle.swid_cli.specs.declared.tag_list.Behind.TheVariants as behind
-use Rattle.swid_cli.specs.declared.tag_list.TagList.{TagList}
+use Rattle.swid_cli.specs.declared.ending.Ending.{Ending}
+use Rattle.swid_cli.specs.declared.links.tag_list.Behind.{Behind}
+use Rattle.swid_cli.specs.declared.links.tag_list.Behind.TheVariants as behind
+use Rattle.swid_cli.specs.declared.links.tag_list.TagList.{TagList}
 use Rattle.swid_cli.specs.Answer.{limit_answer, refusal_answer}
 use Rattle.swid_cli.specs.Links.{LIST_OCTETS, answer_behind, at_tag, is_cut, list_answer}
 use Rattle.swid_cli.specs.LinksLaws.{OneLinksText, SomeLinksText}
@@ -42,7 +42,7 @@ nothing_begins t n begins = never t (drop n []) (item_runs limits [] t n begins)
 count_of : (gs : List Tag) (g : Tag) → length (gs ++ g ∷ []) ≡ length gs + 1
 count_of gs g = length-append gs (g ∷ [])
 
--- What is left behind as many tags is the same.
+-- What is left after as many tags is the same.
 rest_same : (octets : List ℕ) (gs hs : List Tag) (r s : List ℕ) → BeginsTags octets gs r → BeginsTags octets hs s → length gs ≡ length hs → r ≡ s
 rest_same octets gs hs r s no_tags no_tags same = refl
 rest_same octets gs hs r s no_tags (one_more is o h m b y) same = absurd (omega (arith, same, count_of is h))
@@ -80,7 +80,7 @@ next_tag octets hs s count (one_more is o h m b y) less = elim (cases_lt count (
   | inr all ↦ record { before = is; rest = o; next = h; len = m; begins = b; counted = omega (arith, all, less, count_of is h); tag = y }
 ]
 
--- No other tag is read from what stands behind.
+-- No other tag is read from what stands after.
 no_other : (count : ℕ) (rest : List ℕ) (b : Behind) (g : Tag) (len : ℕ) → StandsBehind count rest b → count < LIST_TAGS → BeginsTag rest g len → ⊥
 no_other count rest behind.Nothing g len is less tag = nothing_begins tag.item len (subst (λ (o : List ℕ). Begins limits o tag.item len) is.1 tag.begins)
 no_other count rest behind.More g len is less tag = omega (arith, less, is.0)

@@ -15,9 +15,9 @@ use Rattle.cbor_det.proofs.Outcomes.{some_outcome}
 use Rattle.coswid_res.specs.declared.fault.FormFault.{FormFault}
 use Rattle.coswid_res.specs.Listing.{listed}
 use Rattle.coswid_res.specs.Verify.{IsLine, IsVerdicts, verdict_of, verdict_on, verdicts_of}
-use Rattle.coswid_res.specs.declared.listing.ListedFile.{ListedFile}
-use Rattle.coswid_res.specs.declared.payload.Payload.{Payload}
-use Rattle.coswid_res.specs.declared.verdict.Verdict.{Verdict}
+use Rattle.coswid_res.specs.declared.verification.listing.ListedFile.{ListedFile}
+use Rattle.coswid_res.specs.declared.resources.payload.Payload.{Payload}
+use Rattle.coswid_res.specs.declared.verification.verdict.Verdict.{Verdict}
 use Rattle.coswid_tag.specs.Findings.{findings}
 use Rattle.coswid_tag.specs.declared.tag.Tag.{Tag}
 use Rattle.coswid_codec.specs.Answers.{limits, BeginsTag}
@@ -25,7 +25,7 @@ use Rattle.coswid_codec.specs.Forms.{TagForm}
 use Rattle.coswid_codec.specs.TagFault.{tag_fault}
 use Rattle.coswid_codec.proofs.Outcomes.{begins_one_tag, fault_same, form_same, item_not_refused, tag_not_faulty}
 use Rattle.coswid_codec.proofs.Whole.{no_fault_or_no_tag, one_tag_one_spelling}
-use Rattle.swid_cli.specs.declared.step.Ending.{Ending}
+use Rattle.swid_cli.specs.declared.ending.Ending.{Ending}
 use Rattle.swid_cli.specs.Checking.{PayloadVerdicts, TagVerdicts, checked_ending, checked_text}
 use Rattle.swid_cli.specs.Tagging.{TAG_OCTETS, TagTells, long_input, more_follows, no_item, no_tag, form_line, whole_tag}
 use Rattle.swid_cli.specs.TagLaws.{OneTagText, OneText, OneVerifiedText, SomeTagText, ToldAlike}
@@ -84,7 +84,7 @@ module _ (looked_at : Bool) (files : Option (List NamedFile)) where
 pub one_tag_text : OneTagText
 one_tag_text files = one_text false files (λ g h vs ws same is are. is ∙ sym are)
 
--- A file has one verdict where it is told what it holds.
+-- A file has one verdict where it is known what it holds.
 
 abbrev line_of : List ℕ → Verdict → List ℕ × Verdict
 line_of path verdict = (path, verdict)
@@ -112,7 +112,7 @@ tag_told all g h vs ws same is are = payload_told all g.payload vs ws is (subst 
 pub one_verified_text : OneVerifiedText
 one_verified_text all = one_text true (Some all) (tag_told all)
 
--- Some verdicts there are, whatever is told.
+-- Some verdicts there are, whatever is reported.
 
 abbrev held_of : Option (List NamedFile) → List ℕ → Option (List ℕ)
 held_of None path = None

@@ -4,11 +4,11 @@ use Rattle.std.specs.Prelude.{IfSome}
 use Rattle.std.proofs.lemmas.List.{append-nil}
 use Rattle.wire_base.specs.NamedFile.{Read}
 use Rattle.wire_base.specs.declared.outside.files.NamedFile.{NamedFile}
-use Rattle.wire_base.specs.declared.outside.passing.Stopped.{Stopped}
+use Rattle.wire_base.specs.declared.outside.fill_and_write.Stopped.{Stopped}
 use Rattle.swima_model.specs.declared.report.Kind.{Kind}
 use Rattle.swid_cli.specs.declared.command.Command.{Command}
 use Rattle.swid_cli.specs.declared.command.Command.TheVariants as command
-use Rattle.swid_cli.specs.declared.step.Ending.{Ending}
+use Rattle.swid_cli.specs.declared.ending.Ending.{Ending}
 use Rattle.swid_cli.specs.Commands.{Says}
 use Rattle.swid_cli.specs.Printing.{CommandPrints, CommandReads, WordsBegin, WordsPrint, WordsRead}
 use Rattle.swid_cli.specs.Run.{Prints, Ran, status_of}

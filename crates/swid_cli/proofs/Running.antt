@@ -1,13 +1,13 @@
 -- How a command ended decides its status.
 use Rattle.std.proofs.Common.{◌≡◌, ◌≢◌, ℕ, List, Option, Some, None, Result, Ok, Err, inl, inr, ◌⊎◌, [], ◌∷◌, refl, sym, ap, ◌∙◌, arith}
 use Rattle.std.specs.Prelude.{OnOk, MatchBool, IfSome, is_err, codes}
-use Rattle.wire_base.specs.declared.outside.passing.Stopped.{Stopped}
-use Rattle.wire_base.specs.declared.outside.passing.Stopped.TheVariants as stopped
+use Rattle.wire_base.specs.declared.outside.fill_and_write.Stopped.{Stopped}
+use Rattle.wire_base.specs.declared.outside.fill_and_write.Stopped.TheVariants as stopped
 use Rattle.swima_model.specs.declared.report.Kind.{Kind}
 use Rattle.swima_model.specs.declared.report.Kind.TheVariants.{Ids, Full}
 use Rattle.validator_core.specs.Held.{empty_mirror}
-use Rattle.swid_cli.specs.declared.step.Ending.{Ending}
-use Rattle.swid_cli.specs.declared.step.Ending.TheVariants as ending
+use Rattle.swid_cli.specs.declared.ending.Ending.{Ending}
+use Rattle.swid_cli.specs.declared.ending.Ending.TheVariants as ending
 use Rattle.swid_cli.specs.Run.{Prints, Ran, ending_status, status_of}
 use Rattle.swid_cli.specs.Stream.{Printed, stream_text}
 use Rattle.swid_cli.specs.Words.{IsMirror, kind_word}

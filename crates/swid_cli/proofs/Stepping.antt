@@ -7,17 +7,17 @@ use Rattle.pa_attrs.specs.Numbers.{HEADER}
 use Rattle.swima_model.specs.declared.report.Report.{Report}
 use Rattle.swima_reports.specs.ReportReading.{read_report}
 use Rattle.validator_core.specs.Held.{Held}
-use Rattle.swid_cli.specs.declared.front.Front.{Front}
-use Rattle.swid_cli.specs.declared.front.Front.TheVariants as front
-use Rattle.swid_cli.specs.declared.step.Ending.TheVariants as ending
-use Rattle.swid_cli.specs.declared.step.Step.{Step}
-use Rattle.swid_cli.specs.declared.step.Step.TheVariants as step
+use Rattle.swid_cli.specs.declared.mirror.first_attribute.Front.{Front}
+use Rattle.swid_cli.specs.declared.mirror.first_attribute.Front.TheVariants as front
+use Rattle.swid_cli.specs.declared.ending.Ending.TheVariants as ending
+use Rattle.swid_cli.specs.declared.mirror.step.Step.{Step}
+use Rattle.swid_cli.specs.declared.mirror.step.Step.TheVariants as step
 use Rattle.swid_cli.specs.Front.{carries_report, first_of, left_behind}
 use Rattle.swid_cli.specs.Text.{mirror_text, skipped_line}
 use Rattle.swid_cli.specs.Stream.{INPUT_OCTETS, Goes, attribute_step, front_step, refused, report_step, step_of}
 use Rattle.swid_cli.specs.Steps.{IsStep, left_of}
 
--- What is left behind an attribute is behind all its octets, whether a report was taken or not.
+-- What is left after an attribute is after all its octets, whether a report was taken or not.
 report_left : (mirror : Held) (octets : List ℕ) (len : ℕ) (read : Result Report ℕ) → left_of (report_step mirror octets len read) octets ≡ drop len octets
 report_left mirror octets len (Ok report) = refl
 report_left mirror octets len (Err place) = refl
@@ -28,7 +28,7 @@ attribute_left at mirror octets attr len =
     cond_both (carries_report attr.vendor attr.kind) (report_step mirror octets len read) (Goes (skipped_line attr.vendor attr.kind) len mirror)
     (λ taken. left_of taken octets ≡ drop len octets) (λ carries. report_left mirror octets len read) (λ skipped. refl)
 
--- What is left behind what stands first is left behind the step.
+-- What is left after what stands first is left after the step.
 front_left : (at : ℕ) (mirror : Held) (octets : List ℕ) (first : Front) → left_of (front_step at mirror octets first) octets ≡ left_behind (INPUT_OCTETS - at) octets first
 front_left at mirror octets front.End = refl
 front_left at mirror octets (front.Torn have) = refl

@@ -1,4 +1,4 @@
--- The text of a stream is the line of its first step and then the text of what is behind it.
+-- The text of a stream is the line of its first step and then the text of what is after it.
 use Rattle.std.proofs.Common.{◌≡◌, ℕ, zero, suc, ◌+◌, ◌-◌, ◌<◌, ◌≤◌, Bool, true, false, cond, eqb, List, [], length, take, drop, Option, Some, Result, Ok, Err, refl, sym, ap, ◌∙◌, arith, length-take, length-drop, add-one}
 use Rattle.std.specs.Prelude.{nat_lt}
 use Rattle.std.proofs.lemmas.Bool.{cond_both}
@@ -11,11 +11,11 @@ use Rattle.pa_attrs.proofs.Fronts.{whole_within}
 use Rattle.swima_model.specs.declared.report.Report.{Report}
 use Rattle.swima_reports.specs.ReportReading.{read_report}
 use Rattle.validator_core.specs.Held.{Held}
-use Rattle.swid_cli.specs.declared.front.Front.{Front}
-use Rattle.swid_cli.specs.declared.front.Front.TheVariants as front
-use Rattle.swid_cli.specs.declared.step.Ending.{Ending}
-use Rattle.swid_cli.specs.declared.step.Ending.TheVariants as ending
-use Rattle.swid_cli.specs.declared.step.Step.TheVariants as step
+use Rattle.swid_cli.specs.declared.mirror.first_attribute.Front.{Front}
+use Rattle.swid_cli.specs.declared.mirror.first_attribute.Front.TheVariants as front
+use Rattle.swid_cli.specs.declared.ending.Ending.{Ending}
+use Rattle.swid_cli.specs.declared.ending.Ending.TheVariants as ending
+use Rattle.swid_cli.specs.declared.mirror.step.Step.TheVariants as step
 use Rattle.swid_cli.specs.Front.{begins, carries_report, first_of, shows_refused}
 use Rattle.swid_cli.specs.Text.{skipped_line}
 use Rattle.swid_cli.specs.Stream.{INPUT_OCTETS, Printed, StepOf, Goes, Ends, StreamGoesOn, after_line, and_on, attribute_step, front_step, report_step, step_of, stream, stream_by}
@@ -103,7 +103,7 @@ first_on : (at : ℕ) (mirror : Held) (octets : List ℕ) → stream at mirror o
 unfolding stream
 first_on at mirror octets = rw add-one refl
 
--- A stream is its first attribute, and behind it the stream of the octets behind it.
+-- A stream is its first attribute, and after it the stream of the octets after it.
 pub stream_goes_on : StreamGoesOn
 stream_goes_on at mirror octets = first_on at mirror octets ∙ goes_on_by at octets (step_of at mirror octets) (step_takes at mirror octets)
 
@@ -117,7 +117,7 @@ on_ends : (at : ℕ) (octets text : List ℕ) (how : Ending) (after : Held) (lef
 on_ends at octets text how after left (Goes line len mirror) is behind = absurd is
 on_ends at octets text how after left (Ends printed) is behind = (sym is.0, sym is.1, behind)
 
--- A step that goes on, and what is behind it.
+-- A step that goes on, and what is after it.
 pub goes_on : (at : ℕ) (before : Held) (octets text : List ℕ) (count : ℕ) (after : Held) (left-before left : Option (List ℕ)) → left-before ≡ Some octets → TakesStep at before left-before left (step.Goes text count) after
     → (stream at before octets ≡ after_line text (stream (at + count) after (drop count octets))) × (left ≡ Some (drop count octets))
 goes_on at before octets text count after left-before left told steps =

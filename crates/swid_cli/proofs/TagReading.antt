@@ -4,8 +4,8 @@ use Rattle.std.specs.Prelude.{IfSome}
 use Rattle.std.proofs.lemmas.List.{append-nil}
 use Rattle.wire_base.specs.NamedFile.{Read, with_reads}
 use Rattle.wire_base.specs.Passing.{Fills}
-use Rattle.wire_base.specs.declared.outside.passing.Stopped.{Stopped}
-use Rattle.wire_base.specs.declared.outside.passing.Stopped.TheVariants as stopped
+use Rattle.wire_base.specs.declared.outside.fill_and_write.Stopped.{Stopped}
+use Rattle.wire_base.specs.declared.outside.fill_and_write.Stopped.TheVariants as stopped
 use Rattle.cbor_det.specs.Answers.{IsRefusal}
 use Rattle.cbor_det.specs.declared.fault.CborFault.{CborFault}
 use Rattle.cbor_det.specs.declared.fault.CborRefused.TheVariants as cbor
@@ -13,8 +13,8 @@ use Rattle.coswid_res.specs.declared.fault.FormFault.{FormFault}
 use Rattle.coswid_tag.specs.declared.tag.Tag.{Tag}
 use Rattle.coswid_codec.specs.Answers.{limits, BeginsFaulty, BeginsTag}
 use Rattle.coswid_codec.proofs.Outcomes.{begins_one_tag, item_not_refused, tag_not_faulty}
-use Rattle.swid_cli.specs.declared.step.Ending.{Ending}
-use Rattle.swid_cli.specs.declared.step.Ending.TheVariants as ending
+use Rattle.swid_cli.specs.declared.ending.Ending.{Ending}
+use Rattle.swid_cli.specs.declared.ending.Ending.TheVariants as ending
 use Rattle.swid_cli.specs.Run.{status_of}
 use Rattle.swid_cli.specs.TagReads.{AreMade, AreTagReads, PayloadReads, TagReads, payload_paths}
 use Rattle.swid_cli.specs.Tagging.{TAG_OCTETS}
@@ -58,7 +58,7 @@ module _ (octets : List ℕ) (before after : Option (List Read)) where
         reads.2,
       )
 
-  -- A command that read them stopped behind that.
+  -- A command that read them stopped after that.
   pub stopped_behind : {A B : Type 0} (value : A) (result : Result B Stopped) (stop : Stopped) → result ≡ Err stop → TagReads octets (Ok value) before after → TagReads octets result before after
   stopped_behind {A} {B} value result stop is reads = rw is (
     reads.0,
@@ -121,7 +121,7 @@ pub input_unread : {A : Type 0} (told : Option (List ℕ)) (before : Option (Lis
 input_unread None before result stop is = tt
 input_unread (Some octets) before result stop is = stopped_first octets before result stop is
 
--- The status tells how the command ended.
+-- The status says how the command ended.
 pub ran_reads : (told : Option (List ℕ)) (before after : Option (List Read)) (result : Result Ending Stopped) (status : ℕ) → status ≡ status_of result → IfSome told (λ octets. TagReads octets result before after)
     → IfSome told (λ octets. (ended : Result Ending Stopped) × (status ≡ status_of ended) × TagReads octets ended before after)
 ran_reads None before after result status is reads = tt

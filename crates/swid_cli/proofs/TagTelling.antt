@@ -1,20 +1,20 @@
--- What `tag` tells of octets.
+-- What `tag` reports of octets.
 use Rattle.std.proofs.Common.{◌≡◌, ℕ, ◌<◌, ◌≤◌, ◌⊎◌, inl, inr, Bool, true, false, List, [], ◌∷◌, length, Option, Result, Ok, Err, refl, sym, ap, subst, ◌∙◌, arith}
 use Rattle.std.specs.Bool.{OnTrue}
 use Rattle.wire_base.specs.Outside.{HasCause, Rose}
 use Rattle.wire_base.specs.Passing.{is_fault}
-use Rattle.wire_base.specs.declared.outside.passing.Stopped.{Stopped}
-use Rattle.wire_base.specs.declared.outside.passing.Stopped.TheVariants as stopped
+use Rattle.wire_base.specs.declared.outside.fill_and_write.Stopped.{Stopped}
+use Rattle.wire_base.specs.declared.outside.fill_and_write.Stopped.TheVariants as stopped
 use Rattle.swid_cli.specs.Causes.{HasFilesCauses}
 use Rattle.wire_base.specs.declared.outside.files.NamedFile.{NamedFile}
-use Rattle.coswid_res.specs.declared.verdict.Verdict.{Verdict}
+use Rattle.coswid_res.specs.declared.verification.verdict.Verdict.{Verdict}
 use Rattle.coswid_tag.specs.Findings.{findings}
 use Rattle.coswid_tag.specs.declared.tag.Tag.{Tag}
 use Rattle.coswid_codec.specs.Answers.{BeginsTag}
 use Rattle.swid_cli.specs.declared.answer.Answer.{Answer}
 use Rattle.swid_cli.specs.declared.command.Command.TheVariants as command
-use Rattle.swid_cli.specs.declared.step.Ending.{Ending}
-use Rattle.swid_cli.specs.declared.step.Ending.TheVariants as ending
+use Rattle.swid_cli.specs.declared.ending.Ending.{Ending}
+use Rattle.swid_cli.specs.declared.ending.Ending.TheVariants as ending
 use Rattle.swid_cli.specs.Answer.{ending_of, refusal_answer}
 use Rattle.swid_cli.specs.Checking.{TagVerdicts, checked_ending, checked_text}
 use Rattle.swid_cli.specs.Commands.{Says}
@@ -31,14 +31,14 @@ module _ (looked_at : Bool) (files : Option (List NamedFile)) where
   pub refused_tells : (octets told : List ℕ) (made : Answer) → made ≡ refusal_answer told → Tells octets told ending.Refused → Tells octets made.text made.ending
   refused_tells octets told made is tells = rw is tells
 
-  -- The text of a tag behind which nothing follows.
+  -- The text of a tag after which nothing follows.
   pub whole_tells : (octets text : List ℕ) (g : Tag) (used : ℕ) (verdicts : List (List ℕ × Verdict)) (how : Ending) → BeginsTag octets g used → length octets ≤ used
       → TagVerdicts looked_at files g verdicts → text ≡ checked_text g verdicts → how ≡ checked_ending (findings g) verdicts → Tells octets text how
   whole_tells octets text g used verdicts how begins all are is ends =
       let same : used ≡ length octets = omega (arith, all, begins.begins.within) in
       rw (is, ends) (whole_tag octets g verdicts (subst (λ (n : ℕ). BeginsTag octets g n) same begins) are)
 
-  -- More octets than the input may have are told as those that were read of them.
+  -- More octets than the input may have are reported as those that were read of them.
   pub tag_wide : IsWide TAG_OCTETS (TagTells looked_at files)
   tag_wide held octets text how over more same (long_input _ _) = long_input octets more
   tag_wide held octets text how over more same (no_item _ fault within is) = absurd (omega (arith, over, within))
@@ -104,7 +104,7 @@ stopped_by_files looked_at ib ia o fb fa result stopped.Memory is input files lo
   cause = (input.cause, refl, files.cause);
 })
 
--- Status 3 tells a fault, one of files where they were looked at.
+-- Status 3 reports a fault, one of files where they were looked at.
 pub tag_fault : (looked_at : Bool) (words : List (List ℕ)) (input-before input-after output-before output-after files-before files-after : ℕ) (result : Result Ending Stopped) (status : ℕ) → status ≡ status_of result
     → Says (command.Tag looked_at) words → HasFilesCauses looked_at input-before input-after output-before output-after files-before files-after result → status ≡ 3
     → Rose input-before input-after ⊎ Rose output-before output-after ⊎ (IsTagVerify words × Rose files-before files-after)

@@ -5,10 +5,10 @@ use Rattle.std.proofs.lemmas.Bool.{cases_lt}
 use Rattle.std.proofs.lemmas.List.{append-nil, drop_all, take-append-le}
 use Rattle.wire_base.specs.Outside.{Adds}
 use Rattle.wire_base.specs.Passing.{AddsFront, Fills}
-use Rattle.wire_base.specs.declared.outside.passing.Stopped.{Stopped}
-use Rattle.wire_base.specs.declared.outside.passing.Stopped.TheVariants as stopped
-use Rattle.swid_cli.specs.declared.step.Ending.{Ending}
-use Rattle.swid_cli.specs.declared.step.Ending.TheVariants as ending
+use Rattle.wire_base.specs.declared.outside.fill_and_write.Stopped.{Stopped}
+use Rattle.wire_base.specs.declared.outside.fill_and_write.Stopped.TheVariants as stopped
+use Rattle.swid_cli.specs.declared.ending.Ending.{Ending}
+use Rattle.swid_cli.specs.declared.ending.Ending.TheVariants as ending
 use Rattle.swid_cli.specs.Run.{Prints, status_of}
 use Rattle.swid_cli.specs.Stream.{Printed}
 use Rattle.swid_cli.specs.Telling.{IsTold, PrintsFront, RanTelling}
@@ -16,7 +16,8 @@ use Rattle.swid_cli.proofs.Fronts.{HasRead, first_read, rest_is, seen_held}
 use Rattle.swid_cli.proofs.Running.{prints_of}
 
 module _ (most : ℕ) (Tells : List ℕ → List ℕ → Ending → Type 0) where
-  -- Of more octets than the input may have, what is told is that of any that begin with as many as it may have, and are more too.
+  -- Of more octets than the input may have, what is reported is that of any that begin with as many
+  -- as it may have, and are more too.
   abbrev pub IsWide : Type 0
   IsWide = (held octets text : List ℕ) (how : Ending) → most < length held → most < length octets → take most held ≡ take most octets → Tells held text how → Tells octets text how
 
@@ -27,11 +28,11 @@ module _ (most : ℕ) (Tells : List ℕ → List ℕ → Ending → Type 0) wher
   abbrev printed_of : List ℕ → List ℕ → Ending → Printed
   printed_of octets text how = record { text = text; ending = how; left = drop (most + 1) octets }
 
-  -- What was read is a front of all.
+  -- What was read is a prefix of all.
   same_front : (octets held rest : List ℕ) → octets ≡ held ++ rest → length held ≡ most + 1 → take most held ≡ take most octets
   same_front octets held rest parts count = sym (take-append-le most held rest (omega (arith, count))) ∙ ap (λ (o : List ℕ). take most o) (sym parts)
 
-  -- What was read tells what is printed of all, and what is left.
+  -- What was read reports what is printed of all, and what is left.
   pub told_of : IsWide → (octets : List ℕ) (left : Option (List ℕ)) (held text : List ℕ) (how : Ending) (read : HasRead (most + 1) octets left held) → Tells held text how
       → Tells octets text how × (left ≡ Some (drop (most + 1) octets))
   told_of wide octets left held text how read tells =
@@ -62,7 +63,7 @@ module _ (most : ℕ) (Tells : List ℕ → List ℕ → Ending → Type 0) wher
       let all = told_of wide octets left held text how (read_of want octets none held left is empty fills) tells in
       (printed_of octets text how, record { told = all.0; left = refl }, (adds, refl, all.1))
 
-  -- A text of which a front was printed.
+  -- A text of which a prefix was printed.
   pub ran_front : IsWide → (told left before after : Option (List ℕ)) (want : ℕ) (none held text : List ℕ) (how : Ending) (result : Result Ending Stopped) (stop : Stopped) → result ≡ Err stop
       → want ≡ most + 1 → none ≡ [] → Fills want told left none held → Tells held text how → AddsFront before after text
       → IfSome told (λ octets. RanTelling most Tells octets left before after result)
@@ -77,7 +78,7 @@ module _ (most : ℕ) (Tells : List ℕ → List ℕ → Ending → Type 0) wher
   ran_nothing None left before after result stop ended still = tt
   ran_nothing (Some octets) left before after result stop ended still = rw ended (inl still)
 
-  -- However the command ended, nothing was printed, or a front of a text that fits.
+  -- However the command ended, nothing was printed, or a prefix of a text that fits.
   pub ran_prints_front : (told left before after : Option (List ℕ)) (result : Result Ending Stopped) → IfSome told (λ octets. RanTelling most Tells octets left before after result)
       → IfSome told (λ octets. PrintsFront most Tells octets before after)
   ran_prints_front None left before after result ran = tt

@@ -9,11 +9,11 @@ use Rattle.validator_core.specs.declared.mirror.Taken.TheVariants as taken
 use Rattle.swid_cli.specs.Text.{fault_line, took_line}
 use Rattle.swid_cli.specs.Stream.{report_step}
 use Rattle.swid_cli.specs.Steps.{IsStep}
-use Rattle.swid_cli.specs.declared.step.Ending.TheVariants as ending
-use Rattle.swid_cli.specs.declared.step.Step.{Step}
-use Rattle.swid_cli.specs.declared.step.Step.TheVariants as step
+use Rattle.swid_cli.specs.declared.ending.Ending.TheVariants as ending
+use Rattle.swid_cli.specs.declared.mirror.step.Step.{Step}
+use Rattle.swid_cli.specs.declared.mirror.step.Step.TheVariants as step
 
--- An answer that is not want of memory is the one that was judged.
+-- An answer that is not running out of memory is the one that was judged.
 judged_is : (before after : Held) (judged : Taken × Held) (answer : Taken) → Judged before judged answer after → answer ≢ taken.Memory → judged ≡ (answer, after)
 judged_is before after judged taken.WrongKind answers some = answers
 judged_is before after judged taken.Stale answers some = answers

@@ -1,4 +1,4 @@
--- An attribute that a feed has begun, and pieces behind what it holds.
+-- An attribute that a feed has begun, and pieces after what it holds.
 use Rattle.std.proofs.Common.{◌≡◌, ℕ, ◌+◌, ◌-◌, ◌<◌, ◌≤◌, min, false, List, [], ◌++◌, length, take, drop, ◌⊎◌, Option, Some, None, Result, Ok, Err, refl, sym, ap, subst, ◌∙◌, append_assoc, arith, inl, inr, ne_eqb, length-append, length-take, length-drop}
 use Rattle.std.specs.Prelude.{IfOk}
 use Rattle.std.proofs.lemmas.Bool.{lt-ltb, le-ltb}
@@ -9,7 +9,7 @@ use Rattle.pa_attrs.specs.declared.attr.Attr.{Attr}
 use Rattle.pa_attrs.specs.declared.fault.AttrFault.{AttrFault}
 use Rattle.pa_attrs.specs.declared.feed.AttrFed.{AttrFed}
 use Rattle.pa_attrs.specs.declared.feed.AttrFed.TheVariants as fed
-use Rattle.pa_attrs.specs.declared.refused.Refused.{Refused}
+use Rattle.wire_base.specs.declared.layout.field_refused.Refused.{Refused}
 use Rattle.pa_attrs.specs.declared.header.Header.{Header}
 use Rattle.pa_attrs.specs.Numbers.{HEADER, MOST_OCTETS}
 use Rattle.pa_attrs.specs.Header.{header_of}
@@ -17,14 +17,14 @@ use Rattle.pa_attrs.specs.Faults.{is_refused, stream_header}
 use Rattle.pa_attrs.specs.Stream.{Feeding, fresh, Feeds, FeedsIn, More, Bad, Whole, TakesPiece, front_of}
 use Rattle.pa_attrs.proofs.Headers.{header_front, stream_front, stream_good}
 use Rattle.pa_attrs.proofs.Fronts.{front_more, bad_is, more_is, whole_is, whole_more}
-use Rattle.swid_cli.specs.declared.front.Front.TheVariants as front
+use Rattle.swid_cli.specs.declared.mirror.first_attribute.Front.TheVariants as front
 use Rattle.swid_cli.specs.Front.{REPORT_TYPES, cut, first_of, shows_refused}
 use Rattle.swid_cli.specs.Steps.{IsBegun, TakesFirst}
 use Rattle.swid_cli.proofs.Fronts.{first_begins, long_shows, moves_told, parts_length, rest_is, seen_header, seen_held}
 
 -- ---- what a header says of a whole attribute
 
--- The header counts the octets of the attribute, and the value has those behind the header.
+-- The header counts the octets of the attribute, and the value has those after the header.
 pub whole_says : (octets : List ℕ) (attr : Attr) (len : ℕ) → front_of octets ≡ Whole attr len
     → ((header_of octets).octets ≡ len) × (len ≡ HEADER + length attr.value) × (HEADER ≤ len) × (len ≤ MOST_OCTETS) × (len ≤ length octets)
 whole_says octets attr len e =
@@ -71,7 +71,7 @@ module _ (room len : ℕ) (feed : Feeding) (begun : IsBegun room len feed) where
   pub wanting : (h : Header) × (stream_header feed.octets ≡ Ok h) × (h.octets ≡ len) × (length feed.octets < len) × (len ≤ MOST_OCTETS)
   wanting = begun_by (more_is feed.octets begun.more)
 
-  -- a piece behind it leaves the header as it is
+  -- a piece after it leaves the header as it is
   header_stays : (piece : List ℕ) → header_of (feed.octets ++ piece) ≡ header_of feed.octets
   header_stays piece = header_front feed.octets piece begun.header
 
@@ -192,7 +192,7 @@ piece_is count buffer other within = take-append-le count buffer other within
 pub none_moved : (left1 left2 : Option (List ℕ)) (count : ℕ) (buffer : List ℕ) → count ≡ 0 → Moves left1 left2 (take count buffer) → Moves left1 left2 []
 none_moved left1 left2 count buffer none moves = subst (λ (n : ℕ). Moves left1 left2 (take n buffer)) none moves
 
--- So many octets were moved at first and with a piece.
+-- That many octets were moved at first and with a piece.
 pub moved_on : (start held piece more : List ℕ) (left0 left1 left2 : Option (List ℕ)) (after : Feeding) → held ≡ start ++ more → Moves left0 left1 more → Moves left1 left2 piece → TakesPiece held piece fed.More after
     → (all : List ℕ) × (after.octets ≡ start ++ all) × Moves left0 left2 all
 moved_on start held piece more left0 left1 left2 after is moved read takes = (
@@ -203,7 +203,7 @@ moved_on start held piece more left0 left1 left2 after is moved read takes = (
 
 -- ---- from the octets that were left at first
 
--- What is left behind octets that were moved, and all octets by what is held and what is left.
+-- What is left after octets that were moved, and all octets by what is held and what is left.
 pub left_over : (start held more octets : List ℕ) (left0 left1 : Option (List ℕ)) → left0 ≡ Some octets → held ≡ start ++ more → Moves left0 left1 more
     → (rest : List ℕ) × (left1 ≡ Some rest) × (start ++ octets ≡ held ++ rest)
 left_over start held more octets left0 left1 told is moves =

@@ -11,13 +11,14 @@ use Rattle.swima_model.specs.declared.report.Report.TheVariants.{Inventory, Even
 use Rattle.swima_reports.specs.ReportReading.{read_report}
 use Rattle.validator_core.specs.Held.{Held}
 use Rattle.validator_core.specs.Right.{IsRight}
-use Rattle.swid_cli.specs.declared.front.Front.TheVariants as front
-use Rattle.swid_cli.specs.declared.step.Ending.TheVariants as ending
+use Rattle.swid_cli.specs.declared.mirror.first_attribute.Front.TheVariants as front
+use Rattle.swid_cli.specs.declared.ending.Ending.TheVariants as ending
 use Rattle.swid_cli.specs.Front.{carries_report, first_of}
 use Rattle.swid_cli.specs.Stream.{INPUT_OCTETS, Printed, stream_text}
 use Rattle.swid_cli.specs.Text.{mirror_text}
 
--- A report stands in octets that begin at `at`: the first attribute there carries it, or it stands behind that.
+-- A report stands in octets that begin at `at`: the first attribute there carries it, or it stands
+-- after that.
 pub data StandsIn : ℕ → List ℕ → Report → Type 0 where
   as_first : (at : ℕ) (octets : List ℕ) (report : Report) (attr : Attr) (len : ℕ) → first_of (INPUT_OCTETS - at) octets ≡ front.Whole attr len → carries_report attr.vendor attr.kind ≡ true
       → whole (read_report attr.kind) (at + HEADER) attr.value ≡ Ok report → StandsIn at octets report
@@ -37,7 +38,8 @@ AllAnswer history kind octets = (report : Report) → StandsIn 0 octets report �
 abbrev pub EndsRight : History → Kind → Printed → Type 0
 EndsRight history kind printed = (lines : List ℕ) × (mirror : Held) × (mirror.kind ≡ kind) × IsRight history mirror × (printed.text ≡ lines ++ mirror_text mirror)
 
--- Where the reports of an input that is not refused answer from an honest history, the printed mirror is right over it.
+-- Where the reports of an input that is not refused answer from an honest history, the printed
+-- mirror is right over it.
 abbrev pub PrintedMirrorIsRight : Type 0
 PrintedMirrorIsRight = (history : History) (kind : Kind) (octets : List ℕ) → IsHonest history → AllAnswer history kind octets → (stream_text kind octets).ending ≡ ending.Whole → EndsRight history kind (stream_text kind octets)
 

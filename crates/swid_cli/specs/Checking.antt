@@ -7,16 +7,16 @@ use Rattle.wire_base.specs.declared.outside.files.NamedFile.{NamedFile}
 use Rattle.cbor_det.specs.Canonical.{canon}
 use Rattle.coswid_res.specs.Listing.{listed}
 use Rattle.coswid_res.specs.Verify.{IsVerdicts}
-use Rattle.coswid_res.specs.declared.payload.Payload.{Payload}
-use Rattle.coswid_res.specs.declared.verdict.Verdict.{Verdict}
-use Rattle.coswid_res.specs.declared.verdict.Verdict.TheVariants as verdict
+use Rattle.coswid_res.specs.declared.resources.payload.Payload.{Payload}
+use Rattle.coswid_res.specs.declared.verification.verdict.Verdict.{Verdict}
+use Rattle.coswid_res.specs.declared.verification.verdict.Verdict.TheVariants as verdict
 use Rattle.coswid_tag.specs.Findings.{findings}
 use Rattle.coswid_tag.specs.declared.tag.Tag.{Tag}
 use Rattle.coswid_codec.specs.Items.{tag_item}
 use Rattle.coswid_codec.specs.TagText.{canonical_line, summary_text}
 use Rattle.swid_cli.specs.Answer.{ending_of}
-use Rattle.swid_cli.specs.declared.step.Ending.{Ending}
-use Rattle.swid_cli.specs.declared.step.Ending.TheVariants as ending
+use Rattle.swid_cli.specs.declared.ending.Ending.{Ending}
+use Rattle.swid_cli.specs.declared.ending.Ending.TheVariants as ending
 use Rattle.swid_cli.specs.Text.{line}
 
 abbrev pub verdict_text : Verdict → List ℕ
@@ -31,7 +31,7 @@ verdict_text (verdict.UnknownAlgorithm number) = codes "algorithm " ++ signed_de
 abbrev pub file_line : List ℕ × Verdict → List ℕ
 file_line file = line (codes "file" ∷ verdict_text file.1 ∷ escaped file.0 ∷ [])
 
--- The file is not as the tag states, or that can't be told.
+-- The file is not as the tag states, or that can't be determined.
 abbrev pub is_wrong : Verdict → Bool
 is_wrong verdict.Same = false
 is_wrong verdict.Differs = true

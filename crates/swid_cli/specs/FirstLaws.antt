@@ -8,10 +8,11 @@ use Rattle.pa_attrs.specs.Numbers.{HEADER, MOST_OCTETS, UNSUPPORTED_ATTRIBUTE}
 use Rattle.pa_attrs.specs.Header.{header_of}
 use Rattle.pa_attrs.specs.Faults.{Row, row, first_shown, header_rows, is_refused}
 use Rattle.pa_attrs.specs.Laws.{IsFirst, IsPassed}
-use Rattle.swid_cli.specs.declared.front.Front.TheVariants as front
+use Rattle.swid_cli.specs.declared.mirror.first_attribute.Front.TheVariants as front
 use Rattle.swid_cli.specs.Front.{REPORT_TYPES, first_of}
 
--- The table of faults of a header: the command's own row, and behind it those of any stream of attributes.
+-- The table of faults of a header: the command's own row, and after it those of any stream of
+-- attributes.
 abbrev pub rows : Header → List Row
 rows h = row (is_refused REPORT_TYPES h) UNSUPPORTED_ATTRIBUTE 0 ∷ header_rows MOST_OCTETS h
 
@@ -29,7 +30,8 @@ pub record IsUnfinished (octets : List ℕ) : Type 0 where
 abbrev pub EndIsNothing : Type 0
 EndIsNothing = (room : ℕ) (octets : List ℕ) → (first_of room octets ≡ front.End) ↔ (octets ≡ [])
 
--- All octets that are left may be looked at, and they are some, so many, without a fault and without a whole attribute.
+-- All octets that are left may be looked at, and they are `have` octets, at least one, without a
+-- fault and without a whole attribute.
 pub record IsTorn (room : ℕ) (octets : List ℕ) (have : ℕ) : Type 0 where
   pub count : length octets ≡ have
   pub some : 0 < have
@@ -49,11 +51,12 @@ pub record IsBeyond (room : ℕ) (octets : List ℕ) : Type 0 where
 abbrev pub LimitIsBeyond : Type 0
 LimitIsBeyond = (room : ℕ) (octets : List ℕ) → AreOctets octets → (first_of room octets ≡ front.Limit) ↔ IsBeyond room octets
 
--- A fault is told exactly where it shows in what may be looked at.
+-- A fault is reported exactly where it shows in what may be looked at.
 abbrev pub FaultyShows : Type 0
 FaultyShows = (room : ℕ) (octets : List ℕ) (fault : AttrFault) → (first_of room octets ≡ front.Faulty fault) ↔ Shows fault (take room octets)
 
--- An attribute in its form stands first, lies in what may be looked at, and carries a report or may be passed over.
+-- An attribute in its form stands first, lies in what may be looked at, and carries a report or may
+-- be passed over.
 pub record IsTaken (room : ℕ) (octets : List ℕ) (attr : Attr) (len : ℕ) : Type 0 where
   pub first : IsFirst attr len octets
   pub within : len ≤ room

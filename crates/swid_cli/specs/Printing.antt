@@ -1,12 +1,13 @@
--- What a command line prints and which files it reads, by its words, the octets of its input, and the files.
+-- What a command line prints and which files it reads, by its words, the octets of its input, and
+-- the files.
 use Rattle.std.specs.Prelude.{◌≡◌, ◌⊎◌, ℕ, true, false, List, Option, Result}
 use Rattle.wire_base.specs.NamedFile.{Read}
 use Rattle.wire_base.specs.Passing.{AddsFront}
 use Rattle.wire_base.specs.declared.outside.files.NamedFile.{NamedFile}
-use Rattle.wire_base.specs.declared.outside.passing.Stopped.{Stopped}
+use Rattle.wire_base.specs.declared.outside.fill_and_write.Stopped.{Stopped}
 use Rattle.swid_cli.specs.declared.command.Command.{Command}
 use Rattle.swid_cli.specs.declared.command.Command.TheVariants.{Mirror, Tag, Links}
-use Rattle.swid_cli.specs.declared.step.Ending.{Ending}
+use Rattle.swid_cli.specs.declared.ending.Ending.{Ending}
 use Rattle.swid_cli.specs.Commands.{Says}
 use Rattle.swid_cli.specs.Links.{LIST_OCTETS, LinksTells}
 use Rattle.swid_cli.specs.Run.{status_of}
@@ -15,14 +16,15 @@ use Rattle.swid_cli.specs.TagReads.{TagReads}
 use Rattle.swid_cli.specs.Tagging.{TAG_OCTETS, TagTells}
 use Rattle.swid_cli.specs.Telling.{IsTold}
 
--- What a command prints of all octets of its input: the text, how it ends, and what it leaves of them. What the files hold is
--- known or not.
+-- What a command prints of all octets of its input: the text, how it ends, and what it leaves of
+-- them. What the files hold is known or not.
 abbrev pub CommandPrints : Command → Option (List NamedFile) → List ℕ → Printed → Type 0
 CommandPrints (Mirror kind) files octets printed = printed ≡ stream_text kind octets
 CommandPrints (Tag looks_at_files) files octets printed = IsTold TAG_OCTETS (TagTells looks_at_files files) octets printed
 CommandPrints Links files octets printed = IsTold LIST_OCTETS LinksTells octets printed
 
--- The reads of files that a command made which ended so: `tag verify` those of the tag, and no other command any.
+-- The reads of files that a command made which ended so: `tag verify` those of the tag, and no
+-- other command any.
 abbrev pub CommandReads : Command → List ℕ → Result Ending Stopped → Option (List Read) → Option (List Read) → Type 0
 CommandReads (Tag true) octets ended before after = TagReads octets ended before after
 CommandReads (Tag false) octets ended before after = after ≡ before

@@ -1,18 +1,19 @@
--- What the calls of `mirror` do. A clause on octets holds where the input tells what is left of it.
+-- What the calls of `mirror` do. A clause on octets holds where the input exposes what is left of
+-- it.
 use Rattle.std.specs.Prelude.{◌≡◌, ◌<◌, ◌≤◌, ◌+◌, ℕ, min, false, List, Option, Some, None, length, drop}
 use Rattle.pa_attrs.specs.Numbers.{HEADER, MOST_OCTETS}
 use Rattle.pa_attrs.specs.Header.{header_of}
 use Rattle.pa_attrs.specs.Faults.{is_refused}
 use Rattle.pa_attrs.specs.Stream.{Feeding, More, front_of}
 use Rattle.validator_core.specs.Held.{Held}
-use Rattle.swid_cli.specs.declared.front.Front.{Front}
-use Rattle.swid_cli.specs.declared.front.Front.TheVariants as front
-use Rattle.swid_cli.specs.declared.step.Step.{Step}
-use Rattle.swid_cli.specs.declared.step.Step.TheVariants as step
+use Rattle.swid_cli.specs.declared.mirror.first_attribute.Front.{Front}
+use Rattle.swid_cli.specs.declared.mirror.first_attribute.Front.TheVariants as front
+use Rattle.swid_cli.specs.declared.mirror.step.Step.{Step}
+use Rattle.swid_cli.specs.declared.mirror.step.Step.TheVariants as step
 use Rattle.swid_cli.specs.Front.{REPORT_TYPES, first_of, left_behind}
 use Rattle.swid_cli.specs.Stream.{INPUT_OCTETS, StepOf, Goes, Ends, step_of}
 
--- What stands first in octets of which `room` may be looked at, and what is left behind it.
+-- What stands first in octets of which `room` may be looked at, and what is left after it.
 abbrev pub TakesFirst : ℕ → List ℕ → Option (List ℕ) → Front → Type 0
 TakesFirst room octets after first = (first ≡ first_of room octets) × (after ≡ Some (left_behind room octets first))
 
@@ -20,8 +21,8 @@ TakesFirst room octets after first = (first ≡ first_of room octets) × (after 
 abbrev pub TakesFront : ℕ → Option (List ℕ) → Option (List ℕ) → Front → Type 0
 TakesFront room before after first = (octets : List ℕ) → before ≡ Some octets → TakesFirst room octets after first
 
--- A feed has begun an attribute of so many octets: the header is there, without a fault and of an attribute that is not
--- refused, some octets are wanting, and all that it holds may be looked at.
+-- A feed has begun an attribute of that many octets: the header is there, without a fault and of an
+-- attribute that is not refused, some octets are wanting, and all that it holds may be looked at.
 pub record IsBegun (room len : ℕ) (feed : Feeding) : Type 0 where
   pub goes : feed.stopped ≡ None
   pub header : HEADER ≤ length feed.octets
@@ -30,8 +31,8 @@ pub record IsBegun (room len : ℕ) (feed : Feeding) : Type 0 where
   pub passed : is_refused REPORT_TYPES (header_of feed.octets) ≡ false
   pub within : length feed.octets ≤ room
 
--- A whole attribute has a header and is within what may be looked at, and a fault lies in the header, whether the input
--- tells or not.
+-- A whole attribute has a header and is within what may be looked at, and a fault lies in the
+-- header, whether the input exposes its octets or not.
 abbrev pub IsWithin : ℕ → Front → Type 0
 IsWithin room (front.Whole attr len) = (len ≡ HEADER + length attr.value) × (len ≤ min room MOST_OCTETS)
 IsWithin room (front.Faulty fault) = fault.at < HEADER
@@ -44,7 +45,7 @@ IsStep (Goes line len judged) (step.Ends text ended) mirror = ⊥
 IsStep (Ends printed) (step.Goes text taken) mirror = ⊥
 IsStep (Ends printed) (step.Ends text ended) mirror = (text ≡ printed.text) × (ended ≡ printed.ending)
 
--- What is left of the octets behind what an attribute makes.
+-- What is left of the octets after what an attribute makes.
 abbrev pub left_of : StepOf → List ℕ → List ℕ
 left_of (Goes line len judged) octets = drop len octets
 left_of (Ends printed) octets = printed.left
@@ -54,7 +55,8 @@ abbrev pub TakesStep : ℕ → Held → Option (List ℕ) → Option (List ℕ) 
 TakesStep at before left-before left-after taken after = (octets : List ℕ) → left-before ≡ Some octets
     → IsStep (step_of at before octets) taken after × (left-after ≡ Some (left_of (step_of at before octets) octets))
 
--- A step that goes on takes a header at least, and no more than may be looked at, whether the input tells or not.
+-- A step that goes on takes a header at least, and no more than may be looked at, whether the input
+-- exposes its octets or not.
 abbrev pub Advances : ℕ → Step → Type 0
 Advances at (step.Goes text taken) = (HEADER ≤ taken) × (at + taken ≤ INPUT_OCTETS)
 Advances at (step.Ends text ended) = Unit {0}

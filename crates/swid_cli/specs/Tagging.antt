@@ -7,12 +7,12 @@ use Rattle.cbor_det.specs.Answers.{IsRefusal}
 use Rattle.cbor_det.specs.declared.fault.CborFault.{CborFault}
 use Rattle.cbor_det.specs.declared.fault.CborRefused.TheVariants as refused
 use Rattle.coswid_res.specs.declared.fault.FormFault.{FormFault}
-use Rattle.coswid_res.specs.declared.verdict.Verdict.{Verdict}
+use Rattle.coswid_res.specs.declared.verification.verdict.Verdict.{Verdict}
 use Rattle.coswid_tag.specs.Findings.{findings}
 use Rattle.coswid_tag.specs.declared.tag.Tag.{Tag}
 use Rattle.coswid_codec.specs.Answers.{limits, BeginsTag, BeginsFaulty}
-use Rattle.swid_cli.specs.declared.step.Ending.{Ending}
-use Rattle.swid_cli.specs.declared.step.Ending.TheVariants as ending
+use Rattle.swid_cli.specs.declared.ending.Ending.{Ending}
+use Rattle.swid_cli.specs.declared.ending.Ending.TheVariants as ending
 use Rattle.swid_cli.specs.Checking.{TagVerdicts, checked_ending, checked_text}
 use Rattle.swid_cli.specs.Text.{fault_line, line, refusal}
 
@@ -20,7 +20,7 @@ use Rattle.swid_cli.specs.Text.{fault_line, line, refusal}
 abbrev pub TAG_OCTETS : ℕ
 TAG_OCTETS = 8388608
 
--- A step of a path, a key or an index, that stands behind another.
+-- A step of a path, a key or an index, that stands after another.
 abbrev pub step_behind : ℤ → List ℕ
 step_behind step = codes "/" ++ signed_decimal step
 
@@ -33,8 +33,9 @@ path_text (step ∷ steps) = signed_decimal step ++ flat_map step_behind steps
 abbrev pub form_line : FormFault → List ℕ
 form_line fault = line (codes "form" ∷ decimal fault.kind ∷ path_text fault.path ∷ [])
 
--- The text that is printed of all octets of the input, and how it ends: a rule for each row of the table in docs/commands.md. The
--- files of a tag are looked at or not, and what they hold is told or not.
+-- The text that is printed of all octets of the input, and how it ends: a rule for each row of the
+-- table in docs/rules/commands.md. The files of a tag are looked at or not, and what they hold is
+-- known or not.
 pub data TagTells (looked_at : Bool) (files : Option (List NamedFile)) : List ℕ → List ℕ → Ending → Type 0 where
   -- the input has more octets than it may have
   long_input : (octets : List ℕ) → TAG_OCTETS < length octets → TagTells looked_at files octets (refusal (codes "limit") TAG_OCTETS) ending.Refused

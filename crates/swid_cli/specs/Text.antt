@@ -28,7 +28,7 @@ abbrev pub epoch_text : Option ℕ → List ℕ
 epoch_text None = codes "none"
 epoch_text (Some epoch) = decimal epoch
 
--- What a mirror answered to a report of so many records at a point, or of so many events.
+-- What a mirror answered to a report of that many records at a point, or of that many events.
 abbrev pub took : Point → ℕ → Taken → List ℕ
 took point count taken.WrongKind = line (codes "took" ∷ codes "wrong-kind" ∷ [])
 took point count taken.Stale = line (codes "took" ∷ codes "stale" ∷ [])
@@ -50,13 +50,13 @@ took_line (Events kind fulfil id point consulted events) answer = took point (le
 abbrev pub model_text : DataModel → List ℕ
 model_text model = decimal model.pen ++ codes "/" ++ decimal model.kind
 
--- The body of a record: in a mirror of identifiers a dash, else its length and its SHA-256 digest (FIPS 180-4) in
--- hexadecimal digits.
+-- The body of a record: in a mirror of identifiers a dash, else its length and its SHA-256 digest
+-- (FIPS 180-4) in hexadecimal digits.
 abbrev pub body_text : Kind → List ℕ → List ℕ
 body_text Ids body = codes "-"
 body_text Full body = decimal (length body) ++ codes ":" ++ encode_lower (sha256 body)
 
--- The words on a record's content, behind that of its data model.
+-- The words on a record's content, after that of its data model.
 abbrev pub content_words : Kind → Content → List (List ℕ)
 content_words kind content = decimal content.source ∷ escaped content.ident ∷ escaped content.locator ∷ body_text kind content.body ∷ []
 

@@ -4,8 +4,8 @@ ghost use Rattle.std.specs.Prelude.{◌≡◌, IfOk};
 ghost use Rattle.swid_cli.specs.Answer.{ending_of, limit_answer, refusal_answer};
 ghost use Rattle.swid_cli.specs.Text.{refusal};
 
-use crate::step::Ending;
-use crate::text::refusal;
+use crate::ending::Ending;
+use crate::refusal_lines::refusal;
 use std::alloc::Global;
 use wire_base::{Memory, Octets};
 
@@ -28,7 +28,8 @@ pub fn refused(text: Octets) -> Answer
     }
 }
 
-/// The answer to an input that is longer than it may be, or has more parts: the most that it may have.
+/// The answer to an input that is longer than it may be, or has more parts: the most that it may
+/// have.
 pub fn beyond_limit(alloc: Global, most: usize) -> Result<Answer, Memory>
     ensures limit { IfOk result (λ made. made ≡ limit_answer most) }
 {

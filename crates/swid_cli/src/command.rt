@@ -9,9 +9,11 @@ use swima_model::Kind;
 /// A command that waits for nobody.
 #[derive(Clone, Copy, Debug, PartialEq, Eq)]
 pub enum Command {
-    /// `mirror ids` or `mirror full`: take the reports of a kind that come in, and show what a mirror holds then.
+    /// `mirror ids` or `mirror full`: take the reports of a kind that come in, and show what a
+    /// mirror holds then.
     Mirror(Kind),
-    /// `tag` or `tag verify`: say what a tag tells and what is wrong with it, and with `verify` what is wrong with its files.
+    /// `tag` or `tag verify`: say what a tag is and what is wrong with it, and with `verify`
+    /// what is wrong with its files.
     Tag { looks_at_files: bool },
     /// `links`: say what is wrong between tags.
     Links,

@@ -1,9 +1,13 @@
 //! The command `links`.
 
+pub(crate) mod lines;
+pub(crate) mod tag_list;
+
 ghost use Rattle.std.specs.Prelude.{◌≡◌, ◌≤◌, false, IfOk, IfSome, length};
 ghost use Rattle.std.specs.List.{All};
 ghost use Rattle.cbor_det.specs.Term.{depth};
 ghost use Rattle.coswid_codec.specs.Items.{tag_item};
+ghost use Rattle.coswid_codec.specs.SizesFit.{SizesFit};
 ghost use Rattle.swid_cli.specs.Answer.{refusal_answer};
 ghost use Rattle.swid_cli.specs.Causes.{HasCauses};
 ghost use Rattle.swid_cli.specs.Links.{LIST_OCTETS, LinksTells, answer_behind, at_tag, list_answer};
@@ -11,12 +15,12 @@ ghost use Rattle.swid_cli.specs.TagList.{LIST_TAGS};
 ghost use Rattle.swid_cli.specs.Telling.{RanTelling};
 
 use crate::answer::{Answer, beyond_limit, ending_of, refused};
-use crate::links_line::{at_tag, findings_text};
-use crate::step::Ending;
-use crate::tag_line::form_line;
-use crate::tag_list::{Behind, MOST_TAGS, TagList, read_tags};
-use crate::text::fault_line;
-use cbor_det::CborFault;
+use crate::ending::Ending;
+use crate::links::lines::{at_tag, findings_text};
+use crate::links::tag_list::{Behind, MOST_TAGS, TagList, read_tags};
+use crate::refusal_lines::fault_line;
+use crate::tag::lines::form_line;
+use cbor_det::CborFaultKind;
 use coswid_links::check_links;
 use coswid_tag::Tag;
 use std::alloc::Global;
@@ -25,10 +29,8 @@ use wire_base::{List, Memory, Octets, Sink, Source, Stopped, fill, write_all};
 /// The most octets of the input.
 const MOST_LIST_OCTETS: usize = 67_108_864;
 
-/// The kind of the fault of octets that are cut short.
-const TRUNCATED: u8 = 1;
-
-/// Reads tags one after another, to the end of the input, and prints what is wrong between them, or what is no tag.
+/// Reads tags one after another, to the end of the input, and prints what is wrong between them, or
+/// what is no tag.
 pub fn links<S: Source, K: Sink>(
     alloc: Global,
     input: &mut S,
@@ -55,9 +57,11 @@ fn answer_to(alloc: Global, octets: &[u8]) -> Result<Answer, Memory>
     answer_to_list(alloc, &list, MOST_LIST_OCTETS < octets.len())
 }
 
-/// What is printed of the tags that are read of an input, which has more octets than may be looked at where `goes_on`.
-pub(crate) fn answer_to_list(alloc: Global, list: &TagList, goes_on: bool) -> Result<Answer, Memory>
+/// What is printed of the tags that are read of an input, which has more octets than may be looked
+/// at where `goes_on`.
+fn answer_to_list(alloc: Global, list: &TagList, goes_on: bool) -> Result<Answer, Memory>
     requires shallow { All (λ g. depth (tag_item g) ≤ 64) list.now.tags }
+    requires sizes { All SizesFit list.now.tags }
     requires within { length list.now.tags ≤ LIST_TAGS }
     ensures answer { IfOk result (λ made. made ≡ list_answer list.now goes_on) }
 {
@@ -66,7 +70,7 @@ pub(crate) fn answer_to_list(alloc: Global, list: &TagList, goes_on: bool) -> Re
         Behind::Nothing if goes_on => beyond_limit(alloc, MOST_LIST_OCTETS),
         Behind::Nothing => answer_to_tags(alloc, list.tags.as_slice()),
         Behind::More => beyond_limit(alloc, MOST_TAGS),
-        Behind::NoItem(fault) if goes_on && fault.kind == TRUNCATED => {
+        Behind::NoItem(fault) if goes_on && fault.kind == CborFaultKind::Truncated as u8 => {
             beyond_limit(alloc, MOST_LIST_OCTETS)
         }
         Behind::NoItem(fault) => {
@@ -80,9 +84,10 @@ pub(crate) fn answer_to_list(alloc: Global, list: &TagList, goes_on: bool) -> Re
     }
 }
 
-/// What is printed of tags behind which nothing stands.
+/// What is printed of tags after which nothing stands.
 fn answer_to_tags(alloc: Global, tags: &[Tag]) -> Result<Answer, Memory>
     requires shallow { All (λ g. depth (tag_item g) ≤ 64) tags.now }
+    requires sizes { All SizesFit tags.now }
     ensures answer { IfOk result (λ made. made ≡ answer_behind tags.now false Behind.Nothing) }
 {
     let found = check_links(alloc, tags)?;

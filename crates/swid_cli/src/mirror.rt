@@ -1,18 +1,24 @@
 //! The command `mirror`.
 
+pub(crate) mod first_attribute;
+pub(crate) mod lines;
+pub(crate) mod step;
+pub(crate) mod supported;
+
 ghost use Rattle.std.specs.Prelude.{◌≡◌, List, ℕ, IfOk, IfSome, is_err};
 ghost use Rattle.swid_cli.specs.Run.{Ran};
 ghost use Rattle.swid_cli.specs.Stream.{stream_text};
 ghost use Rattle.swid_cli.specs.Causes.{HasCauses};
 
-use crate::step::{Ending, Step, next_step};
+use crate::ending::Ending;
+use crate::mirror::step::{Step, next_step};
 use std::alloc::Global;
 use swima_model::Kind;
 use validator_core::Mirror;
 use wire_base::{Sink, Source, Stopped, write_all};
 
-/// Lets a mirror of `kind` take the attributes of the input one after another, and prints what it answers to each and,
-/// at the end, what it holds.
+/// Lets a mirror of `kind` take the attributes of the input one after another, and prints what it
+/// answers to each and, at the end, what it holds.
 pub fn mirror<S: Source, K: Sink>(
     alloc: Global,
     kind: Kind,

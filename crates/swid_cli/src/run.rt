@@ -12,9 +12,9 @@ ghost use Rattle.wire_base.specs.Outside.{Adds, Rose};
 ghost use Rattle.wire_base.specs.Passing.{AddsFront};
 
 use crate::command::{Command, command_of};
+use crate::ending::Ending;
 use crate::links::links;
 use crate::mirror::mirror;
-use crate::step::Ending;
 use crate::tag::tag;
 use std::alloc::Global;
 use wire_base::{Files, Sink, Source, Stopped, write_all};
@@ -22,10 +22,10 @@ use wire_base::{Files, Sink, Source, Stopped, write_all};
 /// What is printed where the words are no command line.
 const USAGE: &[u8; 6] = b"usage\n";
 
-/// Does what the words of the command line say, over the objects of the outside that it is lent, and answers the
-/// status: 2 exactly where the words are no command line; else 4 at want of memory; else 3 exactly where a count of
-/// faults rose; else 1 exactly where the input was refused, or something is wrong with what it tells; else 0, and then the input was read
-/// to its end.
+/// Does what the words of the command line say, over the objects of the outside that it is lent,
+/// and answers the status: 2 exactly where the words are no command line; else 4 where memory ran
+/// out; else 3 exactly where a count of faults rose; else 1 exactly where the input was refused,
+/// or something is wrong with what it holds; else 0, and then the input was read to its end.
 pub fn run_plain<S: Source, K: Sink, F: Files>(
     alloc: Global,
     words: &[&str],
@@ -42,8 +42,9 @@ pub fn run_plain<S: Source, K: Sink, F: Files>(
         ⊎ Rose (K.faults output.old) (K.faults output.new) }
     ensures usage_input { result ≡ 2 → input.new ≡ input.old }
 
-    // Words that are one: of an input that exposes its octets, the text, the status and what is left of the input are those of
-    // the command that the words say; where a call failed or memory ran out, a prefix of the text was printed.
+    // Words that are one: of an input that exposes its octets, the text, the status and what is
+    // left of the input are those of the command that the words say; where a call failed or memory
+    // ran out, a prefix of the text was printed.
     ensures printed { result ≢ 2 → result ≢ 3 → result ≢ 4
         → IfSome (S.left input.old) (λ octets. (told : Printed)
         × WordsPrint (map (λ word. word.now) words.now) (F.contents files.old) octets told
@@ -58,14 +59,15 @@ pub fn run_plain<S: Source, K: Sink, F: Files>(
         WordsRead (map (λ word. word.now) words.now) octets result
         (F.reads files.old) (F.reads files.new)) }
 
-    // At status 0 what `mirror` printed ends with a mirror that is right over each honest history from which the reports answer.
+    // At status 0 what `mirror` printed ends with a mirror that is right over each honest history
+    // from which the reports answer.
     ensures right { result ≡ 0 → (kind : KindValue)
         → IsMirror kind (map (λ word. word.now) words.now)
         → IfSome (S.left input.old) (λ octets. (history : History)
         → IsHonest history → AllAnswer history kind octets
         → PrintsRight history kind (K.written output.old) (K.written output.new)) }
 
-    // Status 3 tells a fault, no other status hides one, and no count falls.
+    // Status 3 reports a fault, no other status hides one, and no count falls.
     ensures fault { result ≡ 3
         → Rose (S.faults input.old) (S.faults input.new)
         ⊎ Rose (K.faults output.old) (K.faults output.new)

@@ -1,10 +1,14 @@
 //! The commands `tag` and `tag verify`.
 
+pub(crate) mod lines;
+pub(crate) mod verdict_lines;
+
 ghost use Rattle.std.specs.Prelude.{◌≡◌, ◌≤◌, true, false, IfOk, IfSome, length};
 ghost use Rattle.std.specs.Bool.{OnTrue};
 ghost use Rattle.cbor_det.specs.Term.{depth};
 ghost use Rattle.coswid_codec.specs.Answers.{BeginsTag};
 ghost use Rattle.coswid_codec.specs.Items.{tag_item};
+ghost use Rattle.coswid_codec.specs.SizesFit.{SizesFit};
 ghost use Rattle.coswid_tag.specs.Findings.{findings};
 ghost use Rattle.swid_cli.specs.Causes.{HasFilesCauses};
 ghost use Rattle.swid_cli.specs.Checking.{TagVerdicts, checked_ending, checked_text};
@@ -15,10 +19,10 @@ ghost use Rattle.wire_base.specs.Outside.{HasCause};
 ghost use Rattle.wire_base.specs.Passing.{is_fault};
 
 use crate::answer::{Answer, beyond_limit, ending_of, refused};
-use crate::step::Ending;
-use crate::tag_line::form_line;
-use crate::text::{fault_line, refusal};
-use crate::verdict_line::{has_wrong, push_files};
+use crate::ending::Ending;
+use crate::refusal_lines::{fault_line, refusal};
+use crate::tag::lines::form_line;
+use crate::tag::verdict_lines::{has_wrong, push_files};
 use coswid_codec::{TagRefused, put_canonical, put_summary, read_tag};
 use coswid_res::{Verdict, Verdicts, VerifyRefused, verify};
 use coswid_tag::Tag;
@@ -28,8 +32,8 @@ use wire_base::{Files, List, Memory, Sink, Source, Stopped, Text, fill, write_al
 /// The most octets of the input.
 const MOST_TAG_OCTETS: usize = 8_388_608;
 
-/// Reads one tag, to the end of the input, and prints its text, or why there is none. Where `looks_at_files`, the text has a
-/// verdict on each file of its payload.
+/// Reads one tag, to the end of the input, and prints its text, or why there is none. Where
+/// `looks_at_files`, the text has a verdict on each file of its payload.
 pub fn tag<S: Source, K: Sink, F: Files>(
     alloc: Global,
     looks_at_files: bool,
@@ -93,6 +97,7 @@ fn answer_to_tag<F: Files>(
     requires within { length octets.now ≤ TAG_OCTETS }
     requires begins { BeginsTag octets.now tag.now used }
     requires shallow { depth (tag_item tag.now) ≤ 64 }
+    requires sizes { SizesFit tag.now }
     ensures told { IfOk result (λ made. TagTells looks_at_files (F.contents files.old) octets.now made.text made.ending) }
     ensures contents { F.contents files.new ≡ F.contents files.old }
     ensures files { looks_at_files ≡ false → files.new ≡ files.old }
@@ -107,7 +112,8 @@ fn answer_to_tag<F: Files>(
     Ok(checked(alloc, tag, verdicts.as_slice())?)
 }
 
-/// The verdicts on the files of a tag's payload; none where files are not looked at, or there is no payload.
+/// The verdicts on the files of a tag's payload; none where files are not looked at, or there is no
+/// payload.
 fn verdicts_on<F: Files>(
     alloc: Global,
     looks_at_files: bool,
@@ -137,6 +143,7 @@ fn verdicts_on<F: Files>(
 /// What is printed of a tag with these verdicts.
 fn checked(alloc: Global, tag: &Tag, verdicts: &[(Text, Verdict)]) -> Result<Answer, Memory>
     requires shallow { depth (tag_item tag.now) ≤ 64 }
+    requires sizes { SizesFit tag.now }
     ensures text { IfOk result (λ made. made.text ≡ checked_text tag.now verdicts.now) }
     ensures ending { IfOk result (λ made. made.ending ≡ checked_ending (findings tag.now) verdicts.now) }
 {

@@ -7,7 +7,7 @@ use Rattle.swima_model.specs.Live.{live}
 use Rattle.swima_model.specs.Size.{are_large}
 use Rattle.swima_model.proofs.Living.{live_none}
 
--- What is live after so many events fits.
+-- What is live after that many events fits.
 pub live_fits : (epoch : Epoch) (count : ℕ) → IsHonestEpoch epoch → count ≤ length epoch.events → are_large (live epoch.base (take count epoch.events)) ≡ false
 live_fits epoch zero honest le = ap are_large (live_none epoch.base honest.rising) ∙ honest.begins
 live_fits epoch (suc count) honest le =

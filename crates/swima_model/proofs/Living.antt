@@ -18,7 +18,7 @@ use Rattle.swima_model.proofs.Placing.{in_order_of_id, in_order_rising_permutati
 
 -- ---- numbers that rise
 
--- What stands behind the first of rising numbers rises.
+-- What stands after the first of rising numbers rises.
 pub strict_rest : (x : ℕ) (xs : List ℕ) → IsStrictlyIncreasing (x ∷ xs) → IsStrictlyIncreasing xs
 strict_rest x xs up k lt =
     let e : suc k + 1 ≡ suc (k + 1) = omega arith in

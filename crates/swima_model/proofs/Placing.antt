@@ -71,7 +71,7 @@ in_order_of_id id [] = refl
 in_order_of_id id (r ∷ records) =
     put_of_id id r (in_order records) ∙ ap (λ (rs : List Record). cond (eqb r.id id) (r ∷ rs) rs) (in_order_of_id id records)
 
--- Records in order are told by those of each identifier.
+-- Records in order are decided by those of each identifier.
 pub below_none : (id n : ℕ) (rs : List Record) → id < n → AllFrom n (ids rs) → of_id id rs ≡ []
 below_none id n [] lt h = refl
 below_none id n (r ∷ rs) lt h =
@@ -161,7 +161,7 @@ in_order_rising_permutation records = record {
       ));
 }
 
--- `in_order` is told by what it means.
+-- `in_order` is decided by what it means.
 pub in_order_is_rising_permutation : InOrderIsRisingPermutation
 in_order_is_rising_permutation records ordered = (
   λ e. subst (IsRisingPermutation records) e (in_order_rising_permutation records),

@@ -115,7 +115,7 @@ least_permuted xs ys (Some x) p h =
 pub found_doubled : (xs ys : List ℕ) (found : Option ℕ) → IsPermutation xs ys → IsLeastRepeated ys found → found ≡ doubled xs
 found_doubled xs ys found p h = one_least xs found (doubled xs) (least_permuted xs ys found p h) (doubled_least xs)
 
--- `doubled` is told by what it means.
+-- `doubled` is decided by what it means.
 pub doubled_is_least_repeated : DoubledIsLeastRepeated
 doubled_is_least_repeated numbers found = (
   λ e. subst (IsLeastRepeated numbers) e (doubled_least numbers),

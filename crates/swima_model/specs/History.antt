@@ -1,5 +1,5 @@
--- The history of an endpoint's inventory: epochs, and in each epoch events (RFC 8412, section 3.7.1). Which histories are
--- honest, and which reports answer from one.
+-- The history of an endpoint's inventory: epochs, and in each epoch events (RFC 8412,
+-- section 3.7.1). Which histories are honest, and which reports answer from one.
 use Rattle.std.specs.Prelude.{◌≡◌, ◌≢◌, ◌<◌, ◌≤◌, ◌+◌, ◌^◌, ◌&&◌, ℕ, Bool, false, not, is_some, List, [], ◌∷◌, ◌++◌, All, AllPairs, Contains, length, take, filter, nat_le}
 use Rattle.std.specs.List.Sorted.{IsStrictlyIncreasing}
 use Rattle.swima_model.specs.declared.event.Action.{Action}
@@ -25,34 +25,37 @@ pub record Epoch : Type 0 where
 abbrev pub History : Type 0
 History = List Epoch
 
--- The records that are live after so many events of the epoch, as reports of a kind carry them.
+-- The records that are live after that many events of the epoch, as reports of a kind carry them.
 abbrev pub live_at : Epoch → ℕ → Kind → List Record
 live_at epoch count kind = records_of_kind kind (live epoch.base (take count epoch.events))
 
 -- ---- honest histories
 
--- The action fits no record that is live, or one that is not.
-abbrev pub does_not_fit : Action → Bool → Bool
-does_not_fit Creation is_live = is_live
-does_not_fit Deletion is_live = not is_live
-does_not_fit Alteration is_live = not is_live
+-- The action contradicts that its record is live, or that it is not.
+abbrev pub is_contradiction : Action → Bool → Bool
+is_contradiction Creation is_live = is_live
+is_contradiction Deletion is_live = not is_live
+is_contradiction Alteration is_live = not is_live
 
--- The event contradicts what is live before it: it creates a record that is live, or alters or deletes one that is not.
+-- The event contradicts what is live before it: it creates a record that is live, or alters or
+-- deletes one that is not.
 abbrev pub contradicts : List Record → Event → Bool
-contradicts records event = does_not_fit event.action (is_some (record_of event.subject.id records))
+contradicts records event = is_contradiction event.action (is_some (record_of event.subject.id records))
 
 -- The event identifiers are this number and those after it, one by one.
 abbrev pub AreNumberedFrom : ℕ → List Event → Type 0
 AreNumberedFrom eid [] = Unit {0}
 AreNumberedFrom eid (event ∷ later) = (event.eid ≡ eid) × AreNumberedFrom (eid + 1) later
 
--- An event fits behind those before it: it contradicts nothing, and what is live behind it is not too much.
+-- An event fits after those before it: it contradicts nothing, and what is live after it is not
+-- too much.
 pub record FitsBehind (base : List Record) (before : List Event) (event : Event) : Type 0 where
   pub agrees : contradicts (live base before) event ≡ false
   pub fits : are_large (live base (before ++ event ∷ [])) ≡ false
 
--- An epoch is honest where its number is not 0, the identifiers of its base rise and its base is not too much, the
--- identifiers of its events are 1, 2, 3 and so on and fit four octets, and each event fits behind those before it.
+-- An epoch is honest where its number is not 0, the identifiers of its base rise and its base is
+-- not too much, the identifiers of its events are 1, 2, 3 and so on and fit four octets, and each
+-- event fits after those before it.
 pub record IsHonestEpoch (epoch : Epoch) : Type 0 where
   pub numbered : 0 < epoch.number
   pub rising : IsStrictlyIncreasing (ids epoch.base)
@@ -80,13 +83,15 @@ pub record LiesIn (history : History) (point : Point) (holds : Epoch → Type 0)
 abbrev pub from_to : ℕ → ℕ → List Event → List Event
 from_to first last events = filter (λ (e : Event). nat_le first e.eid && nat_le e.eid last) events
 
--- The events that are told are none, or all of the epoch from the first that is told to the last that was consulted.
+-- The events that are reported are none, or all of the epoch from the first that is reported to the
+-- last that was consulted.
 abbrev pub TellsAll : Epoch → Kind → ℕ → List Event → Type 0
 TellsAll epoch kind consulted [] = Unit {0}
 TellsAll epoch kind consulted (first ∷ others) = first ∷ others ≡ events_of_kind kind (from_to first.eid consulted epoch.events)
 
--- The report answers from the history at its point: an inventory is what is live there, and events are those up to the
--- last that was consulted, which is not behind the point. This is of reports without targets.
+-- The report answers from the history at its point: an inventory is what is live there, and events
+-- are those up to the last that was consulted, which is not after the point. This is of reports
+-- without targets.
 abbrev pub Answers : History → Report → Type 0
 Answers history (Inventory kind fulfil id point records) = LiesIn history point (λ epoch. records ≡ live_at epoch point.eid kind)
 Answers history (Events kind fulfil id point consulted events) = LiesIn history point (λ epoch. (consulted ≤ point.eid) × TellsAll epoch kind consulted events)

@@ -1,5 +1,5 @@
--- Records in order of their identifiers. A record identifier names a record within its endpoint (RFC 8412, section
--- 3.4.3); the order is our own.
+-- Records in order of their identifiers. A record identifier names a record within its endpoint
+-- (RFC 8412, section 3.4.3); the order is our own.
 use Rattle.std.specs.Prelude.{ℕ, List, [], ◌∷◌, map, nat_le, if◌then◌else◌}
 use Rattle.swima_model.specs.declared.record.Record.{Record}
 

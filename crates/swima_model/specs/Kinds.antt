@@ -1,4 +1,5 @@
--- What reports of a kind carry of records and events: reports of identifiers have no bodies (RFC 8412, sections 5.7 and 5.8).
+-- What reports of a kind carry of records and events: reports of identifiers have no bodies
+-- (RFC 8412, sections 5.7 and 5.8).
 use Rattle.std.specs.Prelude.{ℕ, List, [], map}
 use Rattle.swima_model.specs.declared.event.Event.{Event}
 use Rattle.swima_model.specs.declared.record.Record.{Record}

@@ -29,7 +29,8 @@ last_mentions (event ∷ later) =
     if is_mentioned event.subject.id later || is_deletion event.action then last_mentions later
     else event.subject ∷ last_mentions later
 
--- The records that are live after some events, in order of identifier, where those of the base were live before them.
+-- The records that are live after some events, in order of identifier, where those of the base were
+-- live before them.
 abbrev pub live : List Record → List Event → List Record
 live base events = in_order (unmentioned events base ++ last_mentions events)
 
@@ -49,7 +50,8 @@ abbrev pub last_mention : ℕ → List Event → Option Event
 last_mention id [] = None
 last_mention id (event ∷ later) = later_or (last_mention id later) (if event.subject.id == id then Some event else None)
 
--- What is live of a record: without a mention what the base has of it, and else what its last mention says.
+-- What is live of a record: without a mention what the base has of it, and else what its last
+-- mention says.
 abbrev pub by_mention : Option Record → Option Event → Option Record
 by_mention held None = held
 by_mention held (Some event) = if is_deletion event.action then None else Some event.subject

@@ -9,8 +9,8 @@ use Rattle.swima_model.specs.Doubled.{doubled}
 abbrev pub of_id : ℕ → List Record → List Record
 of_id id records = filter (λ (r : Record). r.id == id) records
 
--- The same records with identifiers that do not fall, those of one identifier as they stood. Where no identifier is
--- doubled, each is below the next.
+-- The same records with identifiers that do not fall, those of one identifier as they stood. Where
+-- no identifier is doubled, each is below the next.
 pub record IsRisingPermutation (records ordered : List Record) : Type 0 where
   pub permutation : IsPermutation records ordered
   pub rising : IsNonDecreasing (ids ordered)

@@ -24,7 +24,7 @@ pub enum LongRefused {
         /// The number of octets.
         len: u64,
     },
-    /// Want of memory.
+    /// Out of memory.
     #[error("out of memory")]
     Memory,
 }
@@ -155,7 +155,7 @@ impl<L: Limit> Ord for Bounded<L> {
     }
 }
 
-/// The limit of a software identifier, whose length is told by two octets.
+/// The limit of a software identifier, whose length is given by two octets.
 #[derive(Clone, Copy, Debug)]
 pub struct IdentLimit;
 
@@ -165,7 +165,7 @@ impl Limit for IdentLimit {
     ghost OCTETS = { 65535 };
 }
 
-/// The limit of a software locator, whose length is told by two octets.
+/// The limit of a software locator, whose length is given by two octets.
 #[derive(Clone, Copy, Debug)]
 pub struct LocatorLimit;
 

@@ -1,6 +1,10 @@
 //! Changes of an inventory.
 
+ghost use Rattle.std.specs.Prelude.{◌≡◌, ◌≤◌, ◌+◌};
+ghost use Rattle.swima_model.specs.Size.{MOST_CONTENT_OCTETS, event_size};
+
 use crate::record::Record;
+use crate::report::Kind;
 use wire_base::{List, Memory, TryCopy};
 
 /// What an event did to its record (RFC 8412, section 5.8).
@@ -31,6 +35,16 @@ pub struct Event {
     pub action: Action,
     /// The record as the change left it; of a deletion, the record that went.
     pub subject: Record,
+}
+
+impl Event {
+    /// How many octets the event takes in a report of this kind. It takes no memory.
+    pub fn size(&self, kind: Kind) -> u64
+        ensures size { result ≡ event_size kind self.now }
+        ensures within { result ≤ MOST_CONTENT_OCTETS + 42 }
+    {
+        24 + self.subject.size(kind)
+    }
 }
 
 impl TryCopy for Event {

@@ -5,21 +5,22 @@ ghost use Rattle.swima_model.specs.Live.{LiveIsLastMention};
 ghost use Rattle.swima_model.specs.Repeated.{DoubledIsLeastRepeated};
 ghost use Rattle.swima_model.specs.Rising.{InOrderIsRisingPermutation};
 
-/// The smallest doubled identifier is the least number that stands at least twice; there is none exactly where each
-/// number stands once at most.
+/// The smallest doubled identifier is the least number that stands at least twice; there is none
+/// exactly where each number stands once at most.
 pub fn doubled_is_least_repeated()
     ensures law { DoubledIsLeastRepeated }
 {}
 
-/// Records in order are the same records, by identifiers that do not fall and those of one identifier as they stood, and
-/// no other list is. Where no identifier is doubled, each is below the next.
+/// Records in order are the same records, by identifiers that do not fall and those of one
+/// identifier as they stood, and no other list is. Where no identifier is doubled, each is below
+/// the next.
 pub fn in_order_is_rising_permutation()
     ensures law { InOrderIsRisingPermutation }
 {}
 
-/// Over records of rising identifiers, the records that are live after some events are those of rising identifiers of
-/// which each is what the last mention of its identifier says, or without a mention what stood before; and no other list
-/// is.
+/// Over records of rising identifiers, the records that are live after some events are those of
+/// rising identifiers of which each is what the last mention of its identifier says, or without a
+/// mention what stood before; and no other list is.
 pub fn live_is_last_mention()
     ensures law { LiveIsLastMention }
 {}

@@ -1,14 +1,15 @@
 //! Software inventory evidence records.
 
-ghost use Rattle.std.specs.Prelude.{◌≡◌, ◌≤◌};
-ghost use Rattle.swima_model.specs.Size.{MOST_OCTETS, content_octets};
+ghost use Rattle.std.specs.Prelude.{◌≡◌, ◌≤◌, ◌+◌};
+ghost use Rattle.swima_model.specs.Size.{MOST_CONTENT_OCTETS, body_size, content_octets, record_size};
 
 use crate::bounded::{Body, Ident, Locator};
+use crate::report::Kind;
 use std::marker;
 use wire_base::{List, Memory, TryCopy};
 
-/// The data model of a record's body: the Private Enterprise Number of the organization that assigned the type, below
-/// 2^24, and the type (RFC 8412, section 3.4.2).
+/// The data model of a record's body: the Private Enterprise Number of the organization that
+/// assigned the type, below 2^24, and the type (RFC 8412, section 3.4.2).
 #[derive(Clone, Copy, Debug, PartialEq, Eq)]
 pub struct Model {
     /// The Private Enterprise Number.
@@ -55,7 +56,7 @@ impl Content {
     /// How many octets the identifier, the locator and the body have together. It takes no memory.
     pub fn octets(&self) -> u64
         ensures octets { result ≡ content_octets self.now }
-        ensures within { result ≤ MOST_OCTETS }
+        ensures within { result ≤ MOST_CONTENT_OCTETS }
     {
         let ident = self.ident.bytes().len();
         let locator = self.locator.bytes().len();
@@ -83,6 +84,29 @@ pub struct Record {
     pub id: u32,
     /// What the record says.
     pub content: Content,
+}
+
+impl Record {
+    /// How many octets the record takes in a report of this kind. It takes no memory.
+    pub fn size(&self, kind: Kind) -> u64
+        ensures size { result ≡ record_size kind self.now }
+        ensures within { result ≤ MOST_CONTENT_OCTETS + 18 }
+    {
+        let ident = self.content.ident.bytes().len() as u64;
+        let locator = self.content.locator.bytes().len() as u64;
+        14 + ident + locator + body_size(kind, &self.content.body)
+    }
+}
+
+/// How many octets a body takes in a report of the kind, with those that give its length.
+fn body_size(kind: Kind, body: &Body) -> u64
+    ensures size { result ≡ body_size kind body.now }
+    ensures within { result ≤ 4 + 1048576 }
+{
+    match kind {
+        Kind::Ids => 0,
+        Kind::Full => 4 + body.bytes().len() as u64,
+    }
 }
 
 impl TryCopy for Record {

@@ -71,8 +71,8 @@ pub enum Report {
 }
 
 impl Report {
-    /// The same report as one that fulfils a subscription (RFC 8412, sections 5.7 to 5.10). It takes
-    /// no memory.
+    /// The same report as one that fulfils a subscription (RFC 8412, sections 5.7 to 5.10). It
+    /// takes no memory.
     pub fn fulfilling(self) -> Self
         ensures report { result ≡ fulfilling self }
     {

@@ -18,11 +18,11 @@ use Rattle.swima_model.specs.declared.report.Report.TheVariants.{Inventory, Even
 use Rattle.swima_reports.specs.ActionNumber.{action_number, action_of}
 use Rattle.swima_reports.specs.ReportType.{IsReportType, report_type}
 use Rattle.swima_reports.specs.ReportForm.{FULFIL, MOST_BODY_OCTETS, MayCarry, MayCarryEvent, CanBeWritten, IsCarried, body_fields, record_fields, event_fields, inventory_fields, events_fields, report_fields}
-use Rattle.swima_reports.specs.ReportReading.{record_from, read_body, read_record, read_event, read_inventory, read_events, read_report}
+use Rattle.swima_reports.specs.ReportReading.{record_from, read_body, read_origin, read_software, read_record, read_event, read_inventory, read_events, read_report}
 use Rattle.swima_reports.specs.Laws.{FaultIsFirst, AreOneOfTwo, NoFormIsAFront}
-use Rattle.wire_base.proofs.Faults.{ExactFaults, Alike, relaid, last_part}
+use Rattle.wire_base.proofs.Faults.{ExactFaults, Alike, relaid, then_part, last_part}
 use Rattle.wire_base.proofs.FieldFaults.{set_of, octets_start, number_start, counted_start, meaning_start, value_faults, then_number, then_counted, then_meaning, then_reserved, then_flags, alike_lists, last_several, gives, ends}
-use Rattle.swima_reports.proofs.ReportLaws.{at_most, action_means, action_of_number, body_exact, record_is, record_exact, event_is, event_exact, point_is, InventoryParts, inventory_of, EventsParts, events_of, four_types, reading_is_form}
+use Rattle.swima_reports.proofs.ReportLaws.{at_most, action_means, action_of_number, body_exact, record_is, origin_of, origin_layout, origin_is, origin_exact, software_of, software_layout, software_is, software_exact, record_exact, event_is, event_exact, point_is, InventoryParts, inventory_of, EventsParts, events_of, four_types, reading_is_form}
 
 -- ---- bodies
 
@@ -38,11 +38,31 @@ body_alike Full one other more most so also e = cc
 
 -- ---- records and events
 
+origin_faults : ExactFaults read_origin origin_layout (λ o. Unit {0}) Anything
+unfolding read_origin
+origin_faults = then_number λ id. then_number λ pen. then_number λ model. then_number λ source.
+    gives _ (record { id = id; model = record { pen = pen; kind = model }; source = source }) (refl, (refl, (refl, (refl, tt))))
+
+origin_alike : Alike origin_layout (λ o. Unit {0})
+origin_alike one other more most so also e = cc (origin_is one, origin_is other)
+
+software_faults : (kind : Kind) → ExactFaults (read_software kind) (software_layout kind) (λ s. MayCarry kind s.body) Anything
+unfolding read_software
+software_faults kind = then_counted λ ident. then_counted λ locator.
+    last_part (λ s. s.body) (body_exact kind) (body_faults kind) (body_alike kind) (λ s h. assumption h) λ body known.
+    gives _ (record { ident = ident; locator = locator; body = body }) (assumption (refl, known))
+
+software_alike : (kind : Kind) → Alike (software_layout kind) (λ s. MayCarry kind s.body)
+software_alike kind one other more most so also e =
+    let bodies : body_fields kind one.body ++ more ≡ body_fields kind other.body ++ most = cc in
+    let body : one.body ≡ other.body = body_alike kind one.body other.body more most so also bodies in
+    cc (software_is one, software_is other)
+
 record_faults : (kind : Kind) → ExactFaults (read_record kind) (record_fields kind) (λ r. MayCarry kind r.content.body) Anything
 unfolding read_record
-record_faults kind = then_number λ id. then_number λ pen. then_number λ model. then_number λ source. then_reserved λ reserved. then_counted λ ident. then_counted λ locator.
-    last_part (λ r. r.content.body) (body_exact kind) (body_faults kind) (body_alike kind) (λ r h. assumption h) λ body known.
-    gives _ (record_from id pen model source ident locator body) (assumption (refl, known))
+record_faults kind = then_part origin_of origin_exact origin_faults origin_alike (λ r h. tt) λ origin any. then_reserved λ reserved.
+    last_part software_of (software_exact kind) (software_faults kind) (software_alike kind) (λ r h. assumption h) λ software known.
+    gives _ (record_from origin software) (assumption (refl, known))
 
 record_alike : (kind : Kind) → Alike (record_fields kind) (λ r. MayCarry kind r.content.body)
 record_alike kind one other more most so also e =
@@ -54,11 +74,10 @@ event_faults : (kind : Kind) → ExactFaults (read_event kind) (event_fields kin
 unfolding read_event
 event_faults kind = then_number λ eid.
     then_meaning (λ e. e.stamp) (fixed_exact 20) (octets_start 20) (λ one other more most so also e. cc) (if_so_means stamp_test_is_form) UNKNOWN_TIME (inr refl) (λ e h. assumption h) λ stamp is.
-    then_number λ id. then_number λ pen. then_number λ model. then_number λ source.
-    then_meaning (λ e. e.action) (number_exact 1) (number_start 1) (λ one other more most so also e. cc) action_means Creation tt (λ e h. tt) λ action any.
-    then_counted λ ident. then_counted λ locator.
-    last_part (λ e. e.subject.content.body) (body_exact kind) (body_faults kind) (body_alike kind) (λ e h. assumption h) λ body known.
-    gives _ (record { eid = eid; stamp = stamp; action = action; subject = record_from id pen model source ident locator body }) (assumption (refl, is, known))
+    then_part (λ e. origin_of e.subject) origin_exact origin_faults origin_alike (λ e h. tt) λ origin any.
+    then_meaning (λ e. e.action) (number_exact 1) (number_start 1) (λ one other more most so also e. cc) action_means Creation tt (λ e h. tt) λ action so.
+    last_part (λ e. software_of e.subject) (software_exact kind) (software_faults kind) (software_alike kind) (λ e h. assumption h) λ software known.
+    gives _ (record { eid = eid; stamp = stamp; action = action; subject = record_from origin software }) (assumption (refl, is, known))
 
 event_alike : (kind : Kind) → Alike (event_fields kind) (MayCarryEvent kind)
 event_alike kind one other more most so also e =

@@ -29,7 +29,7 @@ fulfilling_writable : (report : Report) → IsWritable report → IsWritable (fu
 fulfilling_writable (Inventory kind fulfil id point records) writable = record { fits = (flag_fits true, writable.fits.1); carried = writable.carried }
 fulfilling_writable (Events kind fulfil id point consulted events) writable = record { fits = (flag_fits true, writable.fits.1); carried = writable.carried }
 
--- The type of the attribute is that of the kind, and of what is told.
+-- The type of the attribute is that of the kind, and of what is reported.
 fulfilling_type : (report : Report) → report_type (fulfilling report) ≡ report_type report
 fulfilling_type (Inventory Ids fulfil id point records) = refl
 fulfilling_type (Inventory Full fulfil id point records) = refl

@@ -1,14 +1,14 @@
 -- The layouts of reports and the readers of them say the same.
-use Rattle.std.proofs.Common.{◌≡◌, ◌↔◌, ℕ, ◌≤◌, ◌⊎◌, inl, inr, [], Bool, true, false, cond, eqb, List, length, Ok, refl, sym, ap, subst, ◌∙◌, arith}
+use Rattle.std.proofs.Common.{◌≡◌, ◌↔◌, ℕ, ◌≤◌, ◌⊎◌, inl, inr, [], ◌∷◌, Bool, true, false, cond, eqb, List, length, Ok, refl, sym, ap, subst, ◌∙◌, arith}
 use Rattle.std.specs.Prelude.{Some, None, nat_le}
 use Rattle.std.specs.List.{AllByRecursion}
 use Rattle.std.proofs.lemmas.Bool.{leb-true, le-leb, eqb-true, cases_eq}
-use Rattle.wire_base.specs.Layout.{AreOctets, is_set, Form}
+use Rattle.wire_base.specs.Layout.{AreOctets, Counted, Field, Number, is_set, Form}
 use Rattle.wire_base.specs.Reading.{Reader, whole}
 use Rattle.wire_base.proofs.StampLaws.{stamp_test_is_form}
 use Rattle.wire_base.proofs.Exact.{Exact, Anything, Nothing, number_exact, counted_exact}
 use Rattle.wire_base.proofs.Meanings.{Means, fixed_exact, if_so_means, meaning_exact}
-use Rattle.wire_base.proofs.Blocks.{then_number, then_counted, then_reserved, then_flags, then_meaning, last_part, last_several, gives, ends, whole_forth, whole_back}
+use Rattle.wire_base.proofs.Blocks.{then_number, then_counted, then_reserved, then_flags, then_meaning, then_part, last_part, last_several, gives, ends, whole_forth, whole_back}
 use Rattle.swima_model.specs.declared.event.Action.{Action}
 use Rattle.swima_model.specs.declared.event.Action.TheVariants.{Creation, Deletion, Alteration}
 use Rattle.swima_model.specs.declared.event.Event.{Event}
@@ -18,10 +18,12 @@ use Rattle.swima_model.specs.declared.report.Kind.TheVariants.{Ids, Full}
 use Rattle.swima_model.specs.declared.report.Point.{Point}
 use Rattle.swima_model.specs.declared.report.Report.{Report}
 use Rattle.swima_model.specs.declared.report.Report.TheVariants.{Inventory, Events}
+use Rattle.swima_reports.specs.declared.entry.Origin.{Origin}
+use Rattle.swima_reports.specs.declared.entry.Software.{Software}
 use Rattle.swima_reports.specs.ActionNumber.{action_number, action_of}
 use Rattle.swima_reports.specs.ReportType.{IsReportType, report_type}
 use Rattle.swima_reports.specs.ReportForm.{FULFIL, MOST_BODY_OCTETS, MayCarry, MayCarryEvent, CanBeWritten, ReportForm, body_fields, record_fields, event_fields, inventory_fields, events_fields, report_fields}
-use Rattle.swima_reports.specs.ReportReading.{record_from, read_body, read_record, read_event, read_inventory, read_events, read_report}
+use Rattle.swima_reports.specs.ReportReading.{record_from, read_body, read_origin, read_software, read_record, read_event, read_inventory, read_events, read_report}
 use Rattle.swima_reports.specs.Laws.{ReadingIsForm}
 
 -- ---- fields
@@ -67,16 +69,51 @@ body_exact Full = meaning_exact (counted_exact 4) (if_so_means (λ body. at_most
 
 -- ---- records and events
 
+-- What a record begins with, and its fields.
+abbrev pub origin_of : Record → Origin
+origin_of r = record { id = r.id; model = r.content.model; source = r.content.source }
+
+abbrev pub origin_layout : Origin → List Field
+origin_layout o = Number 4 o.id ∷ Number 3 o.model.pen ∷ Number 1 o.model.kind ∷ Number 1 o.source ∷ []
+
+pub origin_is : (o : Origin) → o ≡ record { id = o.id; model = record { pen = o.model.pen; kind = o.model.kind }; source = o.source }
+origin_is o = refl
+
+pub origin_exact : Exact read_origin (λ o. o) origin_layout (λ o. Unit {0}) Anything
+unfolding read_origin
+origin_exact = then_number λ id. then_number λ pen. then_number λ model. then_number λ source.
+    gives (record { id = id; model = record { pen = pen; kind = model }; source = source }) refl (refl, (refl, (refl, (refl, tt)))) (λ o h. cc (origin_is o))
+
+-- What a record ends with, and its fields.
+abbrev pub software_of : Record → Software
+software_of r = record { ident = r.content.ident; locator = r.content.locator; body = r.content.body }
+
+abbrev pub software_layout : Kind → Software → List Field
+software_layout kind s = Counted 2 s.ident ∷ Counted 2 s.locator ∷ body_fields kind s.body
+
+pub software_is : (s : Software) → s ≡ record { ident = s.ident; locator = s.locator; body = s.body }
+software_is s = refl
+
+pub software_exact : (kind : Kind) → Exact (read_software kind) (λ s. s) (software_layout kind) (λ s. MayCarry kind s.body) Anything
+unfolding read_software
+software_exact kind = then_counted λ ident. then_counted λ locator.
+    last_part (λ s. s.body) (body_exact kind) (λ s h. assumption h) λ body known.
+    gives (record { ident = ident; locator = locator; body = body }) refl (assumption (refl, known)) (λ s h. cc (software_is s))
+
 -- A record is made of its parts.
 pub record_is : (r : Record) → r ≡ record { id = r.id; content = record { model = record { pen = r.content.model.pen; kind = r.content.model.kind }; source = r.content.source; ident = r.content.ident; locator = r.content.locator; body = r.content.body } }
 record_is r = refl
 
+-- A record is made of both.
+made_of : (r : Record) (origin : Origin) (software : Software) → origin_of r ≡ origin → software_of r ≡ software → r ≡ record_from origin software
+made_of r origin software first last = ap (λ (o : Origin). record_from o (software_of r)) first ∙ ap (record_from origin) last
+
 -- A record in a report of the kind.
 pub record_exact : (kind : Kind) → Exact (read_record kind) (λ r. r) (record_fields kind) (λ r. MayCarry kind r.content.body) Anything
 unfolding read_record
-record_exact kind = then_number λ id. then_number λ pen. then_number λ model. then_number λ source. then_reserved λ reserved. then_counted λ ident. then_counted λ locator.
-    last_part (λ r. r.content.body) (body_exact kind) (λ r h. assumption h) λ body known.
-    gives (record_from id pen model source ident locator body) refl (assumption (refl, known)) (λ r h. cc (record_is r))
+record_exact kind = then_part origin_of origin_exact (λ r h. tt) λ origin any. then_reserved λ reserved.
+    last_part software_of (software_exact kind) (λ r h. assumption h) λ software known.
+    gives (record_from origin software) refl (assumption (refl, known)) (λ r h. made_of r origin software (assumption h) (assumption h))
 
 -- An event is made of its parts.
 pub event_is : (e : Event) → e ≡ record { eid = e.eid; stamp = e.stamp; action = e.action; subject = record { id = e.subject.id; content = record { model = record { pen = e.subject.content.model.pen; kind = e.subject.content.model.kind }; source = e.subject.content.source; ident = e.subject.content.ident; locator = e.subject.content.locator; body = e.subject.content.body } } }
@@ -87,11 +124,14 @@ pub event_exact : (kind : Kind) → Exact (read_event kind) (λ e. e) (event_fie
 unfolding read_event
 event_exact kind = then_number λ eid.
     then_meaning (λ e. e.stamp) (fixed_exact 20) (if_so_means stamp_test_is_form) (λ e h. assumption h) λ stamp is.
-    then_number λ id. then_number λ pen. then_number λ model. then_number λ source.
-    then_meaning (λ e. e.action) (number_exact 1) action_means (λ e h. tt) λ action any.
-    then_counted λ ident. then_counted λ locator.
-    last_part (λ e. e.subject.content.body) (body_exact kind) (λ e h. assumption h) λ body known.
-    gives (record { eid = eid; stamp = stamp; action = action; subject = record_from id pen model source ident locator body }) refl (assumption (refl, is, known)) (λ e h. cc (event_is e))
+    then_part (λ e. origin_of e.subject) origin_exact (λ e h. tt) λ origin any.
+    then_meaning (λ e. e.action) (number_exact 1) action_means (λ e h. tt) λ action so.
+    last_part (λ e. software_of e.subject) (software_exact kind) (λ e h. assumption h) λ software known.
+    gives (record { eid = eid; stamp = stamp; action = action; subject = record_from origin software }) refl (assumption (refl, is, known))
+    (λ e h.
+    let subject : e.subject ≡ record_from origin software = made_of e.subject origin software (assumption h) (assumption h) in
+    let parts : e ≡ record { eid = e.eid; stamp = e.stamp; action = e.action; subject = e.subject } = refl in
+    cc)
 
 -- ---- reports
 
@@ -99,7 +139,7 @@ event_exact kind = then_number λ eid.
 pub point_is : (p : Point) → p ≡ record { epoch = p.epoch; eid = p.eid }
 point_is p = refl
 
--- What an inventory tells.
+-- What an inventory reports.
 pub record InventoryParts : Type 0 where
   pub fulfil : Bool
   pub id : ℕ
@@ -109,14 +149,14 @@ pub record InventoryParts : Type 0 where
 abbrev pub inventory_of : Kind → InventoryParts → Report
 inventory_of kind p = Inventory kind p.fulfil p.id p.point p.records
 
--- An inventory, behind which nothing is left.
+-- An inventory, after which nothing is left.
 inventory_exact : (kind : Kind) → Exact (read_inventory kind) (inventory_of kind) (λ p. inventory_fields kind p.fulfil p.id p.point p.records) (λ p. AllByRecursion (λ (r : Record). MayCarry kind r.content.body) p.records) Nothing
 unfolding read_inventory
 inventory_exact kind = then_flags λ flags. then_number λ count. then_number λ id. then_number λ epoch. then_number λ eid.
     last_several (λ p. p.records) (record_exact kind) (λ p h. assumption h) λ records known.
     ends (record { fulfil = is_set flags FULFIL; id = id; point = record { epoch = epoch; eid = eid }; records = records }) refl (assumption (refl, known)) (λ p h. cc (point_is p.point))
 
--- What events tell.
+-- What events report.
 pub record EventsParts : Type 0 where
   pub fulfil : Bool
   pub id : ℕ
@@ -127,7 +167,7 @@ pub record EventsParts : Type 0 where
 abbrev pub events_of : Kind → EventsParts → Report
 events_of kind p = Events kind p.fulfil p.id p.point p.consulted p.events
 
--- Events, behind which nothing is left.
+-- Events, after which nothing is left.
 events_exact : (kind : Kind) → Exact (read_events kind) (events_of kind) (λ p. events_fields kind p.fulfil p.id p.point p.consulted p.events) (λ p. (p.consulted ≤ p.point.eid) × AllByRecursion (MayCarryEvent kind) p.events) Nothing
 unfolding read_events
 events_exact kind = then_flags λ flags. then_number λ count. then_number λ id. then_number λ epoch. then_number λ eid.

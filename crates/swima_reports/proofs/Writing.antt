@@ -30,11 +30,11 @@ use Rattle.swima_reports.proofs.ReportLaws.{only}
 
 -- ---- entries one after another
 
--- What is put behind what was put stands behind what stood before.
+-- What is put after what was put stands after what stood before.
 pub behind : (before out new front rest : List ℕ) → out ≡ before ++ front → new ≡ out ++ rest → new ≡ before ++ (front ++ rest)
 behind before out new front rest first second = second ∙ ap (λ (o : List ℕ). o ++ rest) first ∙ append_assoc before front rest
 
--- What is written of one entry more stands behind what is written of those before it.
+-- What is written of one entry more stands after what is written of those before it.
 written_more : {A : Type 0} (fields : A → List Field) (entries : List A) (i : ℕ) (d : A) → i < length entries
     → written (flat_map fields (take (i + 1) entries)) ≡ written (flat_map fields (take i entries)) ++ written (fields (get_or entries i d))
 written_more fields entries i d within =
@@ -43,7 +43,7 @@ written_more fields entries i d within =
     ∙ ap (λ f. flat_map fields (take i entries) ++ f) (append-nil (fields (get_or entries i d))))
     ∙ written-append (flat_map fields (take i entries)) (fields (get_or entries i d))
 
--- So it is behind octets that stand before all of them.
+-- So it is after octets that stand before all of them.
 pub behind_more : {A : Type 0} (fields : A → List Field) (entries : List A) (i : ℕ) (d : A) (before out new : List ℕ) → i < length entries
     → out ≡ before ++ written (flat_map fields (take i entries)) → new ≡ out ++ written (fields (get_or entries i d))
     → new ≡ before ++ written (flat_map fields (take (i + 1) entries))
@@ -129,7 +129,7 @@ form_is_counted attr_type report octets form =
 
 -- ---- room
 
--- An octet of flags tells its flag.
+-- An octet of flags reports its flag.
 pub flag_fits : (fulfil : Bool) → AreFlags (flags_octet ((FULFIL, fulfil) ∷ [])) ((FULFIL, fulfil) ∷ [])
 flag_fits true = (refl, tt)
 flag_fits false = (refl, tt)
@@ -270,7 +270,8 @@ carried_is_report (Events kind fulfil id point consulted events) can =
 
 -- ---- reports that were read
 
--- A report that octets carry has a count that three octets tell, and consulted no event behind its point.
+-- A report that octets carry has a count that three octets give, and consulted no event after its
+-- point.
 pub count_within : (report : Report) (octets : List ℕ) → Form (report_fields report) octets → report_count report < 2 ^ 24
 count_within (Inventory kind fulfil id point records) octets (flags, rest, is, flag, (count, behind, at, number, others)) = number.0
 count_within (Events kind fulfil id point consulted events) octets (flags, rest, is, flag, (count, behind, at, number, others)) = number.0

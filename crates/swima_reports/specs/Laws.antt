@@ -13,10 +13,11 @@ ReadingIsForm = (attr_type : ℕ) → IsReportType attr_type → ReadsForm (read
 abbrev pub FaultIsFirst : Type 0
 FaultIsFirst = (attr_type : ℕ) → IsReportType attr_type → ReadsFault (read_report attr_type) (ReportFault attr_type)
 
--- Octets are the form of a report or have a first fault: exactly one of the two, and one report or fault alone.
+-- Octets are the form of a report or have a first fault: exactly one of the two, and one report or
+-- fault alone.
 abbrev pub AreOneOfTwo : Type 0
 AreOneOfTwo = (attr_type : ℕ) → IsReportType attr_type → FormOrFault (ReportForm attr_type) (ReportFault attr_type)
 
--- No form of a report is the front of another one of the same type.
+-- No form of a report is a prefix of another one of the same type.
 abbrev pub NoFormIsAFront : Type 0
 NoFormIsAFront = (attr_type : ℕ) → NoneIsAFront (ReportForm attr_type)

@@ -1,5 +1,5 @@
--- The values of the attributes that carry reports (RFC 8412): an inventory (sections 5.7 and 5.9) and events (sections
--- 5.8 and 5.10), each of identifiers only or of whole records.
+-- The values of the attributes that carry reports (RFC 8412): an inventory (sections 5.7 and 5.9)
+-- and events (sections 5.8 and 5.10), each of identifiers only or of whole records.
 use Rattle.std.specs.Prelude.{◌≡◌, ◌≤◌, ℕ, Bool, List, [], ◌∷◌, length}
 use Rattle.std.specs.List.{flat_map, AllByRecursion}
 use Rattle.wire_base.specs.FirstFault.{FirstFault}
@@ -86,17 +86,18 @@ report_fields (Events kind fulfil id point consulted events) = events_fields kin
 abbrev pub MOST_BODY_OCTETS : ℕ
 MOST_BODY_OCTETS = 1048576
 
--- A report of the kind may carry the body: of identifiers none, and of whole records one that is not too long.
+-- A report of the kind may carry the body: of identifiers none, and of whole records one that is
+-- not too long.
 abbrev pub MayCarry : Kind → List ℕ → Type 0
 MayCarry Ids body = body ≡ []
 MayCarry Full body = length body ≤ MOST_BODY_OCTETS
 
--- It may carry the event: its time is told as a stamp.
+-- It may carry the event: its time is reported as a stamp.
 abbrev pub MayCarryEvent : Kind → Event → Type 0
 MayCarryEvent kind e = IsStamp e.stamp × MayCarry kind e.subject.content.body
 
--- The report can be written: it carries what its kind may, and the last event that was consulted is none behind its
--- point (section 5.8, "Last Consulted EID").
+-- The report can be written: it carries what its kind may, and the last event that was consulted is
+-- none after its point (section 5.8, "Last Consulted EID").
 abbrev pub CanBeWritten : Report → Type 0
 CanBeWritten (Inventory kind fulfil id point records) = AllByRecursion (λ (r : Record). MayCarry kind r.content.body) records
 CanBeWritten (Events kind fulfil id point consulted events) = (consulted ≤ point.eid) × AllByRecursion (MayCarryEvent kind) events
@@ -113,7 +114,8 @@ pub record ReportForm (attr_type : ℕ) (report : Report) (octets : List ℕ) : 
 abbrev pub IsCarried : ℕ → Report → Type 0
 IsCarried attr_type report = (report_type report ≡ attr_type) × CanBeWritten report
 
--- The first fault of the value of an attribute of the type, of which the first octet stands at `base`, is at the place: the
--- octets in front of it are the first fields of some report, and behind them they go on as no report does.
+-- The first fault of the value of an attribute of the type, of which the first octet stands at
+-- `base`, is at the place: the octets before it are the first fields of some report, and
+-- after them they go on as no report does.
 abbrev pub ReportFault : ℕ → ℕ → List ℕ → ℕ → Type 0
 ReportFault attr_type base octets place = FirstFault report_fields (IsCarried attr_type) base octets place

@@ -4,7 +4,8 @@ use Rattle.swima_model.specs.declared.report.Kind.TheVariants.{Ids, Full}
 use Rattle.swima_model.specs.declared.report.Report.{Report}
 use Rattle.swima_model.specs.declared.report.Report.TheVariants.{Inventory, Events}
 
--- Software Identifier Inventory, Software Identifier Events, Software Inventory and Software Events.
+-- Software Identifier Inventory, Software Identifier Events, Software Inventory and Software
+-- Events.
 abbrev pub SOFTWARE_IDENTIFIER_INVENTORY : ℕ
 SOFTWARE_IDENTIFIER_INVENTORY = 14
 

@@ -21,14 +21,16 @@ use Rattle.swima_reports.specs.ReportType.{report_type}
 abbrev pub written_report : Report → List ℕ
 written_report report = written (report_fields report)
 
--- What they carry of the report: those of a report of identifiers have no bodies (sections 5.7 and 5.8).
+-- What they carry of the report: those of a report of identifiers have no bodies (sections 5.7 and
+-- 5.8).
 abbrev pub carried : Report → Report
 carried (Inventory kind fulfil id point records) = Inventory kind fulfil id point (records_of_kind kind records)
 carried (Events kind fulfil id point consulted events) = Events kind fulfil id point consulted (events_of_kind kind events)
 
 -- ---- parts of the layout
 
--- The fields of a record before its reserved octet, and those behind it; an event has them before and behind its action.
+-- The fields of a record before its reserved octet, and those after it; an event has them before
+-- and after its action.
 abbrev pub origin_fields : Record → List Field
 origin_fields r = take 4 (record_fields Ids r)
 
@@ -71,7 +73,7 @@ WrittenIsRead = (base : ℕ) (report : Report) → IsWritable report
 abbrev pub CarriedIsReport : Type 0
 CarriedIsReport = (report : Report) → CanBeWritten report → carried report ≡ report
 
--- It has so many octets as `report_size` counts.
+-- It has as many octets as `report_size` counts.
 abbrev pub WrittenIsCounted : Type 0
 WrittenIsCounted = (report : Report) → HasStamps report → length (written_report report) ≡ report_size report
 

@@ -17,7 +17,8 @@ pub const SOFTWARE_INVENTORY: u32 = 16;
 /// The attribute type of Software Events (RFC 8412, section 5.2).
 pub const SOFTWARE_EVENTS: u32 = 17;
 
-/// The type of the attribute that carries the report, from 14 to 17 (RFC 8412, section 5.2). It takes no memory.
+/// The type of the attribute that carries the report, from 14 to 17 (RFC 8412, section 5.2). It
+/// takes no memory.
 pub fn report_type(report: &Report) -> u32
     ensures attr_type { result ≡ report_type report.now }
     ensures within { IsReportType result }

@@ -12,11 +12,11 @@ use swima_model::{Action, Body, Bounded, Kind, Limit, LongRefused};
 use wire_base::{Cursor, FieldRefused, is_stamp};
 
 /// The flag of a report that fulfils a subscription (RFC 8412, sections 5.7 to 5.10).
-pub const FULFIL: u8 = 0x80;
+pub(crate) const FULFIL: u8 = 0x80;
 
-/// The event up to which a report looked, which is none behind its last event `eid`; a fault at its first octet where it
-/// is (RFC 8412, section 5.8).
-pub fn consulted(cursor: &mut Cursor, eid: u32) -> Result<u32, FieldRefused>
+/// The event up to which a report looked, which is none after its last event `eid`; a fault at its
+/// first octet where it is (RFC 8412, section 5.8).
+pub(crate) fn consulted(cursor: &mut Cursor, eid: u32) -> Result<u32, FieldRefused>
     ensures consulted { GivesExactly (λ read. (read, cursor.new)) result
         (meaning (if_so (λ consulted. nat_le consulted eid)) (number 4) cursor.old) }
 {
@@ -29,7 +29,7 @@ pub fn consulted(cursor: &mut Cursor, eid: u32) -> Result<u32, FieldRefused>
 }
 
 /// The time of an event; a fault at its first octet where that is no stamp (RFC 8412, section 5.8).
-pub fn stamp(cursor: &mut Cursor) -> Result<[u8; 20], FieldRefused>
+pub(crate) fn stamp(cursor: &mut Cursor) -> Result<[u8; 20], FieldRefused>
     ensures stamp { GivesExactly (λ read. (read, cursor.new)) result
         (meaning (if_so is_stamp) (octets 20) cursor.old) }
 {
@@ -43,7 +43,7 @@ pub fn stamp(cursor: &mut Cursor) -> Result<[u8; 20], FieldRefused>
 }
 
 /// What an event did; a fault at the number where no action has it (RFC 8412, section 5.8).
-pub fn action(cursor: &mut Cursor) -> Result<Action, FieldRefused>
+pub(crate) fn action(cursor: &mut Cursor) -> Result<Action, FieldRefused>
     ensures action { GivesExactly (λ read. (read, cursor.new)) result
         (meaning action_of (number 1) cursor.old) }
 {
@@ -65,7 +65,7 @@ fn action_of(number: u8) -> Option<Action>
 }
 
 /// The number of the action (RFC 8412, section 5.8).
-pub fn action_number(action: Action) -> u8
+pub(crate) fn action_number(action: Action) -> u8
     ensures number { result ≡ action_number action }
 {
     match action {
@@ -76,17 +76,20 @@ pub fn action_number(action: Action) -> u8
 }
 
 /// Octets counted by two octets.
-pub fn bounded<L: Limit>(alloc: Global, cursor: &mut Cursor) -> Result<Bounded<L>, FieldRefused>
+pub(crate) fn bounded<L: Limit>(
+    alloc: Global,
+    cursor: &mut Cursor,
+) -> Result<Bounded<L>, FieldRefused>
     requires { 65535 ≤ L.OCTETS }
     ensures counted { Gives (λ read. (read, cursor.new)) result (counted 2 cursor.old) }
 {
     Ok(Bounded::of(alloc, cursor.counted(2)?)?)
 }
 
-/// The body of a record, which stands in reports of whole records alone; a fault at its length where that does not fit
-/// or is above 1,048,576 (RFC 8412, sections 5.9 and 5.10).
+/// The body of a record, which stands in reports of whole records alone; a fault at its length
+/// where that does not fit or is above 1,048,576 (RFC 8412, sections 5.9 and 5.10).
 #[tactic(auto, unfolding(crate::specs::ReportReading::read_body))]
-pub fn body(alloc: Global, cursor: &mut Cursor, kind: Kind) -> Result<Body, FieldRefused>
+pub(crate) fn body(alloc: Global, cursor: &mut Cursor, kind: Kind) -> Result<Body, FieldRefused>
     ensures body { Gives (λ read. (read, cursor.new)) result (read_body kind cursor.old) }
 {
     match kind {

@@ -3,29 +3,33 @@
 ghost use Rattle.swima_reports.specs.Laws.{AreOneOfTwo, FaultIsFirst, NoFormIsAFront, ReadingIsForm};
 ghost use Rattle.swima_reports.specs.Written.{CarriedIsReport, FitsIsAsked, FormIsCounted, FulfillingIsWritable, ReadFits, WrittenIsCounted, WrittenIsRead};
 
-/// The layout read field by field gives a report exactly where the octets have the report's form: the readers and the
-/// form, each written in the order of the RFC's figures, say the same.
+/// The layout read field by field gives a report exactly where the octets have the report's form:
+/// the readers and the form, each written in the order of the RFC's figures, say the same.
 pub fn reading_is_form()
     ensures law { ReadingIsForm }
 {}
 
-/// The layout read field by field says a fault at a place exactly where that is the first one: the octets in front of it
-/// are the first fields of a report, and behind them they go on as no report does.
+/// The layout read field by field says a fault at a place exactly where that is the first one: the
+/// octets before it are the first fields of a report, and after them they go on as no report
+/// does.
 pub fn fault_is_first()
     ensures law { FaultIsFirst }
 {}
 
-/// Octets are the form of one report and have no first fault, or of none and have one, at one place.
+/// Octets are the form of one report and have no first fault, or of none and have one, at one
+/// place.
 pub fn form_or_fault()
     ensures law { AreOneOfTwo }
 {}
 
-/// No form of a report is a front of another form of the same type, so octets behind a report are always a fault.
+/// No form of a report is a prefix of another form of the same type, so octets after a report are
+/// always a fault.
 pub fn no_form_is_a_front()
     ensures law { NoFormIsAFront }
 {}
 
-/// What is written of a report is read back as what it carries: the report, of kind `Ids` without the bodies.
+/// What is written of a report is read back as what it carries: the report, of kind `Ids` without
+/// the bodies.
 pub fn written_is_read()
     ensures law { WrittenIsRead }
 {}
@@ -40,7 +44,8 @@ pub fn written_is_counted()
     ensures law { WrittenIsCounted }
 {}
 
-/// A value that carries a report has as many octets as are counted, whatever its reserved octets are.
+/// A value that carries a report has as many octets as are counted, whatever its reserved octets
+/// are.
 pub fn form_is_counted()
     ensures law { FormIsCounted }
 {}

@@ -17,10 +17,11 @@ use std::alloc::Global;
 use swima_model::{Kind, Point, Report};
 use wire_base::{Cursor, FieldRefused, read_several};
 
-/// The report that is the value of an attribute of a type from 14 to 17 (RFC 8412, sections 5.7 to 5.10).
+/// The report that is the value of an attribute of a type from 14 to 17 (RFC 8412, sections 5.7 to
+/// 5.10).
 ///
-/// `Fault` comes exactly where the value has no form; its offset is the place of the first fault, counted from `base`,
-/// the place of the value's first octet.
+/// `Fault` comes exactly where the value has no form; its offset is the place of the first fault,
+/// counted from `base`, the place of the value's first octet.
 pub fn read_report(
     alloc: Global,
     attr_type: u32,

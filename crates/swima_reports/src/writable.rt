@@ -16,7 +16,7 @@ use swima_model::{Body, Event, Kind, Record};
 use wire_base::{List, Memory, Octets, put_counted_u16, put_counted_u32, put_u8, put_u24, put_u32};
 
 /// What is written in a report one after another.
-pub trait Writable: Drop + Sized {
+pub(crate) trait Writable: Drop + Sized {
     /// The fields of one in a report of the kind.
     ghost entry_fields: { KindValue → Self → List Field };
 
@@ -30,7 +30,7 @@ pub trait Writable: Drop + Sized {
 }
 
 /// Puts the octets of all `entries` at the end.
-pub fn put_entries<T: Writable>(
+pub(crate) fn put_entries<T: Writable>(
     out: &mut Octets,
     kind: Kind,
     entries: &List<T>,
@@ -101,7 +101,8 @@ fn put_software(out: &mut Octets, kind: Kind, subject: &Record) -> Result<(), Me
     put_body(out, kind, &subject.content.body)
 }
 
-/// Puts the body of a record at the end, which stands in reports of whole records alone (RFC 8412, sections 5.9 and 5.10).
+/// Puts the body of a record at the end, which stands in reports of whole records alone (RFC 8412,
+/// sections 5.9 and 5.10).
 #[tactic(auto, unfolding(wire_base::specs::Written::written))]
 fn put_body(out: &mut Octets, kind: Kind, body: &Body) -> Result<(), Memory>
     ensures appended { OnOk result (out.new ≡ out.old ++ written (body_fields kind body.now)) }

@@ -17,11 +17,12 @@ use std::alloc::Global;
 use swima_model::{Events, Kind, Point, Records, Report, size_of};
 use wire_base::{List, Memory, Octets, put_u24, put_u32};
 
-/// The octets of a report: the value of the attribute that carries it, of the type that `report_type` gives (RFC 8412,
-/// sections 5.7 to 5.10), with 0 in the reserved octets and in the flags that have no meaning.
+/// The octets of a report: the value of the attribute that carries it, of the type that
+/// `report_type` gives (RFC 8412, sections 5.7 to 5.10), with 0 in the reserved octets and in the
+/// flags that have no meaning.
 ///
-/// Of a report of kind `Ids` no body is written. There are as many octets as `size_of` says, and `read_report` gives the
-/// report back, of kind `Ids` without bodies.
+/// Of a report of kind `Ids` no body is written. There are as many octets as `size_of` says, and
+/// `read_report` gives the report back, of kind `Ids` without bodies.
 pub fn write_report(alloc: Global, report: &Report) -> Result<Octets, Memory>
     requires count { report_count report.now < 2 ^ 24 }
     requires within { report_size report.now ≤ 16777000 }

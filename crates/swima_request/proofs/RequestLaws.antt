@@ -25,7 +25,7 @@ pub flag_back : (ids_only : Bool) → ids_only ≡ is_ids (kind_of ids_only)
 flag_back true = refl
 flag_back false = refl
 
--- A request, behind which nothing is left.
+-- A request, after which nothing is left.
 request_exact : Exact read_request (λ r. r) request_fields (λ r. Unit {0}) Nothing
 unfolding read_request
 request_exact = then_flags λ flags. then_number λ count. then_number λ id. then_number λ earliest.

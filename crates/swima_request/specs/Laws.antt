@@ -16,21 +16,23 @@ ReadingIsForm = ReadsForm read_request RequestForm
 abbrev pub FaultIsFirst : Type 0
 FaultIsFirst = ReadsFault read_request RequestFault
 
--- Octets are the form of a request or have a first fault: exactly one of the two, and one request or fault alone.
+-- Octets are the form of a request or have a first fault: exactly one of the two, and one request
+-- or fault alone.
 abbrev pub AreOneOfTwo : Type 0
 AreOneOfTwo = FormOrFault RequestForm RequestFault
 
--- No form of a request is the front of another one.
+-- No form of a request is a prefix of another one.
 abbrev pub NoFormIsAFront : Type 0
 NoFormIsAFront = NoneIsAFront RequestForm
 
--- A form of a request has so many octets as are counted, whatever the flags without a name are.
+-- A form of a request has as many octets as are counted, whatever the flags without a name are.
 abbrev pub FormIsCounted : Type 0
 FormIsCounted = (request : Request) (octets : List ℕ) → RequestForm request octets → length octets ≡ request_octets request
 
 -- ---- writing
 
--- The numbers of a request, and the lengths and the count of its targets, have room in their fields.
+-- The numbers of a request, and the lengths and the count of its targets, have room in their
+-- fields.
 pub record HasRoom (request : Request) : Type 0 where
   pub count : length request.targets < 2 ^ 24
   pub id : request.id < 2 ^ 32
@@ -41,6 +43,6 @@ pub record HasRoom (request : Request) : Type 0 where
 abbrev pub WrittenIsRead : Type 0
 WrittenIsRead = (base : ℕ) (request : Request) → HasRoom request → whole read_request base (written_request request) ≡ Ok request
 
--- It has so many octets as are counted.
+-- It has as many octets as are counted.
 abbrev pub WrittenIsCounted : Type 0
 WrittenIsCounted = (request : Request) → length (written_request request) ≡ request_octets request

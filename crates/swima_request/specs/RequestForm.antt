@@ -43,8 +43,8 @@ request_fields request =
 abbrev pub RequestForm : Request → List ℕ → Type 0
 RequestForm request octets = Form (request_fields request) octets
 
--- The first fault of the octets, of which the first stands at `base`, is at the place: those in front of it are the first
--- fields of some request, and behind them they go on as no request does.
+-- The first fault of the octets, of which the first stands at `base`, is at the place: those
+-- before it are the first fields of some request, and after them they go on as no request does.
 abbrev pub RequestFault : ℕ → List ℕ → ℕ → Type 0
 RequestFault base octets place = FirstFault request_fields (λ request. Unit {0}) base octets place
 
@@ -62,8 +62,8 @@ request_octets request = 12 + sum_by (λ (target : List ℕ). 2 + length target)
 abbrev pub kind_of : Bool → Kind
 kind_of ids_only = if ids_only then kind.Ids else kind.Full
 
--- The same layout read field by field: the request, or the place of the first fault. Of a software identifier that does
--- not fit that is its length.
+-- The same layout read field by field: the request, or the place of the first fault. Of a software
+-- identifier that does not fit that is its length.
 unfoldable pub read_request : Reader Request
 read_request = do
   flags ← number 1

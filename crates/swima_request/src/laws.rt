@@ -2,24 +2,26 @@
 
 ghost use Rattle.swima_request.specs.Laws.{AreOneOfTwo, FaultIsFirst, FormIsCounted, NoFormIsAFront, ReadingIsForm, WrittenIsCounted, WrittenIsRead};
 
-/// The layout read field by field gives a request exactly where the octets have the request's form: the reader and the form,
-/// each written in the order of the RFC's figure, say the same.
+/// The layout read field by field gives a request exactly where the octets have the request's form:
+/// the reader and the form, each written in the order of the RFC's figure, say the same.
 pub fn reading_is_form()
     ensures law { ReadingIsForm }
 {}
 
-/// The layout read field by field says a fault at a place exactly where that is the first one: the octets in front of it
-/// are the first fields of a request, and behind them they go on as no request does.
+/// The layout read field by field says a fault at a place exactly where that is the first one: the
+/// octets before it are the first fields of a request, and after them they go on as no
+/// request does.
 pub fn fault_is_first()
     ensures law { FaultIsFirst }
 {}
 
-/// Octets are the form of one request and have no first fault, or of none and have one, at one place.
+/// Octets are the form of one request and have no first fault, or of none and have one, at one
+/// place.
 pub fn form_or_fault()
     ensures law { AreOneOfTwo }
 {}
 
-/// No form of a request is a front of another form, so octets behind a request are always a fault.
+/// No form of a request is a prefix of another form, so octets after a request are always a fault.
 pub fn no_form_is_a_front()
     ensures law { NoFormIsAFront }
 {}

@@ -1,7 +1,7 @@
 //! The numbers of requests (RFC 8412).
 
-/// The subtype of PA-TNC messages, by the vendor 0 of the IETF, that carry requests, reports and errors about them: SWIMA
-/// Attributes (section 5.1).
+/// The subtype of PA-TNC messages, by the vendor 0 of the IETF, that carry requests, reports and
+/// errors about them: SWIMA Attributes (section 5.1).
 pub const SWIMA_ATTRIBUTES: u32 = 9;
 
 /// The attribute type of a request, by the vendor 0 of the IETF: SWIMA Request (section 5.2).

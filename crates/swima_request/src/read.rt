@@ -14,8 +14,8 @@ use wire_base::{Cursor, FieldReader, FieldRefused, read_several};
 
 /// The request that is the value of an attribute of type `SWIMA_REQUEST` (RFC 8412, section 5.6).
 ///
-/// `Fault` comes exactly where the value has no form; its offset is the place of the first fault, counted from `base`, the
-/// place of the value's first octet.
+/// `Fault` comes exactly where the value has no form; its offset is the place of the first fault,
+/// counted from `base`, the place of the value's first octet.
 ///
 /// A request that was read from a value of at most 16,777,000 octets meets what `write_request`
 /// asks for, by `count` and `size`.

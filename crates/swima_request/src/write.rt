@@ -10,8 +10,8 @@ use std::alloc::Global;
 use swima_model::Kind;
 use wire_base::{List, Memory, Octets, put_counted_u16, put_u24, put_u32};
 
-/// The octets of a request: the value of its attribute, of type `SWIMA_REQUEST` (RFC 8412, section 5.6), with 0 in the flags
-/// that have no meaning.
+/// The octets of a request: the value of its attribute, of type `SWIMA_REQUEST` (RFC 8412,
+/// section 5.6), with 0 in the flags that have no meaning.
 #[tactic(auto, unfolding(wire_base::specs::Written::written))]
 pub fn write_request(alloc: Global, request: &Request) -> Result<Octets, Memory>
     requires count { length request.now.targets < 2 ^ 24 }

@@ -11,7 +11,7 @@ use Rattle.swima_model.specs.declared.report.Point.{Point}
 use Rattle.swima_model.specs.declared.report.Report.TheVariants.{Inventory, Events}
 use Rattle.validator_core.specs.declared.mirror.Taken.{Taken}
 use Rattle.validator_core.specs.declared.mirror.Taken.TheVariants as taken
-use Rattle.validator_core.specs.Following.{events_above, first_trouble, gap}
+use Rattle.validator_core.specs.Following.{events_above, first_misfit, gap}
 use Rattle.validator_core.specs.Held.{Held}
 use Rattle.validator_core.specs.Judge.{is_stale, judge_above, judge_events, judge_events_at, judge_inventory, judge_numbered, judge_records, marked, same_kind}
 use Rattle.validator_core.specs.Kept.{JudgedAgainChangesNothing}
@@ -89,7 +89,7 @@ abbrev AreDone : ℕ → ℕ → List Event → Taken × Held → Type 0
 AreDone epoch consulted events judged = Leaves judged.1 (judge_events_at judged.1 epoch consulted events judged.1.point)
 
 above_again : (mirror : Held) (held : Point) (epoch consulted : ℕ) (events : List Event) (found : Option Taken) → mirror.point ≡ Some held
-    → not (eqb epoch held.epoch) ≡ false → gap held.eid consulted events ≡ None → first_trouble mirror.records (events_above held.eid events) ≡ found
+    → not (eqb epoch held.epoch) ≡ false → gap held.eid consulted events ≡ None → first_misfit mirror.records (events_above held.eid events) ≡ found
     → AreDone epoch consulted events (judge_above mirror held consulted (events_above held.eid events) found)
 above_again mirror held epoch consulted events (Some said) at same none is =
     let now = marked mirror in
@@ -97,7 +97,7 @@ above_again mirror held epoch consulted events (Some said) at same none is =
     ap (λ (point : Option Point). (judge_events_at now epoch consulted events point).1) at
     ∙ marked_leaves mirror epoch consulted events held
     (ap (λ (got : Option ℕ). (judge_numbered now held consulted events got).1) none
-    ∙ ap (λ (trouble : Option Taken). (judge_above now held consulted above trouble).1) is)
+    ∙ ap (λ (misfit : Option Taken). (judge_above now held consulted above misfit).1) is)
 above_again mirror held epoch consulted events None at same none is =
     followed_leaves mirror epoch consulted events (events_above held.eid events) held same
 
@@ -108,7 +108,7 @@ numbered_again mirror held epoch consulted events (Some got) at same is =
     ap (λ (point : Option Point). (judge_events_at (marked mirror) epoch consulted events point).1) at
     ∙ marked_leaves mirror epoch consulted events held (ap (λ (found : Option ℕ). (judge_numbered (marked mirror) held consulted events found).1) is)
 numbered_again mirror held epoch consulted events None at same is =
-    above_again mirror held epoch consulted events (first_trouble mirror.records (events_above held.eid events)) at same is refl
+    above_again mirror held epoch consulted events (first_misfit mirror.records (events_above held.eid events)) at same is refl
 
 at_again : (mirror : Held) (epoch consulted : ℕ) (events : List Event) (point : Option Point) → mirror.point ≡ point
     → AreDone epoch consulted events (judge_events_at mirror epoch consulted events point)

@@ -9,7 +9,7 @@ use Rattle.swima_model.specs.declared.record.Record.{Record}
 use Rattle.swima_model.specs.declared.report.Kind.{Kind}
 use Rattle.swima_model.specs.InOrder.{ids}
 use Rattle.swima_model.specs.Kinds.{records_of_kind, events_of_kind}
-use Rattle.swima_model.specs.History.{Epoch, History, IsHonest, IsHonestEpoch, FitsBehind, contradicts, does_not_fit, live_at}
+use Rattle.swima_model.specs.History.{Epoch, History, IsHonest, IsHonestEpoch, FitsBehind, contradicts, is_contradiction, live_at}
 use Rattle.swima_model.specs.Live.{live}
 use Rattle.swima_model.specs.Size.{are_large}
 use Rattle.swima_model.proofs.Living.{live_rises, live_more}
@@ -48,14 +48,14 @@ live_at_rises epoch count kind honest =
 pub live_at_fits : (epoch : Epoch) (count : ℕ) (kind : Kind) → IsHonestEpoch epoch → count ≤ length epoch.events → are_large (live_at epoch count kind) ≡ false
 live_at_fits epoch count kind honest le = fits_of_kind kind (live epoch.base (take count epoch.events)) (live_fits epoch count honest le)
 
--- Events behind a place lead to what is live behind them.
+-- Events after a place lead to what is live after them.
 pub live_on : (epoch : Epoch) (count : ℕ) (kind : Kind) (events : List Event) → IsHonestEpoch epoch
     → live (live_at epoch count kind) (events_of_kind kind events) ≡ records_of_kind kind (live epoch.base (take count epoch.events ++ events))
 live_on epoch count kind events honest =
     live_of_kind kind (live epoch.base (take count epoch.events)) events (live_rises epoch.base (take count epoch.events) honest.rising)
     ∙ ap (records_of_kind kind) (live_more epoch.base (take count epoch.events) events honest.rising)
 
--- An event of the epoch fits behind those before it, as reports of a kind carry them.
+-- An event of the epoch fits after those before it, as reports of a kind carry them.
 pub fits_on : (epoch : Epoch) (count : ℕ) (kind : Kind) (before : List Event) (event : Event) (after : List Event) → IsHonestEpoch epoch → epoch.events ≡ take count epoch.events ++ (before ++ event ∷ after)
     → FitsBehind (live_at epoch count kind) (events_of_kind kind before) (event_of_kind kind event)
 fits_on epoch count kind before event after honest split =
@@ -64,7 +64,7 @@ fits_on epoch count kind before event after honest split =
     record {
       agrees =
           ap (λ (rs : List Record). contradicts rs (event_of_kind kind event)) (live_on epoch count kind before honest)
-          ∙ ap (does_not_fit event.action) (some_of_kind kind event.subject.id (live epoch.base front))
+          ∙ ap (is_contradiction event.action) (some_of_kind kind event.subject.id (live epoch.base front))
           ∙ fit.agrees;
       fits =
           ap (λ (es : List Event). are_large (live (live_at epoch count kind) es)) (sym (map-append (event_of_kind kind) before (event ∷ [])))

@@ -5,7 +5,8 @@ use Rattle.std.proofs.lemmas.List.{at_drop_more}
 use Rattle.swima_model.specs.declared.event.Event.{Event}
 use Rattle.validator_core.specs.Following.{eids, events_above, first_difference, numbers_from}
 
--- The first gap of the events that are left, where those up to an event identifier have been gone over.
+-- The first gap of the events that are left, where those up to an event identifier have been gone
+-- over.
 abbrev pub left : ℕ → ℕ → ℕ → List Event → Option ℕ
 left held consulted last events = first_difference (eids (events_above held events)) (numbers_from (last + 1) (consulted - last))
 

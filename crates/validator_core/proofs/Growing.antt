@@ -20,7 +20,7 @@ use Rattle.validator_core.specs.Held.{Held}
 use Rattle.validator_core.specs.Right.{RightAt}
 use Rattle.validator_core.proofs.Epochs.{honest_epoch}
 
--- ---- epochs behind the last
+-- ---- epochs after the last
 
 still_among : (history later : History) (epoch : Epoch) → Contains history epoch → Contains (history ++ later) epoch
 still_among history later epoch among =
@@ -44,7 +44,7 @@ still_right_at : (history later : History) (mirror : Held) (held : Option Point)
 still_right_at history later mirror None right = right
 still_right_at history later mirror (Some point) right = still_lies history later point (λ epoch. mirror.records ≡ live_at epoch point.eid mirror.kind) right
 
--- ---- events behind those of the last epoch
+-- ---- events after those of the last epoch
 
 abbrev grown : Epoch → List Event → Epoch
 grown last more = record last { events = last.events ++ more }
@@ -95,7 +95,7 @@ same_live front last more epoch r count kind le =
     ∙ ap (λ (es : List Event). records_of_kind kind (live r.after.base es)) (take-append-le count epoch.events r.rest le)
     ∙ ap (λ rs. records_of_kind kind (live rs (take count epoch.events))) r.base
 
--- Events above the last that was consulted are not told up to it.
+-- Events above the last that was consulted are not reported up to it.
 none_told : (first consulted : ℕ) (events : List Event) → AllByRecursion (λ (e : Event). consulted < e.eid) events → from_to first consulted events ≡ []
 none_told first consulted [] above = refl
 none_told first consulted (e ∷ later) above =
@@ -152,7 +152,7 @@ grown_right_at front last more mirror (Some point) right =
     grown_lies front last more point (λ epoch. mirror.records ≡ live_at epoch point.eid mirror.kind) (λ epoch. mirror.records ≡ live_at epoch point.eid mirror.kind) right
     (λ epoch r among le is. is ∙ sym (same_live front last more epoch r point.eid mirror.kind le))
 
--- Numbered events behind others are numbered on.
+-- Numbered events after others are numbered on.
 numbered_rest : (n : ℕ) (xs ys : List Event) → AreNumberedFrom n (xs ++ ys) → AreNumberedFrom (n + length xs) ys
 numbered_rest n [] ys are =
     let e : n + 0 ≡ n = omega arith in

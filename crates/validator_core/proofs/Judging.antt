@@ -15,11 +15,11 @@ use Rattle.swima_model.proofs.Living.{live_rises}
 use Rattle.swima_model.proofs.Placing.{in_order_rising_permutation}
 use Rattle.validator_core.specs.declared.mirror.Taken.{Taken}
 use Rattle.validator_core.specs.declared.mirror.Taken.TheVariants as taken
-use Rattle.validator_core.specs.Following.{events_above, first_trouble, gap}
+use Rattle.validator_core.specs.Following.{events_above, first_misfit, gap}
 use Rattle.validator_core.specs.Held.{Held}
 use Rattle.validator_core.specs.Kept.{IsRising, JudgeKeepsRising}
 use Rattle.validator_core.specs.Judge.{Judged, StandsAt, is_stale, judge, judge_above, judge_events, judge_events_at, judge_inventory, judge_numbered, judge_records, marked, same_kind}
-use Rattle.validator_core.proofs.Troubles.{IsTrouble, IsTroubleIfAny, trouble_behind}
+use Rattle.validator_core.proofs.Misfits.{IsMisfit, IsMisfitIfAny, misfit_after}
 
 -- ---- what holds of each line of the table holds of what is judged
 
@@ -51,37 +51,37 @@ each_line P mirror kind point records wrong stale twice large adopted =
 abbrev pub followed : Held → Point → ℕ → List Event → Held
 followed mirror held consulted above = record mirror { point = Some (record held { eid = consulted }); records = live mirror.records above }
 
-each_above_line : (P : Taken × Held → Type 0) (mirror : Held) (held : Point) (consulted : ℕ) (above : List Event) (found : Option Taken) → IsTroubleIfAny found
-    → ((said : Taken) → IsTrouble said → P (said, marked mirror))
+each_above_line : (P : Taken × Held → Type 0) (mirror : Held) (held : Point) (consulted : ℕ) (above : List Event) (found : Option Taken) → IsMisfitIfAny found
+    → ((said : Taken) → IsMisfit said → P (said, marked mirror))
     → P (taken.Advanced held.eid consulted, followed mirror held consulted above)
     → P (judge_above mirror held consulted above found)
-each_above_line P mirror held consulted above (Some said) h trouble advanced = trouble said h
-each_above_line P mirror held consulted above None h trouble advanced = advanced
+each_above_line P mirror held consulted above (Some said) h misfit advanced = misfit said h
+each_above_line P mirror held consulted above None h misfit advanced = advanced
 
 each_numbered_line : (P : Taken × Held → Type 0) (mirror : Held) (held : Point) (consulted : ℕ) (events : List Event) (found : Option ℕ)
     → ((have got : ℕ) → P (taken.Gap have got, marked mirror))
-    → ((said : Taken) → IsTrouble said → P (said, marked mirror))
+    → ((said : Taken) → IsMisfit said → P (said, marked mirror))
     → P (taken.Advanced held.eid consulted, followed mirror held consulted (events_above held.eid events))
     → P (judge_numbered mirror held consulted events found)
-each_numbered_line P mirror held consulted events (Some got) gaps trouble advanced = gaps held.eid got
-each_numbered_line P mirror held consulted events None gaps trouble advanced =
+each_numbered_line P mirror held consulted events (Some got) gaps misfit advanced = gaps held.eid got
+each_numbered_line P mirror held consulted events None gaps misfit advanced =
     let above = events_above held.eid events in
-    each_above_line P mirror held consulted above (first_trouble mirror.records above) (trouble_behind mirror.records [] above) trouble advanced
+    each_above_line P mirror held consulted above (first_misfit mirror.records above) (misfit_after mirror.records [] above) misfit advanced
 
 each_events_line_at : (P : Taken × Held → Type 0) (mirror : Held) (epoch consulted : ℕ) (events : List Event) (at : Option Point)
     → ((have : Option ℕ) → P (taken.OtherEpoch have epoch, marked mirror))
     → P (taken.Stale, mirror)
     → ((have got : ℕ) → P (taken.Gap have got, marked mirror))
-    → ((said : Taken) → IsTrouble said → P (said, marked mirror))
+    → ((said : Taken) → IsMisfit said → P (said, marked mirror))
     → ((held : Point) → at ≡ Some held → epoch ≡ held.epoch → P (taken.Advanced held.eid consulted, followed mirror held consulted (events_above held.eid events)))
     → P (judge_events_at mirror epoch consulted events at)
-each_events_line_at P mirror epoch consulted events None other stale gaps trouble advanced = other None
-each_events_line_at P mirror epoch consulted events (Some held) other stale gaps trouble advanced =
+each_events_line_at P mirror epoch consulted events None other stale gaps misfit advanced = other None
+each_events_line_at P mirror epoch consulted events (Some held) other stale gaps misfit advanced =
     let numbered = judge_numbered mirror held consulted events (gap held.eid consulted events) in
     let of_epoch = cond (leb consulted held.eid) (taken.Stale, mirror) numbered in
     cond_both (not (eqb epoch held.epoch)) (taken.OtherEpoch (Some held.epoch) epoch, marked mirror) of_epoch P (λ _. other (Some held.epoch))
     (λ same. cond_both (leb consulted held.eid) (taken.Stale, mirror) numbered P (λ _. stale)
-    (λ _. each_numbered_line P mirror held consulted events (gap held.eid consulted events) gaps trouble
+    (λ _. each_numbered_line P mirror held consulted events (gap held.eid consulted events) gaps misfit
     (advanced held refl (eqb-true epoch held.epoch (not-false (eqb epoch held.epoch) same)))))
 
 pub each_events_line : (P : Taken × Held → Type 0) (mirror : Held) (kind : Kind) (epoch consulted : ℕ) (events : List Event)
@@ -89,38 +89,38 @@ pub each_events_line : (P : Taken × Held → Type 0) (mirror : Held) (kind : Ki
     → ((have : Option ℕ) → P (taken.OtherEpoch have epoch, marked mirror))
     → P (taken.Stale, mirror)
     → ((have got : ℕ) → P (taken.Gap have got, marked mirror))
-    → ((said : Taken) → IsTrouble said → P (said, marked mirror))
+    → ((said : Taken) → IsMisfit said → P (said, marked mirror))
     → ((held : Point) → mirror.point ≡ Some held → epoch ≡ held.epoch → P (taken.Advanced held.eid consulted, followed mirror held consulted (events_above held.eid events)))
     → P (judge_events mirror kind epoch consulted events)
-each_events_line P mirror kind epoch consulted events wrong other stale gaps trouble advanced =
+each_events_line P mirror kind epoch consulted events wrong other stale gaps misfit advanced =
     cond_both (not (same_kind kind mirror.kind)) (taken.WrongKind, mirror) (judge_events_at mirror epoch consulted events mirror.point) P (λ _. wrong)
-    (λ _. each_events_line_at P mirror epoch consulted events mirror.point other stale gaps trouble advanced)
+    (λ _. each_events_line_at P mirror epoch consulted events mirror.point other stale gaps misfit advanced)
 
 -- ---- where a mirror stands
 
 abbrev Stands : Held → Report → Taken × Held → Type 0
 Stands before report judged = StandsAt before report judged.0 judged.1
 
-trouble_stands : (mirror after : Held) (report : Report) (said : Taken) → IsTrouble said → after.point ≡ mirror.point → StandsAt mirror report said after
-trouble_stands mirror after (Inventory kind fulfil id point records) (taken.Contradiction eid) h e = e
-trouble_stands mirror after (Inventory kind fulfil id point records) (taken.Large count octets) h e = e
-trouble_stands mirror after (Events kind fulfil id point consulted events) (taken.Contradiction eid) h e = e
-trouble_stands mirror after (Events kind fulfil id point consulted events) (taken.Large count octets) h e = e
-trouble_stands mirror after report taken.WrongKind h e = absurd h
-trouble_stands mirror after report taken.Stale h e = absurd h
-trouble_stands mirror after report (taken.Doubled twice) h e = absurd h
-trouble_stands mirror after report taken.Adopted h e = absurd h
-trouble_stands mirror after report (taken.OtherEpoch have got) h e = absurd h
-trouble_stands mirror after report (taken.Gap have got) h e = absurd h
-trouble_stands mirror after report (taken.Advanced from to) h e = absurd h
-trouble_stands mirror after report taken.Memory h e = absurd h
+misfit_stands : (mirror after : Held) (report : Report) (said : Taken) → IsMisfit said → after.point ≡ mirror.point → StandsAt mirror report said after
+misfit_stands mirror after (Inventory kind fulfil id point records) (taken.Contradiction eid) h e = e
+misfit_stands mirror after (Inventory kind fulfil id point records) (taken.Large count octets) h e = e
+misfit_stands mirror after (Events kind fulfil id point consulted events) (taken.Contradiction eid) h e = e
+misfit_stands mirror after (Events kind fulfil id point consulted events) (taken.Large count octets) h e = e
+misfit_stands mirror after report taken.WrongKind h e = absurd h
+misfit_stands mirror after report taken.Stale h e = absurd h
+misfit_stands mirror after report (taken.Doubled twice) h e = absurd h
+misfit_stands mirror after report taken.Adopted h e = absurd h
+misfit_stands mirror after report (taken.OtherEpoch have got) h e = absurd h
+misfit_stands mirror after report (taken.Gap have got) h e = absurd h
+misfit_stands mirror after report (taken.Advanced from to) h e = absurd h
+misfit_stands mirror after report taken.Memory h e = absurd h
 
 judged_stands : (mirror : Held) (report : Report) → Stands mirror report (judge mirror report)
 judged_stands mirror (Inventory kind fulfil id point records) =
     each_line (Stands mirror (Inventory kind fulfil id point records)) mirror kind point records refl refl (λ _. refl) refl (λ _. refl)
 judged_stands mirror (Events kind fulfil id point consulted events) =
     each_events_line (Stands mirror (Events kind fulfil id point consulted events)) mirror kind point.epoch consulted events refl (λ _. refl) refl (λ _ _. refl)
-    (λ said h. trouble_stands mirror (marked mirror) (Events kind fulfil id point consulted events) said h refl)
+    (λ said h. misfit_stands mirror (marked mirror) (Events kind fulfil id point consulted events) said h refl)
     (λ held _ same. ap (λ (epoch : ℕ). Some (record point { epoch = epoch; eid = consulted })) (sym same))
 
 pub answered_stands : (before : Held) (report : Report) (answer : Taken) (after : Held) → Judged before (judge before report) answer after → StandsAt before report answer after

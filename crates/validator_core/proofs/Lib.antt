@@ -7,4 +7,4 @@ pub mod Mentioning
 pub mod Numbered
 pub mod Righting
 pub mod Tallying
-pub mod Troubles
+pub mod Misfits

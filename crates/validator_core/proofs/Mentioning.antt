@@ -71,7 +71,8 @@ same_in_order rs ss moved up down =
 
 -- ---- what is live
 
--- The records that no event mentions and what the last mentions say, in any order that does not fall, are what is live.
+-- The records that no event mentions and what the last mentions say, in any order that does not
+-- fall, are what is live.
 pub live_in_any_order : (base : List Record) (events : List Event) (ordered : List Record) → IsStrictlyIncreasing (ids base)
     → IsPermutation (unmentioned events base ++ reverse (last_mentions events)) ordered → Rises (ids ordered) → ordered ≡ live base events
 live_in_any_order base events ordered up moved down =
@@ -89,7 +90,7 @@ live_in_any_order base events ordered up moved down =
 pub at_eqb : (m n : ℕ) → is_eq (nat_cmp m n) ≡ eqb m n
 at_eqb m n = grind (arith, nat_tests)
 
--- What the last mention says of a record, behind what those behind it say.
+-- What the last mention says of a record, after what those after it say.
 pub said_earlier : (event : Event) (later : List Event) (said after : List Record) (copy : Record) → is_mentioned event.subject.id later ≡ false → is_deletion event.action ≡ false
     → said ≡ reverse (last_mentions later) → copy ≡ event.subject → after ≡ said ++ copy ∷ [] → after ≡ reverse (last_mentions (event ∷ later))
 said_earlier event later said after copy apart stays is same pushed =

@@ -1,4 +1,4 @@
--- Events that are numbered one by one, and those of them that are told.
+-- Events that are numbered one by one, and those of them that are reported.
 use Rattle.std.proofs.Common.{◌≡◌, inl, inr, ℕ, zero, suc, ◌+◌, ◌-◌, ◌<◌, ◌≤◌, eqb, leb, ltb, cond, ◌&&◌, Bool, true, false, List, [], ◌∷◌, ◌++◌, take, Option, Some, None, refl, sym, ap, ◌∙◌, arith, eqb-true, leb-true}
 use Rattle.std.specs.Prelude.{filter, nat_lt, nat_le}
 use Rattle.std.proofs.lemmas.Bool.{cases_lt, lt-ltb, le-ltb, le-leb, lt-leb}
@@ -81,7 +81,7 @@ take_none : (k : ℕ) → take {A = Event} k [] ≡ []
 take_none zero = refl
 take_none (suc k) = refl
 
--- Numbered events above one that they are past are a front.
+-- Numbered events above one that they are past are a prefix.
 past : (held consulted n : ℕ) (events : List Event) → AreNumberedFrom n events → held < n → between held consulted events ≡ take (consulted + 1 - n) events
 past held consulted n [] are lt = sym (take_none (consulted + 1 - n))
 past held consulted n (e ∷ later) are lt =
@@ -98,7 +98,8 @@ past held consulted n (e ∷ later) are lt =
           rw (above, up, more) (ap (λ (es : List Event). e ∷ es) (past held consulted (n + 1) later are.1 (omega arith)))
     ]
 
--- What is numbered up to one, and the events above it up to another, are what is numbered up to that.
+-- What is numbered up to one, and the events above it up to another, are what is numbered up to
+-- that.
 pub front_between : (held consulted n : ℕ) (events : List Event) → AreNumberedFrom n events → n ≤ held + 1 → held ≤ consulted
     → take (held + 1 - n) events ++ between held consulted events ≡ take (consulted + 1 - n) events
 front_between held consulted n [] are first le =
@@ -121,7 +122,7 @@ followed held consulted events are le =
     let c : consulted + 1 - 1 ≡ consulted = omega arith in
     ap (λ (k : ℕ). take k events ++ between held consulted events) (sym h) ∙ front_between held consulted 1 events are (omega arith) le ∙ ap (λ (k : ℕ). take k events) c
 
--- ---- what a report without a gap tells
+-- ---- what a report without a gap reports
 
 agree_step : (first held consulted eid : ℕ) → first ≤ held + 1 → ((leb first eid && leb eid consulted) && ltb held eid) ≡ (ltb held eid && leb eid consulted)
 agree_step first held consulted eid le = elim (cases_lt held eid) [
@@ -142,7 +143,8 @@ agree_step first held consulted eid le = elim (cases_lt held eid) [
     and_false true = refl
     and_false false = refl
 
--- Those that are told above the one that is held, where the first that is told is not behind the next.
+-- Those that are reported above the one that is held, where the first that is reported is not after
+-- the next.
 told_above : (first held consulted : ℕ) (events : List Event) → first ≤ held + 1 → events_above held (from_to first consulted events) ≡ between held consulted events
 told_above first held consulted events le =
     filter_both (λ (e : Event). nat_le first e.eid && nat_le e.eid consulted) (λ (e : Event). nat_lt held e.eid) events
@@ -153,7 +155,7 @@ both_true : (a b : Bool) → (a && b) ≡ true → a ≡ true
 both_true true b e = refl
 both_true false b e = absurd cc
 
--- The first of them tells that.
+-- The first of them reports that.
 first_of_told : (first held consulted : ℕ) (events told : List Event) → events_above held (from_to first consulted events) ≡ told → eids told ≡ numbers_from (held + 1) (consulted - held) → held < consulted → first ≤ held + 1
 first_of_told first held consulted events [] is numbers lt =
     let some : consulted - held ≡ suc (consulted - held - 1) = omega arith in
@@ -169,8 +171,8 @@ first_of_told first held consulted events (e ∷ rest) is numbers lt =
     (sym (filter_both (λ (x : Event). nat_le first x.eid && nat_le x.eid consulted) (λ (x : Event). nat_lt held x.eid) events) ∙ is) in
     omega (arith, head, leb-true first e.eid (both_true (leb first e.eid) (leb e.eid consulted) (both_true (leb first e.eid && leb e.eid consulted) (ltb held e.eid) passed)))
 
--- A report that tells all from its first event to the last that was consulted, without a gap behind the one that is
--- held, tells all behind that.
+-- A report that reports all from its first event to the last that was consulted, without a gap
+-- after the one that is held, reports all after that.
 pub tells_above : (kind : Kind) (held consulted : ℕ) (epoch first : List Event) (told : ℕ) → first ≡ events_of_kind kind (from_to told consulted epoch) → held < consulted → gap held consulted first ≡ None
     → events_above held first ≡ events_of_kind kind (between held consulted epoch)
 tells_above kind held consulted epoch first told is lt none =
@@ -181,7 +183,7 @@ tells_above kind held consulted epoch first told is lt none =
     ∙ no_difference (eids (events_above held first)) (numbers_from (held + 1) (consulted - held)) none in
     above ∙ ap (events_of_kind kind) (told_above told held consulted epoch (first_of_told told held consulted epoch (events_above held (from_to told consulted epoch)) refl numbers lt))
 
--- Nothing that is told leaves a gap.
+-- Nothing that is reported leaves a gap.
 pub nothing_told : (held consulted : ℕ) → held < consulted → gap held consulted [] ≡ None → ⊥
 nothing_told held consulted lt none =
     let some : consulted - held ≡ suc (consulted - held - 1) = omega arith in

@@ -23,7 +23,7 @@ use Rattle.swima_model.proofs.Placing.{is_in_order}
 use Rattle.swima_model.proofs.Repeats.{doubled_is_least_repeated}
 use Rattle.validator_core.specs.declared.mirror.Taken.{Taken}
 use Rattle.validator_core.specs.declared.mirror.Taken.TheVariants as taken
-use Rattle.validator_core.specs.Following.{events_above, gap, too_large, trouble, or_later, first_trouble_behind, first_trouble}
+use Rattle.validator_core.specs.Following.{events_above, gap, too_large, misfit, or_later, first_misfit_after, first_misfit}
 use Rattle.validator_core.specs.Held.{Held}
 use Rattle.validator_core.specs.Judge.{Judged, is_stale, judge, judge_inventory, judge_records, judge_events, judge_events_at, judge_numbered, judge_above, marked, same_kind}
 use Rattle.validator_core.specs.Right.{RightAt, IsRight, BlamesNot, StaysRight}
@@ -82,28 +82,28 @@ inventory_right history mirror kind point records honest right lies =
 -- ---- events
 
 -- Nothing is said of events that fit.
-no_trouble : (base : List Record) (before : List Event) (event : Event) → FitsBehind base before event → trouble base before event ≡ None
-no_trouble base before event fits =
+no_misfit : (base : List Record) (before : List Event) (event : Event) → FitsBehind base before event → misfit base before event ≡ None
+no_misfit base before event fits =
     cond-false (contradicts (live base before) event) (Some (taken.Contradiction event.eid)) (too_large (live base (before ++ event ∷ []))) fits.agrees
     ∙ cond-false (are_large (live base (before ++ event ∷ []))) (Some (taken.Large (length (live base (before ++ event ∷ []))) (records_octets (live base (before ++ event ∷ []))))) None fits.fits
 
-untroubled_behind : (epoch : Epoch) (count : ℕ) (kind : Kind) (before later after : List Event) → IsHonestEpoch epoch → epoch.events ≡ take count epoch.events ++ (before ++ (later ++ after))
-    → first_trouble_behind (live_at epoch count kind) (events_of_kind kind before) (events_of_kind kind later) ≡ None
-untroubled_behind epoch count kind before [] after honest split = refl
-untroubled_behind epoch count kind before (event ∷ later) after honest split =
-    let here = no_trouble (live_at epoch count kind) (events_of_kind kind before) (event_of_kind kind event) (fits_on epoch count kind before event (later ++ after) honest split) in
+no_misfit_after : (epoch : Epoch) (count : ℕ) (kind : Kind) (before later after : List Event) → IsHonestEpoch epoch → epoch.events ≡ take count epoch.events ++ (before ++ (later ++ after))
+    → first_misfit_after (live_at epoch count kind) (events_of_kind kind before) (events_of_kind kind later) ≡ None
+no_misfit_after epoch count kind before [] after honest split = refl
+no_misfit_after epoch count kind before (event ∷ later) after honest split =
+    let here = no_misfit (live_at epoch count kind) (events_of_kind kind before) (event_of_kind kind event) (fits_on epoch count kind before event (later ++ after) honest split) in
     let front = sym (map-append (event_of_kind kind) before (event ∷ [])) in
     let next : epoch.events ≡ take count epoch.events ++ ((before ++ event ∷ []) ++ (later ++ after)) =
     split ∙ ap (λ (es : List Event). take count epoch.events ++ es) (sym (append_assoc before (event ∷ []) (later ++ after))) in
-    ap (λ (said : Option Taken). or_later said (first_trouble_behind (live_at epoch count kind) (events_of_kind kind before ++ event_of_kind kind event ∷ []) (events_of_kind kind later))) here
-    ∙ ap (λ (es : List Event). first_trouble_behind (live_at epoch count kind) es (events_of_kind kind later)) front
-    ∙ untroubled_behind epoch count kind (before ++ event ∷ []) later after honest next
+    ap (λ (said : Option Taken). or_later said (first_misfit_after (live_at epoch count kind) (events_of_kind kind before ++ event_of_kind kind event ∷ []) (events_of_kind kind later))) here
+    ∙ ap (λ (es : List Event). first_misfit_after (live_at epoch count kind) es (events_of_kind kind later)) front
+    ∙ no_misfit_after epoch count kind (before ++ event ∷ []) later after honest next
 
--- The events of an epoch up to a place that is consulted, behind one that is held.
-untroubled : (epoch : Epoch) (held consulted : ℕ) (kind : Kind) → IsHonestEpoch epoch → held ≤ consulted
-    → first_trouble (live_at epoch held kind) (events_of_kind kind (between held consulted epoch.events)) ≡ None
-untroubled epoch held consulted kind honest le =
-    untroubled_behind epoch held kind [] (between held consulted epoch.events) (drop consulted epoch.events) honest
+-- The events of an epoch up to a place that is consulted, after one that is held.
+without_misfit : (epoch : Epoch) (held consulted : ℕ) (kind : Kind) → IsHonestEpoch epoch → held ≤ consulted
+    → first_misfit (live_at epoch held kind) (events_of_kind kind (between held consulted epoch.events)) ≡ None
+without_misfit epoch held consulted kind honest le =
+    no_misfit_after epoch held kind [] (between held consulted epoch.events) (drop consulted epoch.events) honest
     (sym (take-append-drop consulted epoch.events) ∙ ap (λ (es : List Event). es ++ drop consulted epoch.events) (sym (followed held consulted epoch.events honest.eids le))
     ∙ append_assoc (take held epoch.events) (between held consulted epoch.events) (drop consulted epoch.events))
 
@@ -114,7 +114,7 @@ advanced epoch held consulted kind honest le =
     live_on epoch held kind (between held consulted epoch.events) honest
     ∙ ap (λ (es : List Event). records_of_kind kind (live epoch.base es)) (followed held consulted epoch.events honest.eids le)
 
--- The events that a report without a gap tells above the one that is held.
+-- The events that a report without a gap reports above the one that is held.
 above_is : (epoch : Epoch) (held consulted : ℕ) (kind : Kind) (events : List Event) → TellsAll epoch kind consulted events → held < consulted → gap held consulted events ≡ None
     → events_above held events ≡ events_of_kind kind (between held consulted epoch.events)
 above_is epoch held consulted kind [] tells lt none = absurd (nothing_told held consulted lt none)
@@ -136,8 +136,8 @@ followed_right history mirror held consulted events epoch honest stays right cit
     let base : mirror.records ≡ live_at epoch held.eid mirror.kind = right.holds_so ∙ ap (λ (e : Epoch). live_at e held.eid mirror.kind) one in
     let above = above_is epoch held.eid consulted mirror.kind events tells lt is in
     let le : held.eid ≤ consulted = omega (arith, lt) in
-    let calm : first_trouble mirror.records (events_above held.eid events) ≡ None =
-    ap (λ (rs : List Record). first_trouble rs (events_above held.eid events)) base ∙ ap (first_trouble (live_at epoch held.eid mirror.kind)) above ∙ untroubled epoch held.eid consulted mirror.kind good le in
+    let calm : first_misfit mirror.records (events_above held.eid events) ≡ None =
+    ap (λ (rs : List Record). first_misfit rs (events_above held.eid events)) base ∙ ap (first_misfit (live_at epoch held.eid mirror.kind)) above ∙ without_misfit epoch held.eid consulted mirror.kind good le in
     let on : live mirror.records (events_above held.eid events) ≡ live_at epoch consulted mirror.kind =
     ap (λ (rs : List Record). live rs (events_above held.eid events)) base ∙ ap (live (live_at epoch held.eid mirror.kind)) above ∙ advanced epoch held.eid consulted mirror.kind good le in
     subst (λ (said : Option Taken). Good history (judge_above mirror held consulted (events_above held.eid events) said)) (sym calm)
@@ -194,12 +194,12 @@ inventory_kind mirror kind point records =
     (λ same. cond_both stale (taken.Stale, mirror) found (Keeps mirror) (λ behind. refl) (λ new. records_kind mirror point records (doubled (ids records))))
 
 above_kind : (mirror : Held) (held : Point) (consulted : ℕ) (above : List Event) (said : Option Taken) → Keeps mirror (judge_above mirror held consulted above said)
-above_kind mirror held consulted above (Some trouble) = refl
+above_kind mirror held consulted above (Some misfit) = refl
 above_kind mirror held consulted above None = refl
 
 numbered_kind : (mirror : Held) (held : Point) (consulted : ℕ) (events : List Event) (found : Option ℕ) → Keeps mirror (judge_numbered mirror held consulted events found)
 numbered_kind mirror held consulted events (Some got) = refl
-numbered_kind mirror held consulted events None = above_kind mirror held consulted (events_above held.eid events) (first_trouble mirror.records (events_above held.eid events))
+numbered_kind mirror held consulted events None = above_kind mirror held consulted (events_above held.eid events) (first_misfit mirror.records (events_above held.eid events))
 
 events_at_kind : (mirror : Held) (epoch consulted : ℕ) (events : List Event) (held : Option Point) → Keeps mirror (judge_events_at mirror epoch consulted events held)
 events_at_kind mirror epoch consulted events None = refl

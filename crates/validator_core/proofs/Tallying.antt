@@ -17,7 +17,7 @@ use Rattle.std.proofs.lemmas.Map.Entries.{lookup_head, lookup_tail, none_below_h
 use Rattle.std.proofs.lemmas.Map.Keys.{IsDistinct-from_sorted, sorted_from_strictly_increasing, sorted_tail}
 use Rattle.swima_model.specs.declared.event.Event.{Event}
 use Rattle.swima_model.specs.declared.record.Record.{Record}
-use Rattle.swima_model.specs.History.{contradicts, does_not_fit}
+use Rattle.swima_model.specs.History.{contradicts, is_contradiction}
 use Rattle.swima_model.specs.InOrder.{ids}
 use Rattle.swima_model.specs.Live.{is_deletion, later_or, last_mention, by_mention, live, record_of}
 use Rattle.swima_model.specs.Size.{content_octets, records_octets, is_large}
@@ -47,7 +47,7 @@ total_put id octets was size before after up e is held =
     ap₂ (λ (m n : ℕ). m + n) (ap total e) (held ∙ ap (λ (o : Option ℕ). unwrap_or o 0) is ∙ sym (weight (size_at id before)))
     ∙ sum_by-insert_entry (λ (n : ℕ). n) nat_cmp_total before id octets up
 
--- ---- sizes are told by the size of each identifier
+-- ---- sizes are decided by the size of each identifier
 
 at_itself : (m n : ℕ) → m ≡ n → is_at (nat_cmp m) n ≡ true
 at_itself m n e = grind (arith, nat_tests)
@@ -147,7 +147,7 @@ event_step false event b m = refl
 same_test_back : (m n : ℕ) → is_at (nat_cmp m) n ≡ eqb m n
 same_test_back m n = grind (arith, nat_tests)
 
--- Sizes of what is live, set as an event says, are sizes of what is live behind it.
+-- Sizes of what is live, set as an event says, are sizes of what is live after it.
 pub sizes_behind : (base : List Record) (before : List Event) (event : Event) (now after : Sizes) → IsStrictlyIncreasing (ids base) → now ≡ sizes_of (live base before)
     → AreRising after → AreSetAt event.subject.id (size_said event) now after → after ≡ sizes_of (live base (before ++ event ∷ []))
 sizes_behind base before event now after up is rising set =
@@ -163,22 +163,22 @@ sizes_behind base before event now after up is rising set =
     ∙ sym (size_at_of id (live base more) ∙ ap (option_map octets_of) (live_of id base more)))
 
 contradiction_is : (base : List Record) (before : List Event) (event : Event) (is_live : Bool) (now : Sizes) → is_live ≡ is_some (size_at event.subject.id now) → now ≡ sizes_of (live base before)
-    → does_not_fit event.action is_live ≡ contradicts (live base before) event
+    → is_contradiction event.action is_live ≡ contradicts (live base before) event
 contradiction_is base before event is_live now e is =
-    ap (does_not_fit event.action)
+    ap (is_contradiction event.action)
     (e ∙ ap (λ (s : Sizes). is_some (size_at event.subject.id s)) is ∙ ap is_some (size_at_of event.subject.id (live base before))
     ∙ some_octets (record_of event.subject.id (live base before)))
 
 -- What is said of an event that contradicts what is live, and of one that does not.
 pub follows_none : (base : List Record) (before : List Event) (event : Event) (is_live : Bool) (now after : Sizes) → is_live ≡ is_some (size_at event.subject.id now) → now ≡ sizes_of (live base before)
-    → true ≡ does_not_fit event.action is_live → Follows base before event (Some (taken.Contradiction event.eid)) after
+    → true ≡ is_contradiction event.action is_live → Follows base before event (Some (taken.Contradiction event.eid)) after
 follows_none base before event is_live now after e is unfit = (
   sym (cond-true (contradicts (live base before) event) (Some (taken.Contradiction event.eid)) (too_large (live base (before ++ event ∷ []))) (sym (unfit ∙ contradiction_is base before event is_live now e is))),
   λ none. absurd (two_answers (taken.Contradiction event.eid) (Some (taken.Contradiction event.eid)) none refl),
 )
 
 pub follows_set : (base : List Record) (before : List Event) (event : Event) (is_live : Bool) (now after : Sizes) (said : Option Taken) → IsStrictlyIncreasing (ids base)
-    → is_live ≡ is_some (size_at event.subject.id now) → now ≡ sizes_of (live base before) → false ≡ does_not_fit event.action is_live
+    → is_live ≡ is_some (size_at event.subject.id now) → now ≡ sizes_of (live base before) → false ≡ is_contradiction event.action is_live
     → AreRising after → AreSetAt event.subject.id (size_said event) now after → said ≡ sizes_too_large after → Follows base before event said after
 follows_set base before event is_live now after said up e is fits rising set large =
     let behind : after ≡ sizes_of (live base (before ++ event ∷ [])) = sizes_behind base before event now after up is rising set in

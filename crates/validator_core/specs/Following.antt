@@ -16,20 +16,21 @@ events_above eid events = filter (λ (e : Event). nat_lt eid e.eid) events
 abbrev pub eids : List Event → List ℕ
 eids events = map (λ (e : Event). e.eid) events
 
--- So many numbers one by one, from the first on.
+-- That many numbers one by one, from the first on.
 abbrev pub numbers_from : ℕ → ℕ → List ℕ
 numbers_from first zero = []
 numbers_from first (suc count) = first ∷ numbers_from (first + 1) count
 
--- The first number of the one list that differs from that of the other; 0 where the one list ends first.
+-- The first number of the one list that differs from that of the other; 0 where the one list ends
+-- first.
 abbrev pub first_difference : List ℕ → List ℕ → Option ℕ
 first_difference [] [] = None
 first_difference [] (wanted ∷ others) = Some 0
 first_difference (told ∷ tolds) [] = Some told
 first_difference (told ∷ tolds) (wanted ∷ others) = if told == wanted then first_difference tolds others else Some told
 
--- The first gap: the event identifiers above the one that is held are to be the numbers behind it, up to the last that
--- was consulted.
+-- The first gap: the event identifiers above the one that is held are to be the numbers after it,
+-- up to the last that was consulted.
 abbrev pub gap : ℕ → ℕ → List Event → Option ℕ
 gap held consulted events = first_difference (eids (events_above held events)) (numbers_from (held + 1) (consulted - held))
 
@@ -37,10 +38,10 @@ gap held consulted events = first_difference (eids (events_above held events)) (
 abbrev pub too_large : List Record → Option Taken
 too_large records = if are_large records then Some (taken.Large (length records) (records_octets records)) else None
 
--- What is said of an event behind those before it: that it contradicts what is live there, or that too much is live
--- behind it.
-abbrev pub trouble : List Record → List Event → Event → Option Taken
-trouble base before event =
+-- Why an event does not fit after those before it: it contradicts what is live there, or too much
+-- is live after it.
+abbrev pub misfit : List Record → List Event → Event → Option Taken
+misfit base before event =
     if contradicts (live base before) event then Some (taken.Contradiction event.eid)
     else too_large (live base (before ++ event ∷ []))
 
@@ -49,12 +50,12 @@ abbrev pub or_later : Option Taken → Option Taken → Option Taken
 or_later (Some said) later = Some said
 or_later None later = later
 
--- What is said of the first event of which something is to be said, behind those before them.
-abbrev pub first_trouble_behind : List Record → List Event → List Event → Option Taken
-first_trouble_behind base before [] = None
-first_trouble_behind base before (event ∷ later) =
-    or_later (trouble base before event) (first_trouble_behind base (before ++ event ∷ []) later)
+-- What is said of the first event that does not fit, after those before them.
+abbrev pub first_misfit_after : List Record → List Event → List Event → Option Taken
+first_misfit_after base before [] = None
+first_misfit_after base before (event ∷ later) =
+    or_later (misfit base before event) (first_misfit_after base (before ++ event ∷ []) later)
 
--- What is said of the first such event of a report, over the records that are held.
-abbrev pub first_trouble : List Record → List Event → Option Taken
-first_trouble base events = first_trouble_behind base [] events
+-- What is said of the first event of a report that does not fit, over the records that are held.
+abbrev pub first_misfit : List Record → List Event → Option Taken
+first_misfit base events = first_misfit_after base [] events

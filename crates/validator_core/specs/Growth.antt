@@ -1,4 +1,5 @@
--- A history that grows, by events and by epochs (RFC 8412, section 3.7.1), keeps what was said of it.
+-- A history that grows, by events and by epochs (RFC 8412, section 3.7.1), keeps what was said of
+-- it.
 use Rattle.std.specs.Prelude.{◌<◌, List, [], ◌∷◌, ◌++◌, length}
 use Rattle.std.specs.List.{AllByRecursion}
 use Rattle.swima_model.specs.declared.event.Event.{Event}
@@ -8,13 +9,14 @@ use Rattle.swima_model.specs.History.{Epoch, History, IsHonest, Answers}
 use Rattle.validator_core.specs.Held.{Held}
 use Rattle.validator_core.specs.Right.{IsRight}
 
--- A history grows by events behind those of its last epoch, and by epochs behind its last.
+-- A history grows by events after those of its last epoch, and by epochs after its last.
 pub data Grows : History → History → Type 0 where
   by_events : (front : List Epoch) (last : Epoch) (more : List Event)
       → Grows (front ++ last ∷ []) (front ++ record last { events = last.events ++ more } ∷ [])
   by_epochs : (history : History) (later : List Epoch) → Grows history (history ++ later)
 
--- The event identifiers of the events that it grows by are above the number of those that their epoch had.
+-- The event identifiers of the events that it grows by are above the number of those that their
+-- epoch had.
 abbrev pub AreLater : {before after : History} → Grows before after → Type 0
 AreLater (by_events front last more) = AllByRecursion (λ (e : Event). length last.events < e.eid) more
 AreLater (by_epochs history later) = Unit {0}

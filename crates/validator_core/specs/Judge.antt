@@ -1,5 +1,5 @@
--- What a mirror answers to a report, and what it holds then: the first line that fits. The table is our own; its words
--- are those of RFC 8412, section 3.7.
+-- What a mirror answers to a report, and what it holds then: the first line that fits. The table is
+-- our own; its words are those of RFC 8412, section 3.7.
 use Rattle.std.specs.Prelude.{◌≡◌, ◌==◌, ◌&&◌, ◌||◌, ℕ, Bool, true, false, not, List, length, Option, Some, None, nat_lt, nat_le, if◌then◌else◌}
 use Rattle.swima_model.specs.declared.event.Event.{Event}
 use Rattle.swima_model.specs.declared.record.Record.{Record}
@@ -15,7 +15,7 @@ use Rattle.swima_model.specs.Size.{records_octets, are_large}
 use Rattle.validator_core.specs.declared.mirror.Taken.{Taken}
 use Rattle.validator_core.specs.declared.mirror.Taken.TheVariants as taken
 use Rattle.validator_core.specs.Held.{Held}
-use Rattle.validator_core.specs.Following.{events_above, gap, first_trouble}
+use Rattle.validator_core.specs.Following.{events_above, gap, first_misfit}
 
 -- Two kinds are one.
 abbrev pub same_kind : Kind → Kind → Bool
@@ -30,8 +30,8 @@ marked mirror = record mirror { off = true }
 
 -- ---- an inventory (RFC 8412, section 5.7)
 
--- An inventory of this point tells nothing new: it is of the epoch that is held, and its event identifier is below the
--- one that is held, or the same while the mark is not set.
+-- An inventory of this point has nothing new: it is of the epoch that is held, and its event
+-- identifier is below the one that is held, or the same while the mark is not set.
 abbrev pub is_stale : Option Point → Bool → Point → Bool
 is_stale None off point = false
 is_stale (Some held) off point = (point.epoch == held.epoch) && (nat_lt point.eid held.eid || ((point.eid == held.eid) && not off))
@@ -56,10 +56,10 @@ judge_inventory mirror kind point records =
 
 -- ---- events (RFC 8412, section 5.8)
 
--- The events above the one that is held, of which the first that does not fit is given: all of them are followed, and
--- the mirror stands at the last that was consulted.
+-- The events above the one that is held, of which the first that does not fit is given: all of them
+-- are followed, and the mirror stands at the last that was consulted.
 abbrev pub judge_above : Held → Point → ℕ → List Event → Option Taken → Taken × Held
-judge_above mirror held consulted above (Some trouble) = (trouble, marked mirror)
+judge_above mirror held consulted above (Some misfit) = (misfit, marked mirror)
 judge_above mirror held consulted above None = (
   taken.Advanced held.eid consulted,
   record mirror { point = Some (record held { eid = consulted }); records = live mirror.records above },
@@ -69,7 +69,7 @@ judge_above mirror held consulted above None = (
 abbrev pub judge_numbered : Held → Point → ℕ → List Event → Option ℕ → Taken × Held
 judge_numbered mirror held consulted events (Some got) = (taken.Gap held.eid got, marked mirror)
 judge_numbered mirror held consulted events None =
-    judge_above mirror held consulted (events_above held.eid events) (first_trouble mirror.records (events_above held.eid events))
+    judge_above mirror held consulted (events_above held.eid events) (first_misfit mirror.records (events_above held.eid events))
 
 -- Events of an epoch, over the point that is held.
 abbrev pub judge_events_at : Held → ℕ → ℕ → List Event → Option Point → Taken × Held
@@ -92,7 +92,7 @@ abbrev pub judge : Held → Report → Taken × Held
 judge mirror (Inventory kind fulfil id point records) = judge_inventory mirror kind point records
 judge mirror (Events kind fulfil id point consulted events) = judge_events mirror kind point.epoch consulted events
 
--- Want of memory may stand in place of this answer.
+-- `Memory` may come in place of this answer.
 abbrev pub NeedsMemory : Taken → Type 0
 NeedsMemory taken.WrongKind = ⊥
 NeedsMemory taken.Stale = ⊥
@@ -100,13 +100,14 @@ NeedsMemory (taken.OtherEpoch have got) = ⊥
 NeedsMemory (taken.Gap have got) = ⊥
 NeedsMemory answer = Unit {0}
 
--- A call answered, and left the mirror, as was judged; or memory was wanting for that, and the mirror is as it was.
+-- A call answered, and left the mirror, as was judged; or memory ran out for that, and the
+-- mirror is as it was.
 abbrev pub Judged : Held → Taken × Held → Taken → Held → Type 0
 Judged before judged taken.Memory after = NeedsMemory judged.0 × (after ≡ before)
 Judged before judged answer after = judged ≡ (answer, after)
 
--- The mirror stands at the report's point after `Adopted`, at the last event of its epoch that was consulted after
--- `Advanced`, and where it stood after every other answer.
+-- The mirror stands at the report's point after `Adopted`, at the last event of its epoch that was
+-- consulted after `Advanced`, and where it stood after every other answer.
 abbrev pub StandsAt : Held → Report → Taken → Held → Type 0
 StandsAt before (Inventory kind fulfil id point records) taken.Adopted after = after.point ≡ Some point
 StandsAt before (Events kind fulfil id point consulted events) (taken.Advanced from to) after =

@@ -7,4 +7,4 @@ pub mod Mentions
 pub mod Right
 pub mod Want
 pub mod Tally
-pub mod Given
+pub mod MaybeOwned

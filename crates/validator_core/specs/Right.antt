@@ -1,4 +1,5 @@
--- When a mirror is right over a history of epochs and events (RFC 8412, section 3.7.1). What is right is our own to say.
+-- When a mirror is right over a history of epochs and events (RFC 8412, section 3.7.1). What is
+-- right is our own to say.
 use Rattle.std.specs.Prelude.{◌≡◌, List, [], Option, Some, None}
 use Rattle.swima_model.specs.declared.record.Record.{Record}
 use Rattle.swima_model.specs.declared.report.Kind.{Kind}
@@ -9,8 +10,8 @@ use Rattle.validator_core.specs.declared.mirror.Taken.{Taken}
 use Rattle.validator_core.specs.declared.mirror.Taken.TheVariants as taken
 use Rattle.validator_core.specs.Held.{Held}
 
--- Records that are held at a point are those that the history has live there, as reports of the kind carry them; without
--- a point there are none.
+-- Records that are held at a point are those that the history has live there, as reports of the
+-- kind carry them; without a point there are none.
 abbrev pub RightAt : History → Kind → List Record → Option Point → Type 0
 RightAt history kind records None = records ≡ []
 RightAt history kind records (Some point) = LiesIn history point (λ epoch. records ≡ live_at epoch point.eid kind)
@@ -26,8 +27,8 @@ BlamesNot (taken.Large count octets) = ⊥
 BlamesNot (taken.Contradiction eid) = ⊥
 BlamesNot answer = Unit {0}
 
--- A mirror that is right over an honest history is right after each report that answers from it, and says nothing
--- against that.
+-- A mirror that is right over an honest history is right after each report that answers from it,
+-- and says nothing against that.
 abbrev pub StaysRight : Held → Report → Taken → Held → Type 0
 StaysRight before report answer after = (history : History) → IsHonest history → IsRight history before → Answers history report
     → IsRight history after × BlamesNot answer

@@ -11,7 +11,7 @@ use Rattle.swima_model.specs.Live.{is_deletion, live}
 use Rattle.swima_model.specs.Size.{content_octets, is_large}
 use Rattle.validator_core.specs.declared.mirror.Taken.{Taken}
 use Rattle.validator_core.specs.declared.mirror.Taken.TheVariants as taken
-use Rattle.validator_core.specs.Following.{trouble}
+use Rattle.validator_core.specs.Following.{misfit}
 
 -- Identifiers, each with a number of octets.
 abbrev pub Sizes : Type 0
@@ -29,7 +29,7 @@ total sizes = sum_by (λ (octets : ℕ). octets) (values_of sizes)
 abbrev pub size_at : ℕ → Sizes → Option ℕ
 size_at id sizes = lookup (is_at (nat_cmp id)) sizes
 
--- Each identifier is below those behind it.
+-- Each identifier is below those after it.
 abbrev pub AreRising : Sizes → Type 0
 AreRising sizes = IsStrictlySortedBy nat_cmp (keys_of sizes)
 
@@ -49,8 +49,8 @@ sizes_too_large sizes = if is_large (length sizes) (total sizes) then Some (take
 abbrev pub AreFew : Sizes → Type 0
 AreFew sizes = (length sizes ≤ 65536) × (total sizes ≤ 2 ^ 40)
 
--- What was said of an event behind those before it, over a tally of what is live there, is its trouble; and where that is
--- nothing, the tally is of what is live behind it.
+-- What was said of an event after those before it, over a tally of what is live there, is its
+-- misfit; and where that is nothing, the tally is of what is live after it.
 abbrev pub Follows : List Record → List Event → Event → Option Taken → Sizes → Type 0
 Follows base before event said after =
-    (said ≡ trouble base before event) × (said ≡ None → after ≡ sizes_of (live base (before ++ event ∷ [])))
+    (said ≡ misfit base before event) × (said ≡ None → after ≡ sizes_of (live base (before ++ event ∷ [])))

@@ -1,16 +1,17 @@
--- What a mirror wants of its collector next (RFC 8412, section 3.7.3): an inventory, or the events behind those that it
--- has followed.
+-- What a mirror wants of its collector next (RFC 8412, section 3.7.3): an inventory, or the events
+-- after those that it has followed.
 use Rattle.std.specs.Prelude.{◌≡◌, ◌==◌, ◌+◌, ◌⊎◌, ℕ, Bool, true, false, Option, Some, None, if◌then◌else◌}
 use Rattle.swima_model.specs.declared.report.Point.{Point}
-use Rattle.validator_core.specs.declared.want.Want.{Want}
-use Rattle.validator_core.specs.declared.want.Want.TheVariants as wanted
+use Rattle.validator_core.specs.declared.mirror.want.Want.{Want}
+use Rattle.validator_core.specs.declared.mirror.want.Want.TheVariants as wanted
 use Rattle.validator_core.specs.Held.{Held}
 
 -- The last event identifier that an epoch can have.
 abbrev pub LAST_EID : ℕ
 LAST_EID = 4294967295
 
--- At a point, by the mark: an inventory where the mark is set, and else the events behind the point's, if there can be any.
+-- At a point, by the mark: an inventory where the mark is set, and else the events after the
+-- point's, if there can be any.
 abbrev pub want_at : Option Point → Bool → Want
 want_at None off = wanted.Full
 want_at (Some point) true = wanted.Full

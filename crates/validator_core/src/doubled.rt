@@ -11,7 +11,7 @@ use swima_model::Record;
 use wire_base::Memory;
 
 /// The smallest identifier that two of the records have.
-pub fn doubled(alloc: Global, records: &[Record]) -> Result<Option<u32>, Memory>
+pub(crate) fn doubled(alloc: Global, records: &[Record]) -> Result<Option<u32>, Memory>
     ensures smallest { IfOk result (λ found. found ≡ doubled (ids records.now)) }
 {
     let mut ids = Vec::with_capacity(alloc, records.len())?;

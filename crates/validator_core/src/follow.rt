@@ -15,12 +15,12 @@ use std::mem;
 use swima_model::{Action, Event, Events, Record, Records};
 use wire_base::{List, Memory};
 
-/// Makes of `records` those that are live after the events above the event identifier `eid`. No record is copied; at
-/// `Memory` the records are as they were.
-pub fn follow(records: &mut Records, eid: u32, events: Events) -> Result<(), Memory>
+/// Makes of `records` those that are live after the events above the event identifier `eid`. No
+/// record is copied; at `Memory` the records are as they were.
+pub(crate) fn follow(records: &mut Records, eid: u32, events: Events) -> Result<(), Memory>
     requires rising { IsStrictlyIncreasing (ids records.old) }
     ensures live { OnOk result (records.new ≡ live records.old (events_above eid events)) }
-    ensures memory { OnErr result (records.new ≡ records.old) }
+    ensures unchanged { OnErr result (records.new ≡ records.old) }
 {
     let mentions = Mentions::above(records.allocator(), eid, events)?;
     let mut items = mem::replace(records, List::new(records.allocator())).into_vec();
@@ -31,10 +31,11 @@ pub fn follow(records: &mut Records, eid: u32, events: Events) -> Result<(), Mem
 
 /// What events say of the records that they mention.
 #[derive(Drop)]
-pub struct Mentions {
+pub(crate) struct Mentions {
     /// The identifiers that are mentioned.
     ids: BTreeSet<u32>,
-    /// Of each record that is mentioned, what the last mention says, the last first; nothing where that is a deletion.
+    /// Of each record that is mentioned, what the last mention says, the last first; nothing where
+    /// that is a deletion.
     last: Vec<Record>,
 }
 
@@ -72,7 +73,7 @@ impl Mentions {
     fn put_into(self, records: &mut Vec<Record>) -> Result<(), Memory>
         ensures live { (events : List Event) → AreOf events self → IsStrictlyIncreasing (ids records.old.items)
             → OnOk result (records.new.items ≡ live records.old.items events) }
-        ensures memory { OnErr result (records.new.items ≡ records.old.items) }
+        ensures unchanged { OnErr result (records.new.items ≡ records.old.items) }
     {
         let Mentions { ids, mut last } = self;
         records.reserve(last.len())?;
@@ -83,8 +84,8 @@ impl Mentions {
     }
 }
 
-/// Puts records in order of identifier. A sort that leaves runs in order as they are wants memory; where there is none,
-/// one that takes no memory does the same.
+/// Puts records in order of identifier. A sort that leaves runs in order as they are wants memory;
+/// where there is none, one that takes no memory does the same.
 fn put_in_order(records: &mut Vec<Record>)
     ensures permutation { IsPermutation records.old.items records.new.items }
     ensures rising { IsNonDecreasingBy (λ (r : RecordValue). r.id) records.new.items }

@@ -3,19 +3,22 @@
 ghost use Rattle.validator_core.specs.Growth.{GrowthKeepsAnswers, GrowthKeepsRight, HonestGrowthIsLater};
 ghost use Rattle.validator_core.specs.Kept.{JudgeKeepsRising, JudgedAgainChangesNothing};
 
-/// A mirror in which each identifier is below the next, as in a new one, is such a mirror after each report.
+/// A mirror in which each identifier is below the next, as in a new one, is such a mirror after
+/// each report.
 pub fn judge_keeps_rising()
     ensures law { JudgeKeepsRising }
 {}
 
-/// A report that was just judged changes nothing when it is judged once more, whatever the mirror held.
+/// A report that was just judged changes nothing when it is judged once more, whatever the mirror
+/// held.
 pub fn judged_again_changes_nothing()
     ensures law { JudgedAgainChangesNothing }
 {}
 
-/// Where a history grows, each mirror that was right over it still is, and so does each inventory that answered from it
-/// still answer; and each report of events too, where the event identifiers of the new events are above the number of
-/// those before them, as they are where the history is honest then.
+/// Where a history grows, each mirror that was right over it still is, and so does each inventory
+/// that answered from it still answer; and each report of events too, where the event identifiers
+/// of the new events are above the number of those before them, as they are where the history is
+/// honest then.
 pub fn growth_keeps()
     ensures right { GrowthKeepsRight }
     ensures answers { GrowthKeepsAnswers }

@@ -1,29 +1,36 @@
-//! The mirror of one collector's inventory (RFC 8412, section 3.7).
+//! The mirror of one collector's inventory (RFC 8412, section 3.7): a copy that follows reports.
 //!
-//! It stands on `swima_model` and `wire_base`. The crates above rest on these clauses of `Mirror::take`: `judged` (the answer
-//! to a report of records or of events, and what the mirror holds then, are `judge` of `specs/Judge.antt`; want of memory
-//! leaves it as it was), `right` (over every honest history a mirror that was right takes a report that answers from it, and
-//! is right again, as `specs/Right.antt` says) and `stands` (which answers move its point); and on `want` of `Mirror::want`
-//! (what it wants next is `want` of `specs/Want.antt`). The functions of `laws` say what the definitions mean, among them that
-//! a report that was just judged changes nothing when it is judged once more (`judged_again_changes_nothing`).
+//! It stands on `swima_model` and `wire_base`. The crates above rest on:
+//!
+//! - `judged` of `Mirror::take`: the answer to a report, and what the mirror holds then, are
+//!   `judge` of `specs/Judge.antt`. Where memory ran out, the mirror is as it was.
+//! - `right`: over every honest history, a mirror that was right takes a report that answers from
+//!   it and is right again, as `specs/Right.antt` says.
+//! - `stands`: which answers move the mirror's point.
+//! - `want` of `Mirror::want`: what it wants next is `want` of `specs/Want.antt`.
+//!
+//! | file | what it holds |
+//! |---|---|
+//! | `mirror.rt` | the mirror, its calls, and the answers to reports |
+//! | `mirror/taking.rt` | the table of answers, line by line |
+//! | `mirror/want.rt` | what a mirror wants next |
+//! | `doubled.rt`, `order.rt`, `limits.rt` | inventories: doubled identifiers, order, size |
+//! | `gap.rt`, `misfit.rt`, `tally.rt` | events: gaps, and the first that does not fit |
+//! | `follow.rt` | the records that are live after some events |
+//! | `lent_or_owned.rt` | lists of a report that is lent or given up |
+//! | `laws.rt` | what the definitions mean, proved |
 #![tactic(auto)]
 
 mod doubled;
-#[cfg(test)]
-mod event_tests;
 mod follow;
 mod gap;
-mod given;
 pub mod laws;
+mod lent_or_owned;
+mod limits;
 mod mirror;
+mod misfit;
 mod order;
 mod tally;
-#[cfg(test)]
-mod tests;
-#[cfg(test)]
-mod thread_tests;
-mod trouble;
-mod want;
 
+pub use mirror::want::Want;
 pub use mirror::{Mirror, Taken};
-pub use want::Want;

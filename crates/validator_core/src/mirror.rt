@@ -1,41 +1,29 @@
 //! The mirror of one collector's inventory, and what it does with a report.
 
-ghost use Rattle.std.specs.Prelude.{◌≡◌, ◌<◌, ◌≤◌, ◌^◌, [], None, Some, false, IfOk, OnErr, length, slice_get};
+ghost use Rattle.std.specs.Prelude.{◌≡◌, ◌<◌, ◌≤◌, ◌^◌, length, slice_get};
 ghost use Rattle.std.specs.Option.{option_copied};
-ghost use Rattle.swima_model.specs.Doubled.{doubled as smallest_doubled};
-ghost use Rattle.validator_core.specs.Following.{events_above, first_trouble, gap};
-ghost use Rattle.validator_core.specs.Given.{list_of};
+ghost use Rattle.swima_model.specs.Size.{report_count};
 ghost use Rattle.validator_core.specs.Held.{Held, empty_mirror};
-ghost use Rattle.swima_model.specs.InOrder.{ids};
-ghost use Rattle.swima_model.specs.Size.{is_large, report_count};
-ghost use Rattle.validator_core.specs.Judge.{Judged, StandsAt, is_stale, judge, judge_above, judge_events};
-ghost use Rattle.validator_core.specs.Judge.{judge_inventory, judge_numbered, judge_records};
+ghost use Rattle.validator_core.specs.Judge.{Judged, StandsAt, judge};
 ghost use Rattle.validator_core.specs.Right.{StaysRight};
 
-use crate::doubled::doubled;
-use crate::follow::follow;
-use crate::gap::gap;
-use crate::given::Given;
-use crate::order::{in_order, records_octets};
-use crate::trouble::first_trouble;
+mod taking;
+pub(crate) mod want;
+
+use crate::lent_or_owned::MaybeOwned;
 use std::alloc::Global;
 use std::marker::Model;
-use swima_model::{Event, Kind, Point, Record, Records, Report};
+use swima_model::{Kind, Point, Record, Records, Report};
 use wire_base::{List, Memory, TryCopy};
-
-/// The most records that a mirror holds.
-const MOST_RECORDS: usize = 65536;
-
-/// The most octets of identifiers, locators and bodies that a mirror holds.
-const MOST_OCTETS: u64 = 268435456;
 
 /// What a mirror answers to a report: the first that fits.
 #[derive(Clone, Copy, Debug, PartialEq, Eq)]
 pub enum Taken {
     /// The report is not of the mirror's kind.
     WrongKind,
-    /// The report tells nothing new: it is of the mirror's epoch, and its event identifier is below the mirror's, or the
-    /// same while the mark is not set.
+    /// The report has nothing new. An inventory is of the mirror's epoch, and its event
+    /// identifier is below the mirror's, or the same while the mark is not set. Of events: nothing
+    /// after the mirror's event identifier was consulted.
     Stale,
     /// Two records of an inventory have one identifier.
     Doubled {
@@ -77,7 +65,7 @@ pub enum Taken {
         /// That at which it stands, the last that was consulted.
         to: u32,
     },
-    /// Want of memory; the mirror is as it was.
+    /// Out of memory; the mirror is as it was.
     Memory,
 }
 
@@ -87,7 +75,8 @@ impl TryCopy for Taken {
     }
 }
 
-/// A copy of one collector's inventory at one point, as its reports tell it (RFC 8412, section 3.7).
+/// A copy of one collector's inventory at one point, as its reports give it (RFC 8412,
+/// section 3.7).
 #[derive(Debug, Drop)]
 pub struct Mirror {
     kind: Kind,
@@ -136,7 +125,8 @@ impl Mirror {
         self.point
     }
 
-    /// Whether it has met a report that does not fit what it holds, since the last inventory that it adopted.
+    /// Whether it has met a report that does not fit what it holds, since the last inventory that
+    /// it adopted.
     pub fn off(&self) -> bool
         ensures off { result ≡ self.now.off }
     {
@@ -151,15 +141,17 @@ impl Mirror {
         self.records.len() as u32
     }
 
-    /// The record at `place` in order of identifier, counted from 0; `None` exactly where there is none.
+    /// The record at `place` in order of identifier, counted from 0; `None` exactly where there is
+    /// none.
     pub fn record_at(&self, place: u32) -> Option<&Record>
         ensures record { option_copied result ≡ slice_get self.now.records place }
     {
         self.records.get(place as usize)
     }
 
-    /// Takes a report: the answer and what the mirror holds then are the first line of the table that fits. Want of
-    /// memory stands for `Doubled`, `Large`, `Adopted`, `Contradiction` or `Advanced` alone and leaves the mirror as it was.
+    /// Takes a report: the answer and what the mirror holds then are the first line of the table
+    /// that fits. `Memory` may come in place of `Doubled`, `Large`, `Adopted`, `Contradiction` or
+    /// `Advanced` alone, and leaves the mirror as it was.
     pub fn take(&mut self, report: &Report) -> Taken
         requires { report_count report.now < 2 ^ 32 }
         ensures judged { Judged self.old (judge self.old report.now) result self.new }
@@ -172,18 +164,19 @@ impl Mirror {
                 point,
                 records,
                 ..
-            } => self.take_inventory(*kind, *point, Given::Lent(records)),
+            } => self.take_inventory(*kind, *point, MaybeOwned::Lent(records)),
             Report::Events {
                 kind,
                 point,
                 consulted,
                 events,
                 ..
-            } => self.take_events(*kind, point.epoch, *consulted, Given::Lent(events)),
+            } => self.take_events(*kind, point.epoch, *consulted, MaybeOwned::Lent(events)),
         }
     }
 
-    /// As `take`, of a report that is given up: what the mirror keeps of it is moved and not copied.
+    /// As `take`, of a report that is given up: what the mirror keeps of it is moved and not
+    /// copied.
     pub fn take_owned(&mut self, report: Report) -> Taken
         requires { report_count report < 2 ^ 32 }
         ensures judged { Judged self.old (judge self.old report) result self.new }
@@ -196,152 +189,14 @@ impl Mirror {
                 point,
                 records,
                 ..
-            } => self.take_inventory(kind, point, Given::Own(records)),
+            } => self.take_inventory(kind, point, MaybeOwned::Owned(records)),
             Report::Events {
                 kind,
                 point,
                 consulted,
                 events,
                 ..
-            } => self.take_events(kind, point.epoch, consulted, Given::Own(events)),
+            } => self.take_events(kind, point.epoch, consulted, MaybeOwned::Owned(events)),
         }
     }
-
-    fn take_inventory(&mut self, kind: Kind, point: Point, records: Given<Record>) -> Taken
-        requires { length (list_of records) < 2 ^ 32 }
-        ensures judged { Judged self.old (judge_inventory self.old kind point (list_of records.entry))
-            result self.new }
-    {
-        if kind != self.kind {
-            return Taken::WrongKind;
-        }
-        if self.is_stale(point) {
-            return Taken::Stale;
-        }
-        match self.take_records(point, records) {
-            Ok(taken) => taken,
-            Err(Memory) => Taken::Memory,
-        }
-    }
-
-    /// Whether a report of `point` is stale.
-    fn is_stale(&self, point: Point) -> bool
-        ensures stale { result ≡ is_stale self.now.point self.now.off point }
-    {
-        match self.point {
-            None => false,
-            Some(held) => {
-                point.epoch == held.epoch
-                    && (point.eid < held.eid || (point.eid == held.eid && !self.off))
-            }
-        }
-    }
-
-    fn take_records(&mut self, point: Point, records: Given<Record>) -> Result<Taken, Memory>
-        requires { length (list_of records) < 2 ^ 32 }
-        ensures judged { IfOk result (λ answer.
-            judge_records self.old point (list_of records.entry) (smallest_doubled (ids (list_of records.entry)))
-            ≡ (answer, self.new)) }
-        ensures memory { OnErr result (self.new ≡ self.old) }
-    {
-        if let Some(id) = doubled(self.records.allocator(), records.as_slice())? {
-            self.off = true;
-            return Ok(Taken::Doubled { id });
-        }
-        let count = records.as_slice().len();
-        let octets = records_octets(records.as_slice());
-        if is_large(count, octets) {
-            self.off = true;
-            return Ok(Taken::Large {
-                count: count as u32,
-                octets,
-            });
-        }
-        self.records = in_order(records.into_list()?)?;
-        self.point = Some(point);
-        self.off = false;
-        Ok(Taken::Adopted)
-    }
-
-    fn take_events(&mut self, kind: Kind, epoch: u32, consulted: u32, events: Given<Event>) -> Taken
-        ensures judged { Judged self.old (judge_events self.old kind epoch consulted (list_of events.entry))
-            result self.new }
-    {
-        if kind != self.kind {
-            return Taken::WrongKind;
-        }
-        let Some(held) = self.point else {
-            self.off = true;
-            return Taken::OtherEpoch {
-                have: None,
-                got: epoch,
-            };
-        };
-        if epoch != held.epoch {
-            self.off = true;
-            return Taken::OtherEpoch {
-                have: Some(held.epoch),
-                got: epoch,
-            };
-        }
-        if consulted <= held.eid {
-            return Taken::Stale;
-        }
-        self.take_later(held, consulted, events)
-    }
-
-    /// Takes events of the mirror's epoch that were consulted up to above its event identifier.
-    fn take_later(&mut self, held: Point, consulted: u32, events: Given<Event>) -> Taken
-        requires later { held.eid ≤ consulted }
-        ensures judged { Judged self.old
-            (judge_numbered self.old held consulted (list_of events.entry) (gap held.eid consulted (list_of events.entry)))
-            result self.new }
-    {
-        if let Some(got) = gap(held.eid, consulted, events.as_slice()) {
-            self.off = true;
-            let have = held.eid;
-            return Taken::Gap { have, got };
-        }
-        match self.take_following(held, consulted, events) {
-            Ok(taken) => taken,
-            Err(Memory) => Taken::Memory,
-        }
-    }
-
-    /// Takes events without a gap.
-    fn take_following(
-        &mut self,
-        held: Point,
-        consulted: u32,
-        events: Given<Event>,
-    ) -> Result<Taken, Memory>
-        ensures judged { IfOk result (λ answer.
-            judge_above self.old held consulted (events_above held.eid (list_of events.entry))
-            (first_trouble self.old.records (events_above held.eid (list_of events.entry)))
-            ≡ (answer, self.new)) }
-        ensures memory { OnErr result (self.new ≡ self.old) }
-    {
-        let alloc = self.records.allocator();
-        let records = self.records.as_slice();
-        if let Some(trouble) = first_trouble(alloc, records, held.eid, events.as_slice())? {
-            self.off = true;
-            return Ok(trouble);
-        }
-        follow(&mut self.records, held.eid, events.into_list()?)?;
-        self.point = Some(Point {
-            epoch: held.epoch,
-            eid: consulted,
-        });
-        Ok(Taken::Advanced {
-            from: held.eid,
-            to: consulted,
-        })
-    }
-}
-
-/// Whether so many records with so many octets are more than a mirror holds.
-pub fn is_large(count: usize, octets: u64) -> bool
-    ensures large { result ≡ is_large count octets }
-{
-    count > MOST_RECORDS || octets > MOST_OCTETS
 }

@@ -4,14 +4,14 @@ ghost use Rattle.std.specs.Prelude.{◌≡◌, ◌<◌, ◌≤◌, ◌+◌, ◌^
 ghost use Rattle.std.specs.List.Sorted.{IsStrictlyIncreasing};
 ghost use Rattle.swima_model.specs.declared.event.Event.{Event};
 ghost use Rattle.swima_model.specs.declared.record.Record.{Record};
-ghost use Rattle.swima_model.specs.History.{does_not_fit};
+ghost use Rattle.swima_model.specs.History.{is_contradiction};
 ghost use Rattle.swima_model.specs.InOrder.{ids};
 ghost use Rattle.swima_model.specs.Live.{live};
-ghost use Rattle.swima_model.specs.Size.{MOST_OCTETS, content_octets};
+ghost use Rattle.swima_model.specs.Size.{MOST_CONTENT_OCTETS, content_octets};
 ghost use Rattle.validator_core.specs.Tally.{AreFew, AreRising, AreSetAt, Follows, size_at, size_said, sizes_of, sizes_too_large, total};
 
-use crate::mirror::{Taken, is_large};
-use crate::order::records_octets;
+use crate::limits::{is_large, records_octets};
+use crate::mirror::Taken;
 use std::alloc::Global;
 use std::collections::BTreeMap;
 use std::marker::Model;
@@ -20,9 +20,9 @@ use wire_base::Memory;
 
 /// The identifiers of records, each with the octets of its content, and the octets of all together.
 #[derive(Debug, Drop)]
-pub struct Tally {
+pub(crate) struct Tally {
     sizes: BTreeMap<u32, u64>,
-    octets: u64,
+    octet_count: u64,
 }
 
 impl Model for Tally {
@@ -33,12 +33,12 @@ impl Model for Tally {
 
     ghost view = { λ tally. tally.sizes.entries };
 
-    ghost invariant = { λ tally. (tally.octets ≡ total tally.sizes.entries) × AreRising tally.sizes.entries };
+    ghost invariant = { λ tally. (tally.octet_count ≡ total tally.sizes.entries) × AreRising tally.sizes.entries };
 }
 
 impl Tally {
     /// The tally of `records`.
-    pub fn of(alloc: Global, records: &[Record]) -> Result<Self, Memory>
+    pub(crate) fn from_records(alloc: Global, records: &[Record]) -> Result<Self, Memory>
         requires rising { IsStrictlyIncreasing (ids records.now) }
         requires few { length records.now ≤ 65536 }
         ensures sizes { IfOk result (λ made. made ≡ sizes_of records.now) }
@@ -46,12 +46,12 @@ impl Tally {
     {
         Ok(Tally {
             sizes: sizes_of(alloc, records)?,
-            octets: records_octets(records),
+            octet_count: records_octets(records),
         })
     }
 
-    /// Follows an event, unless something is to be said of it.
-    pub fn follow(&mut self, event: &Event) -> Result<Option<Taken>, Memory>
+    /// Follows an event that fits, or gives what is to be said of one that does not.
+    pub(crate) fn follow(&mut self, event: &Event) -> Result<Option<Taken>, Memory>
         requires few { AreFew self.old }
         ensures follows { (base : List Record) (before : List Event) → IsStrictlyIncreasing (ids base)
             → self.old ≡ sizes_of (live base before)
@@ -59,20 +59,21 @@ impl Tally {
         ensures few { IfOk result (λ said. said ≡ None → AreFew self.new) }
     {
         let was_live = self.apply(event)?;
-        if does_not_fit(event.action, was_live) {
+        if is_contradiction(event.action, was_live) {
             return Ok(Some(Taken::Contradiction { eid: event.eid }));
         }
         Ok(self.too_large())
     }
 
-    /// Sets the size of the event's record, or takes it out, as the event says, and answers whether the record was there.
+    /// Sets the size of the event's record, or takes it out, as the event says, and answers whether
+    /// the record was there.
     fn apply(&mut self, event: &Event) -> Result<bool, Memory>
-        requires room { total self.old + MOST_OCTETS < 2 ^ 64 }
+        requires room { total self.old + MOST_CONTENT_OCTETS < 2 ^ 64 }
         ensures was { IfOk result (λ was. was ≡ is_some (size_at event.now.subject.id self.old)) }
         ensures set { OnOk result (AreSetAt event.now.subject.id (size_said event.now) self.old self.new) }
         ensures rising { AreRising self.new }
         ensures count { OnOk result (length self.new ≤ length self.old + 1) }
-        ensures total { OnOk result (total self.new ≤ total self.old + MOST_OCTETS) }
+        ensures total { OnOk result (total self.new ≤ total self.old + MOST_CONTENT_OCTETS) }
     {
         match event.action {
             Action::Deletion => Ok(self.remove(event.subject.id)),
@@ -82,20 +83,21 @@ impl Tally {
 
     /// Sets the size of a record, and answers whether the record was there.
     fn put(&mut self, subject: &Record) -> Result<bool, Memory>
-        requires room { total self.old + MOST_OCTETS < 2 ^ 64 }
+        requires room { total self.old + MOST_CONTENT_OCTETS < 2 ^ 64 }
         ensures was { IfOk result (λ was. was ≡ is_some (size_at subject.now.id self.old)) }
         ensures set { OnOk result (AreSetAt subject.now.id (Some (content_octets subject.now.content)) self.old self.new) }
         ensures rising { AreRising self.new }
         ensures count { OnOk result (length self.new ≤ length self.old + 1) }
-        ensures total { OnOk result (total self.new ≤ total self.old + MOST_OCTETS) }
+        ensures total { OnOk result (total self.new ≤ total self.old + MOST_CONTENT_OCTETS) }
     {
         let octets = subject.content.octets();
         let before = self.sizes.insert(subject.id, octets)?;
-        self.octets = self.octets + octets - before.unwrap_or(0);
+        self.octet_count = self.octet_count + octets - before.unwrap_or(0);
         Ok(before.is_some())
     }
 
-    /// Takes out the size of the record of this identifier, and answers whether the record was there.
+    /// Takes out the size of the record of this identifier, and answers whether the record was
+    /// there.
     fn remove(&mut self, id: u32) -> bool
         ensures was { result ≡ is_some (size_at id self.old) }
         ensures set { AreSetAt id None self.old self.new }
@@ -104,7 +106,7 @@ impl Tally {
         ensures total { total self.new ≤ total self.old }
     {
         let octets = self.sizes.remove(&id);
-        self.octets -= octets.unwrap_or(0);
+        self.octet_count -= octets.unwrap_or(0);
         octets.is_some()
     }
 
@@ -114,17 +116,18 @@ impl Tally {
         ensures large { result ≡ sizes_too_large self.now }
     {
         let count = self.sizes.len();
-        if is_large(count, self.octets) {
+        if is_large(count, self.octet_count) {
             return Some(Taken::Large {
                 count: count as u32,
-                octets: self.octets,
+                octets: self.octet_count,
             });
         }
         None
     }
 }
 
-/// The identifiers of the records, each with the octets of its content. Being in order, they are put in place at once.
+/// The identifiers of the records, each with the octets of its content. Being in order, they are
+/// put in place at once.
 fn sizes_of(alloc: Global, records: &[Record]) -> Result<BTreeMap<u32, u64>, Memory>
     requires rising { IsStrictlyIncreasing (ids records.now) }
     ensures sizes { IfOk result (λ made. made.entries ≡ sizes_of records.now) }
@@ -134,9 +137,9 @@ fn sizes_of(alloc: Global, records: &[Record]) -> Result<BTreeMap<u32, u64>, Mem
     Ok(sizes.collect(alloc)?)
 }
 
-/// Whether the action fits no record that is live, or one that is not.
-fn does_not_fit(action: Action, is_live: bool) -> bool
-    ensures unfit { result ≡ does_not_fit action is_live }
+/// Whether the action contradicts that its record is live, or that it is not.
+fn is_contradiction(action: Action, is_live: bool) -> bool
+    ensures unfit { result ≡ is_contradiction action is_live }
 {
     match action {
         Action::Creation => is_live,

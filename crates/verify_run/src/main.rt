@@ -1,5 +1,5 @@
-//! Does what `swid tag verify` does, over standard input and the files of the working folder: the run that is stored beside it
-//! checks a tag of two files, of which one is there.
+//! Does what `swid tag verify` does, over standard input and the files of the working folder: the
+//! run that is stored beside it checks a tag of two files, of which one is there.
 //!
 //! It stands on `swid_cli` and `wire_base`.
 #![tactic(auto)]

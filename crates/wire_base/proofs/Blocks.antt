@@ -1,16 +1,18 @@
--- Blocks of readers that name the fields of a layout in its order. The proof that a block is exact is the block over
--- again: a law `then_..` for each field, and `gives` or `ends` for its last line. For a layout of a number and a text,
+-- Blocks of readers that name the fields of a layout in its order. The proof that a block is exact
+-- is the block over again: a law `then_..` for each field, and `gives` or `ends` for its last line.
+-- For a layout of a number and a text,
 --
 --     item_exact : Exact read_item (λ item. item) item_fields (λ item. Unit {0}) Anything
 --     unfolding read_item
 --     item_exact = then_number λ id. then_counted λ text. gives (record { id = id; text = text }) refl (assumption refl) (λ item h. cc (item_is item))
 --
--- where `item_is item : item ≡ record { id = item.id; text = item.text }` is `refl`. `gives` and `ends` take the parts
--- that the value is made of, that they make it, what holds of them, and that no others make another value. A part with
--- a layout of its own comes by `then_part` or `last_part`, and a field that has to mean something by `then_meaning`, with
--- what it may mean (`Means` in Meanings.antt). `then_several` and `last_several` also take that the count that was read
--- before is that of the values, which `λ parts h. assumption h` shows, and of values of which nothing is asked
--- `λ parts h. assumption (h, all_any parts.values)`.
+-- where `item_is item : item ≡ record { id = item.id; text = item.text }` is `refl`. `gives` and
+-- `ends` take the parts that the value is made of, that they make it, what holds of them, and that
+-- no others make another value. A part with a layout of its own comes by `then_part` or
+-- `last_part`, and a field that has to mean something by `then_meaning`, with what it may mean
+-- (`Means` in Meanings.antt). `then_several` and `last_several` also take that the count that was
+-- read before is that of the values, which `λ parts h. assumption h` shows, and of values of which
+-- nothing is asked `λ parts h. assumption (h, all_any parts.values)`.
 use Rattle.std.proofs.Common.{◌≡◌, ℕ, ◌%◌, Bool, true, false, cond, eqb, List, [], ◌∷◌, ◌++◌, length, Result, Ok, Err, refl, sym, ap, subst, ◌∙◌, arith}
 use Rattle.std.specs.List.{flat_map, AllByRecursion}
 use Rattle.std.proofs.lemmas.Bool.{eqb-true}
@@ -32,7 +34,7 @@ same_fields same exact = record {
   back = λ at parts front rest form holds follows. exact.back at parts front rest (subst (λ (l : List Field). Form l front) (sym (same parts)) form) holds follows;
 }
 
--- A part with a layout of its own, and what comes behind it.
+-- A part with a layout of its own, and what comes after it.
 pub then_part : {A B P : Type 0} {reader : Reader A} {next : A → Reader B} {make : P → B} {firsts : A → List Field} {fields : P → List Field} {holds_first : A → Type 0} {holds : P → Type 0} {follows : List ℕ → Type 0}
     (part : P → A) → Exact reader (λ x. x) firsts holds_first Anything → ((parts : P) → holds parts → holds_first (part parts))
     → ((x : A) → holds_first x → Exact (next x) make fields (λ parts. (part parts ≡ x) × holds parts) follows)
@@ -44,19 +46,19 @@ then_part {A = A} {P = P} {firsts = firsts} {holds_first = holds_first} part exa
     (λ at parts front rest form holds. (part parts, implies parts holds, refl, exact.back at (part parts) front rest form (implies parts holds) tt))
     next
 
--- A number, and what comes behind it.
+-- A number, and what comes after it.
 pub then_number : {B P : Type 0} {size : ℕ} {next : ℕ → Reader B} {make : P → B} {value : P → ℕ} {fields : P → List Field} {holds : P → Type 0} {follows : List ℕ → Type 0}
     → ((x : ℕ) → Exact (next x) make fields (λ parts. (value parts ≡ x) × holds parts) follows)
     → Exact (number size >>= next) make (λ parts. Number size (value parts) ∷ fields parts) holds follows
 then_number {size = size} {value = value} next = then_part value (number_exact size) (λ parts holds. tt) (λ x known. next x)
 
--- A length with the octets that it counts, and what comes behind it.
+-- A length with the octets that it counts, and what comes after it.
 pub then_counted : {B P : Type 0} {size : ℕ} {next : List ℕ → Reader B} {make : P → B} {value : P → List ℕ} {fields : P → List Field} {holds : P → Type 0} {follows : List ℕ → Type 0}
     → ((x : List ℕ) → Exact (next x) make fields (λ parts. (value parts ≡ x) × holds parts) follows)
     → Exact (counted size >>= next) make (λ parts. Counted size (value parts) ∷ fields parts) holds follows
 then_counted {size = size} {value = value} next = then_part value (counted_exact size) (λ parts holds. tt) (λ x known. next x)
 
--- A field that has to mean something, and what comes behind it.
+-- A field that has to mean something, and what comes after it.
 pub then_meaning : {A B V P : Type 0} {field : Reader A} {means : A → Option V} {next : V → Reader B} {make : P → B} {firsts : A → List Field} {spelling : V → A} {holds_value : V → Type 0} {fields : P → List Field} {holds : P → Type 0} {follows : List ℕ → Type 0}
     (value : P → V) → Exact field (λ x. x) firsts (λ x. Unit {0}) Anything → Means means spelling holds_value → ((parts : P) → holds parts → holds_value (value parts))
     → ((x : V) → holds_value x → Exact (next x) make fields (λ parts. (value parts ≡ x) × holds parts) follows)
@@ -75,7 +77,7 @@ pub all_any : {A : Type 0} (values : List A) → AllByRecursion (λ (x : A). Uni
 all_any [] = tt
 all_any (first ∷ others) = (tt, all_any others)
 
--- Values one after another, of a number that was read before, and what comes behind them.
+-- Values one after another, of a number that was read before, and what comes after them.
 pub then_several : {A B P : Type 0} {value : Reader A} {count : ℕ} {next : List A → Reader B} {make : P → B} {firsts : A → List Field} {fields : P → List Field} {holds_each : A → Type 0} {holds : P → Type 0} {follows : List ℕ → Type 0}
     (values : P → List A) → Exact value (λ x. x) firsts holds_each Anything → ((parts : P) → holds parts → (length (values parts) ≡ count) × AllByRecursion holds_each (values parts))
     → ((xs : List A) → (length xs ≡ count) × AllByRecursion holds_each xs → Exact (next xs) make fields (λ parts. (values parts ≡ xs) × holds parts) follows)
@@ -89,7 +91,7 @@ pub last_several : {A B P : Type 0} {value : Reader A} {count : ℕ} {next : Lis
     → Exact (several count value >>= next) make (λ parts. flat_map firsts (values parts)) holds follows
 last_several {firsts = firsts} values exact implies next = same_fields (λ parts. append-nil (flat_map firsts (values parts))) (then_several values exact implies next)
 
--- What a part tells of nothing is left out.
+-- What a part reports of nothing is left out.
 without_unit : {B P : Type 0} {reader : Reader B} {make : P → B} {fields : P → List Field} {holds : P → Type 0} {follows : List ℕ → Type 0}
     → Exact reader make fields holds follows → Exact reader make fields (λ parts. Unit {0} × holds parts) follows
 without_unit exact = record {
@@ -99,7 +101,7 @@ without_unit exact = record {
   back = λ at parts front rest form holds follows. exact.back at parts front rest form holds.1 follows;
 }
 
--- Octets that may be any, and what comes behind them.
+-- Octets that may be any, and what comes after them.
 pub then_reserved : {B P : Type 0} {size : ℕ} {next : List ℕ → Reader B} {make : P → B} {fields : P → List Field} {holds : P → Type 0} {follows : List ℕ → Type 0}
     → ((x : List ℕ) → Exact (next x) make fields holds follows)
     → Exact (octets size >>= next) make (λ parts. Reserved size ∷ fields parts) holds follows
@@ -108,7 +110,7 @@ then_reserved {P = P} {size = size} next = then_fields (λ parts. Reserved size 
     (λ at parts front rest form holds. (front, tt, tt, octets_back size at front rest (from_alone (Reserved size) front form)))
     (λ x known. without_unit (next x))
 
--- An octet of flags, and what comes behind it.
+-- An octet of flags, and what comes after it.
 pub then_flags : {B P : Type 0} {next : ℕ → Reader B} {make : P → B} {flags : P → List (ℕ × Bool)} {fields : P → List Field} {holds : P → Type 0} {follows : List ℕ → Type 0}
     → ((x : ℕ) → Exact (next x) make fields (λ parts. AreFlags x (flags parts) × holds parts) follows)
     → Exact (number 1 >>= next) make (λ parts. Flags (flags parts) ∷ fields parts) holds follows
@@ -147,7 +149,7 @@ gives {B = B} {value = value} {make = make} {holds = holds} parts made so only =
       rw form (ap (λ (k : ℕ). Ok (value, record { at = k; octets = rest })) (omega arith) ∙ ap (λ (x : B). Ok (x, behind at [] rest)) (sym (only others holds)));
 }
 
--- The last line of a block behind which nothing is left.
+-- The last line of a block after which nothing is left.
 pub ends : {B P : Type 0} {value : B} {make : P → B} {holds : P → Type 0} → (parts : P) → make parts ≡ value → holds parts → ((others : P) → holds others → make others ≡ value)
     → Exact (at_end value) make (λ parts. []) holds Nothing
 ends {B = B} {value = value} {make = make} {holds = holds} parts made so only = record {
@@ -160,7 +162,7 @@ ends {B = B} {value = value} {make = make} {holds = holds} parts made so only = 
       rw (form, follows) (ap (λ (k : ℕ). Ok (value, record { at = k; octets = [] })) (omega arith) ∙ ap (λ (x : B). Ok (x, behind at [] [])) (sym (only others holds)));
 }
 
--- A value without what is left behind it was read.
+-- A value without what is left after it was read.
 alone_ok : {A : Type 0} (read : Result (A × Rest) ℕ) (value : A) → value_alone read ≡ Ok value → (x : A × Rest) × (read ≡ Ok x) × (x.0 ≡ value)
 alone_ok (Ok x) value e = (x, refl, cc)
 alone_ok (Err place) value e = absurd cc

@@ -136,8 +136,8 @@ split_off (o ∷ octets) (x ∷ all) rest e =
 
 -- ---- what a text goes on with
 
--- A text of octets goes on with this after these octets and a part: they are the text of no octets, or the part and it
--- begin the text of one more octet.
+-- A text of octets goes on with this after these octets and a part: they are the text of no octets,
+-- or the part and it begin the text of one more octet.
 abbrev pub GoesOnWith : List ℕ → List ℕ → ℕ → Type 0
 GoesOnWith octets text c = ((octets ≡ []) × (more : List ℕ) × (92 ∷ 101 ∷ [] ≡ text ++ c ∷ more))
     ⊎ ((x : ℕ) × (others more : List ℕ) × (x < 256) × (escaped_octet x ++ flat others ≡ text ++ c ∷ more))

@@ -1,4 +1,4 @@
--- The text of octets, by the front of them that stands for itself.
+-- The text of octets, by the prefix of them that stands for itself.
 use Rattle.std.proofs.Common.{◌≡◌, ℕ, suc, ◌+◌, Bool, true, false, cond, List, [], ◌∷◌, ◌++◌, length, take, drop, refl, sym, ap, ◌∙◌, append_assoc, arith}
 use Rattle.std.specs.Prelude.{◌==◌}
 use Rattle.std.proofs.lemmas.List.{append-nil}
@@ -14,7 +14,7 @@ text_step octet octets true n is later = ap (λ (p : Bool). cond p (octet ∷ []
     ∙ ap (λ (m : ℕ). take m (octet ∷ octets) ++ flat_map escaped_octet (drop m (octet ∷ octets))) (one_more n)
 text_step octet octets false n is later = refl
 
--- The text is that front, and the text of the octets behind it.
+-- The text is that prefix, and the text of the octets after it.
 front_text : (octets : List ℕ) → flat_map escaped_octet octets ≡ take (prefix_len is_plain octets) octets ++ flat_map escaped_octet (drop (prefix_len is_plain octets) octets)
 front_text [] = refl
 front_text (octet ∷ octets) = text_step octet octets (is_plain octet) (prefix_len is_plain octets) refl (front_text octets)
@@ -24,12 +24,12 @@ stops_step : (octet first : ℕ) (octets behind : List ℕ) (plain : Bool) (n : 
 stops_step octet first octets behind true n is later e = later (ap (λ (m : ℕ). drop m (octet ∷ octets)) (one_more n) ∙ e)
 stops_step octet first octets behind false n is later e = let same : octet ≡ first = cc in ap is_plain (sym same) ∙ is
 
--- The octet behind it does not stand for itself.
+-- The octet after it does not stand for itself.
 stops : (octets : List ℕ) (first : ℕ) (behind : List ℕ) → drop (prefix_len is_plain octets) octets ≡ first ∷ behind → is_plain first ≡ false
 stops [] first behind e = absurd (cc)
 stops (octet ∷ octets) first behind e = stops_step octet first octets behind (is_plain octet) (prefix_len is_plain octets) refl (stops octets first behind) e
 
--- That front was put, and the octet behind it.
+-- That prefix was put, and the octet after it.
 pub put_past : (rest plain others behind before between after all : List ℕ) (count first : ℕ) → count ≡ prefix_len is_plain rest → plain ≡ take count rest → others ≡ drop count rest → others ≡ first ∷ behind
     → between ≡ before ++ plain → after ≡ between ++ hex_octet first → before ++ flat_map escaped_octet rest ≡ all → after ++ flat_map escaped_octet behind ≡ all
 put_past rest plain others behind before between after all count first counted front left split put spelled was =
@@ -42,7 +42,7 @@ put_past rest plain others behind before between after all count first counted f
     ∙ append_assoc (before ++ plain) (hex_octet first) (flat_map escaped_octet behind) ∙ append_assoc before plain (hex_octet first ++ flat_map escaped_octet behind)
     ∙ ap (λ (o : List ℕ). before ++ o) (sym text) ∙ was
 
--- That front was put, and nothing is behind it.
+-- That prefix was put, and nothing is after it.
 pub put_all : (rest plain others before after all : List ℕ) (count : ℕ) → count ≡ prefix_len is_plain rest → plain ≡ take count rest → others ≡ drop count rest → others ≡ []
     → after ≡ before ++ plain → before ++ flat_map escaped_octet rest ≡ all → after ≡ all
 put_all rest plain others before after all count counted front left none put was =

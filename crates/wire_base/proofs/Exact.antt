@@ -1,4 +1,5 @@
--- A reader and a layout that say the same: what is read is laid out so, and what is laid out so is read.
+-- A reader and a layout that say the same: what is read is laid out so, and what is laid out so is
+-- read.
 use Rattle.std.proofs.Common.{◌≡◌, ℕ, zero, suc, ◌+◌, ◌^◌, ◌<◌, ◌≤◌, Bool, true, false, cond, ltb, List, [], ◌∷◌, ◌++◌, length, take, drop, Result, Ok, Err, refl, sym, ap, subst, ◌∙◌, append_assoc, arith, length-append, length-take}
 use Rattle.std.specs.List.{flat_map, AllByRecursion}
 use Rattle.std.proofs.lemmas.Bool.{ltb-false, le-ltb}
@@ -8,12 +9,12 @@ use Rattle.wire_base.specs.Layout.{AreOctets, Field, Number, Counted, FieldForm,
 use Rattle.wire_base.specs.Reading.{Reader, Rest, ◌>>=◌, and_then, done, octets, number, counted, faults_at, several}
 use Rattle.wire_base.proofs.Spelled.{AreOctets-front, AreOctets-rest, length-octets_of, number_of-octets_of, octets_of-number_of, number_of-below}
 
--- A reader took these octets from the front.
+-- A reader took these octets from the start.
 pub record Takes (before : Rest) (front : List ℕ) (after : Rest) : Type 0 where
   pub octets : before.octets ≡ front ++ after.octets
   pub at : after.at ≡ before.at + length front
 
--- What is left behind some octets.
+-- What is left after some octets.
 abbrev pub behind : ℕ → List ℕ → List ℕ → Rest
 behind at front more = record { at = at + length front; octets = more }
 
@@ -27,8 +28,8 @@ pub record LaidOut {P B : Type 0} (make : P → B) (fields : P → List Field) (
   pub holds_so : holds parts
   pub follows_so : follows read.1.octets
 
--- A reader gives exactly the values `make parts` whose octets have the fields of parts of which `holds` is so, where
--- `follows` is so of the octets behind them.
+-- A reader gives exactly the values `make parts` whose octets have the fields of parts of which
+-- `holds` is so, where `follows` is so of the octets after them.
 pub record Exact {P B : Type 0} (reader : Reader B) (make : P → B) (fields : P → List Field) (holds : P → Type 0) (follows : List ℕ → Type 0) : Type 0 where
   pub forth : (before : Rest) (read : B × Rest) → AreOctets before.octets → reader before ≡ Ok read → LaidOut make fields holds follows before read
   pub back : (at : ℕ) (parts : P) (front rest : List ℕ) → Form (fields parts) front → holds parts → follows rest
@@ -56,7 +57,7 @@ takes_both before mid after first second a b = record {
   at = omega (arith, a.at, b.at, length-append first second);
 }
 
--- What is left behind two parts is what is left behind both together.
+-- What is left after two parts is what is left after both together.
 behind_both : (at : ℕ) (first second more : List ℕ) → behind (at + length first) second more ≡ behind at (first ++ second) more
 behind_both at first second more =
     let place : at + length first + length second ≡ at + length (first ++ second) = omega (arith, length-append first second) in
@@ -83,7 +84,8 @@ alone field front form = (front, [], sym (append-nil front), form, refl)
 pub from_alone : (field : Field) (front : List ℕ) → Form (field ∷ []) front → FieldForm field front
 from_alone field front form = subst (λ (o : List ℕ). FieldForm field o) (sym (form.2 ∙ ap (λ (o : List ℕ). form.0 ++ o) form.4 ∙ append-nil form.0)) form.3
 
--- A reader and what comes behind it, where the reader has fields of its own. What it gave, `tells` ties to the parts.
+-- A reader and what comes after it, where the reader has fields of its own. What it gave, `tells`
+-- ties to the parts.
 pub then_fields : {A B P : Type 0} {reader : Reader A} {next : A → Reader B} {make : P → B} {fields : P → List Field} {holds : P → Type 0} {follows : List ℕ → Type 0}
     (firsts : P → List Field) (known : A → Type 0) (tells : A → P → Type 0)
     (forth : (before : Rest) (read : A × Rest) → AreOctets before.octets → reader before ≡ Ok read
@@ -125,7 +127,7 @@ guard_ok : {A : Type 0} (b : Bool) (place : ℕ) (x y : A) → cond b (Err place
 guard_ok true place x y e = absurd cc
 guard_ok false place x y e = (refl, cc)
 
--- Octets that were read stood in front, so many as were asked for.
+-- Octets that were read stood first, that many as were asked for.
 pub octets_forth : (count : ℕ) (before : Rest) (read : List ℕ × Rest) → octets count before ≡ Ok read → Takes before read.0 read.1 × (length read.0 ≡ count)
 octets_forth count before read e =
     let made : List ℕ × Rest = (take count before.octets, record { at = before.at + count; octets = drop count before.octets }) in
@@ -135,13 +137,13 @@ octets_forth count before read e =
     subst (λ (r : List ℕ × Rest). Takes before r.0 r.1 × (length r.0 ≡ count)) g.1
     (record { octets = sym (take-append-drop count before.octets); at = ap (λ (k : ℕ). before.at + k) (sym len) }, len)
 
--- Octets that stand in front are read.
+-- Octets that stand first are read.
 pub octets_back : (count at : ℕ) (front rest : List ℕ) → length front ≡ count → octets count (record { at = at; octets = front ++ rest }) ≡ Ok (front, behind at front rest)
 octets_back count at front rest len =
     let long : ltb (length (front ++ rest)) count ≡ false = le-ltb _ _ (omega (arith, length-append front rest)) in
     rw (long, take_at front rest count len, drop_at front rest count len) (ap (λ (k : ℕ). Ok (front, record { at = at + k; octets = rest })) (sym len))
 
--- A number that was read stood in front.
+-- A number that was read stood first.
 number_forth : (size : ℕ) (before : Rest) (read : ℕ × Rest) → AreOctets before.octets → number size before ≡ Ok read → Takes before (octets_of size read.0) read.1 × (read.0 < 256 ^ size)
 number_forth size before read are e =
     let b = bind_ok (octets size before) (λ spelled. done (number_of spelled)) read e in
@@ -152,14 +154,14 @@ number_forth size before read are e =
     let again = octets_of-number_of size b.0.0 t.1 fronts in
     subst (λ (r : ℕ × Rest). Takes before (octets_of size r.0) r.1 × (r.0 < 256 ^ size)) is (rw again t.0, number_of-below size b.0.0 t.1 fronts)
 
--- A number that stands in front is read.
+-- A number that stands first is read.
 number_back : (size at value : ℕ) (rest : List ℕ) → value < 256 ^ size → number size (record { at = at; octets = octets_of size value ++ rest }) ≡ Ok (value, behind at (octets_of size value) rest)
 number_back size at value rest fits =
     let front : List ℕ = octets_of size value in
     ap (λ (r : Result (List ℕ × Rest) ℕ). and_then r (λ spelled. done (number_of spelled))) (octets_back size at front rest (length-octets_of size value))
     ∙ ap (λ (n : ℕ). Ok (n, behind at front rest)) (number_of-octets_of size value fits)
 
--- A number of so many octets.
+-- A number of that many octets.
 pub number_exact : (size : ℕ) → Exact (number size) (λ value. value) (λ value. Number size value ∷ []) (λ value. Unit {0}) Anything
 number_exact size = record {
   forth = λ before read are e.
@@ -178,12 +180,12 @@ number_exact size = record {
       subst (λ (o : List ℕ). number size (record { at = at; octets = o ++ rest }) ≡ Ok (value, behind at o rest)) (sym f.1) (number_back size at value rest f.0);
 }
 
--- A fault that is told elsewhere is no value.
+-- A fault that is reported elsewhere is no value.
 faults_at_ok : {A : Type 0} (place : ℕ) (read : Result A ℕ) (y : A) → faults_at place read ≡ Ok y → read ≡ Ok y
 faults_at_ok place (Ok read) y e = e
 faults_at_ok place (Err fault) y e = absurd cc
 
--- A length of so many octets, and the octets that it counts.
+-- A length of that many octets, and the octets that it counts.
 pub counted_exact : (size : ℕ) → Exact (counted size) (λ value. value) (λ value. Counted size value ∷ []) (λ value. Unit {0}) Anything
 unfolding counted
 counted_exact size = record {
@@ -215,11 +217,11 @@ counted_exact size = record {
 
 -- ---- many values
 
--- So many values of which `holds` is so.
+-- That many values of which `holds` is so.
 abbrev AreSo : {A : Type 0} → (A → Type 0) → ℕ → List A → Type 0
 AreSo holds count values = (length values ≡ count) × AllByRecursion holds values
 
--- So many values have the fields of each, one value after another.
+-- That many values have the fields of each, one value after another.
 abbrev SeveralExact : {A : Type 0} → Reader A → (A → List Field) → (A → Type 0) → ℕ → Type 0
 SeveralExact value fields holds count = Exact (several count value) (λ values. values) (λ values. flat_map fields values) (AreSo holds count) Anything
 
@@ -240,7 +242,7 @@ none_exact {A = A} value fields holds = record {
     none_back at [] front rest form all = rw form (ap (λ (k : ℕ). Ok ([], record { at = k; octets = rest })) (omega arith))
     none_back at (first ∷ others) front rest form all = absurd (omega arith)
 
--- One value more, in front of others that are read.
+-- One value more, before others that are read.
 more_forth : {A : Type 0} (value : Reader A) (fields : A → List Field) (holds : A → Type 0) (count : ℕ) → Exact value (λ x. x) fields holds Anything → SeveralExact value fields holds count
     → (before : Rest) (read : List A × Rest) → AreOctets before.octets → several (suc count) value before ≡ Ok read → LaidOut (λ values. values) (λ values. flat_map fields values) (AreSo holds (suc count)) Anything before read
 unfolding several
@@ -261,7 +263,7 @@ more_forth {A = A} value fields holds count one others before read are e =
       follows_so = tt;
     })
 
--- One value more is read, and the others behind it.
+-- One value more is read, and the others after it.
 more_back : {A : Type 0} (value : Reader A) (fields : A → List Field) (holds : A → Type 0) (count : ℕ) → Exact value (λ x. x) fields holds Anything → SeveralExact value fields holds count
     → (at : ℕ) (values : List A) (front rest : List ℕ) → Form (flat_map fields values) front → AreSo holds (suc count) values → several (suc count) value (record { at = at; octets = front ++ rest }) ≡ Ok (values, behind at front rest)
 unfolding several
@@ -276,7 +278,7 @@ more_back {A = A} value fields holds count one others at (x ∷ xs) front rest f
     ∙ ap (λ (r : Rest). Ok (x ∷ xs, r)) (behind_both at s.0 s.1 rest)
     ∙ ap (λ (o : List ℕ). Ok (x ∷ xs, behind at o rest)) (sym s.2)
 
--- So many values, one after another.
+-- That many values, one after another.
 pub several_exact : {A : Type 0} {value : Reader A} {fields : A → List Field} {holds : A → Type 0} → Exact value (λ x. x) fields holds Anything → (count : ℕ)
     → Exact (several count value) (λ values. values) (λ values. flat_map fields values) (λ values. (length values ≡ count) × AllByRecursion holds values) Anything
 several_exact {value = value} {fields = fields} {holds = holds} exact zero = none_exact value fields holds

@@ -1,5 +1,6 @@
--- Readers that say a fault exactly where octets stop (FirstFault.antt): what is left at its place goes on as no value does.
--- `ExactFaults` is to faults what `Exact` is to values, and a law of it is written like the block, as there.
+-- Readers that say a fault exactly where octets stop (FirstFault.antt): what is left at its place
+-- goes on as no value does. `ExactFaults` is to faults what `Exact` is to values, and a law of it
+-- is written like the block, as there.
 use Rattle.std.proofs.Common.{◌≡◌, ℕ, ◌+◌, List, [], ◌∷◌, ◌++◌, ◌⊎◌, inl, inr, length, Result, Ok, Err, refl, sym, ap, subst, ◌∙◌, append_assoc, arith, length-append}
 use Rattle.std.proofs.lemmas.List.{append-nil, append_cancel_left, nil_from_length}
 use Rattle.wire_base.specs.FirstFault.{HasFields, GoesOn, Stops}
@@ -63,7 +64,7 @@ pub bind_err : {A B : Type 0} (read : Result (A × Rest) ℕ) (next : A → Read
 bind_err (Ok x) next place e = inr (x, refl, e)
 bind_err (Err fault) next place e = inl cc
 
--- What comes behind a reader that only makes another value of the one that was read.
+-- What comes after a reader that only makes another value of the one that was read.
 pub mapped : {A B P : Type 0} {reader : Reader A} {fields : P → List Field} {holds : P → Type 0} {follows : List ℕ → Type 0} (make : A → B)
     → ExactFaults reader fields holds follows → ExactFaults (reader >>= λ x. done (make x)) fields holds follows
 mapped {reader = reader} make faults = record {
@@ -76,7 +77,7 @@ mapped {reader = reader} make faults = record {
   back = λ before place are stops. ap (λ (r : Result _ ℕ). and_then r (λ x. done (make x))) (faults.back before place are stops);
 }
 
--- Two lists that are one are split at one place, or the one behind the other.
+-- Two lists that are one are split at one place, or the one after the other.
 split_append : (a b c d : List Field) → a ++ b ≡ c ++ d
     → ((x : Field) × (m : List Field) × (a ≡ c ++ x ∷ m) × (d ≡ (x ∷ m) ++ b)) ⊎ ((m : List Field) × (c ≡ a ++ m) × (b ≡ m ++ d))
 split_append [] b c d e = inr (c, refl, e)
@@ -89,16 +90,16 @@ split_append (x ∷ a) b (y ∷ c) d e =
       | inr s ↦ inr (s.0, cc (heads, s.1), s.2)
     ]
 
--- Nothing stands behind a list that is the list.
+-- Nothing stands after a list that is the list.
 pub none_behind : (a m : List Field) → a ≡ a ++ m → m ≡ []
 none_behind a m e = nil_from_length m (omega (arith, ap (λ (l : List Field). length l) e, length-append a m))
 
--- The front of nothing is nothing.
+-- The prefix of nothing is nothing.
 pub front_of_none : (a b : List Field) → a ++ b ≡ [] → a ≡ []
 front_of_none a b e = nil_from_length a (omega (arith, ap (λ (l : List Field). length l) e, length-append a b))
 
--- A reader of the first fields of the parts. What it gave, `tells` ties to them: the fields of all parts of which it is
--- told are the same, and parts that begin with these fields are such.
+-- A reader of the first fields of the parts. What it gave, `tells` ties to them: the fields of all
+-- parts of which it is reported are the same, and parts that begin with these fields are such.
 pub record Part {A P : Type 0} (reader : Reader A) (firsts : P → List Field) (holds : P → Type 0) (known : A → Type 0) (tells : A → P → Type 0) : Type 0 where
   pub forth : (before : Rest) (read : A × Rest) → AreOctets before.octets → reader before ≡ Ok read
       → (front : List ℕ) × Takes before front read.1 × known read.0 × ((parts : P) → tells read.0 parts → Form (firsts parts) front)
@@ -138,7 +139,7 @@ module _ {P : Type 0} (firsts fields : P → List Field) (holds : P → Type 0) 
     none = λ others b goes. none_in_first s others b goes;
   }
 
-  -- The other way, where the fields in front are not all of the first ones.
+  -- The other way, where the fields before are not all of the first ones.
   none_from_first : (p : P) (x : Field) (m fronts : List Field) (left : List ℕ) → holds p → firsts p ≡ fronts ++ x ∷ m
       → ((others : List Field) → HasFields (λ parts. firsts parts ++ fields parts) holds fronts others → GoesOn follows others left → ⊥)
       → (others : List Field) → HasFields firsts holds fronts others → GoesOn Anything others left → ⊥
@@ -150,7 +151,7 @@ module _ {P : Type 0} (firsts fields : P → List Field) (holds : P → Type 0) 
   none_from_first p x m fronts left so part none (field ∷ others) b goes =
       none ((field ∷ others) ++ fields b.value) (record { value = b.value; so = b.so; split = ap (λ (l : List Field). l ++ fields b.value) b.split ∙ append_assoc fronts (field ∷ others) (fields b.value) }) goes
 
--- A reader and what comes behind it, where the reader has fields of its own.
+-- A reader and what comes after it, where the reader has fields of its own.
 pub then_faults : {A B P : Type 0} {reader : Reader A} {next : A → Reader B} {firsts fields : P → List Field} {holds : P → Type 0} {follows : List ℕ → Type 0} {known : A → Type 0} {tells : A → P → Type 0}
     → Part reader firsts holds known tells → ExactFaults reader firsts holds Anything
     → ((x : A) → known x → ExactFaults (next x) fields (λ parts. tells x parts × holds parts) follows)
@@ -183,7 +184,7 @@ then_faults {A = A} {B = B} {P = P} {reader = reader} {next = next} {firsts = fi
   ];
 }
   where
-    -- A fault behind the first fields.
+    -- A fault after the first fields.
     behind_first : (before : Rest) (place : ℕ) (read : A × Rest) (front : List ℕ) → Takes before front read.1 → ((parts : P) → tells read.0 parts → Form (firsts parts) front)
         → Stops fields (λ parts. tells read.0 parts × holds parts) follows read.1.at read.1.octets place → Stops (λ parts. firsts parts ++ fields parts) holds follows before.at before.octets place
     behind_first before place read front takes forms s =
@@ -233,7 +234,8 @@ then_faults {A = A} {B = B} {P = P} {reader = reader} {next = next} {firsts = fi
 
 -- ---- a part with fields of its own
 
--- Fields tell the value: where one list begins with those of one value and with those of another, the two are one.
+-- Fields report the value: where one list begins with those of one value and with those of another,
+-- the two are one.
 abbrev pub Alike : {A : Type 0} → (A → List Field) → (A → Type 0) → Type 0
 Alike {A} firsts holds = (one other : A) (more most : List Field) → holds one → holds other → firsts one ++ more ≡ firsts other ++ most → one ≡ other
 
@@ -252,7 +254,7 @@ value_part {A = A} {firsts = firsts} {holds_part = holds_part} part exact alike 
       none_behind (firsts (part one)) more (e ∙ ap (λ (x : A). firsts x ++ more) (sym is));
 }
 
--- A part with a layout of its own, and what comes behind it.
+-- A part with a layout of its own, and what comes after it.
 pub then_part : {A B P : Type 0} {reader : Reader A} {next : A → Reader B} {firsts : A → List Field} {fields : P → List Field} {holds_part : A → Type 0} {holds : P → Type 0} {follows : List ℕ → Type 0}
     (part : P → A) → Exact reader (λ x. x) firsts holds_part Anything → ExactFaults reader firsts holds_part Anything → Alike firsts holds_part → ((parts : P) → holds parts → holds_part (part parts))
     → ((x : A) → holds_part x → ExactFaults (next x) fields (λ parts. (part parts ≡ x) × holds parts) follows)

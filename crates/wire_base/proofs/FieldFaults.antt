@@ -18,7 +18,7 @@ use Rattle.wire_base.proofs.Faults.{ExactFaults, Alike, relaid, of_part, bind_er
 abbrev pub FaultsAtStart : {A : Type 0} → Reader A → Type 0
 FaultsAtStart reader = (before : Rest) (place : ℕ) → reader before ≡ Err place → place ≡ before.at
 
--- A list with one field ends where it begins, or behind that field.
+-- A list with one field ends where it begins, or after that field.
 one_field : (field : Field) (firsts others : List Field) → field ∷ [] ≡ firsts ++ others → (firsts ≡ []) ⊎ (others ≡ [])
 one_field field [] others e = inl refl
 one_field field (first ∷ firsts) others e =
@@ -135,19 +135,19 @@ alike_meaning {B = B} {means = means} {spelling = spelling} same alike one other
 
 -- ---- blocks
 
--- A number, and what comes behind it.
+-- A number, and what comes after it.
 pub then_number : {B P : Type 0} {size : ℕ} {next : ℕ → Reader B} {value : P → ℕ} {fields : P → List Field} {holds : P → Type 0} {follows : List ℕ → Type 0}
     → ((x : ℕ) → ExactFaults (next x) fields (λ parts. (value parts ≡ x) × holds parts) follows)
     → ExactFaults (number size >>= next) (λ parts. Number size (value parts) ∷ fields parts) holds follows
 then_number {size = size} {value = value} later = then_part value (number_exact size) (value_faults (number_exact size) (number_start size) 0 tt) (λ one other more most so also e. cc) (λ parts holds. tt) (λ x known. later x)
 
--- A length with the octets that it counts, and what comes behind it.
+-- A length with the octets that it counts, and what comes after it.
 pub then_counted : {B P : Type 0} {size : ℕ} {next : List ℕ → Reader B} {value : P → List ℕ} {fields : P → List Field} {holds : P → Type 0} {follows : List ℕ → Type 0}
     → ((x : List ℕ) → ExactFaults (next x) fields (λ parts. (value parts ≡ x) × holds parts) follows)
     → ExactFaults (counted size >>= next) (λ parts. Counted size (value parts) ∷ fields parts) holds follows
 then_counted {size = size} {value = value} later = then_part value (counted_exact size) (value_faults (counted_exact size) (counted_start size) [] tt) (λ one other more most so also e. cc) (λ parts holds. tt) (λ x known. later x)
 
--- A field that has to mean something, and what comes behind it; `some` is one meaning.
+-- A field that has to mean something, and what comes after it; `some` is one meaning.
 pub then_meaning : {A B V P : Type 0} {reader : Reader A} {means : A → Option V} {next : V → Reader B} {field : A → Field} {spelling : V → A} {holds_value : V → Type 0} {fields : P → List Field} {holds : P → Type 0} {follows : List ℕ → Type 0}
     (value : P → V) → Exact reader (λ x. x) (λ x. field x ∷ []) (λ x. Unit {0}) Anything → FaultsAtStart reader → Alike (λ (x : A). field x ∷ []) (λ x. Unit {0}) → Means means spelling holds_value
     → (some : V) → holds_value some → ((parts : P) → holds parts → holds_value (value parts))
@@ -156,7 +156,7 @@ pub then_meaning : {A B V P : Type 0} {reader : Reader A} {means : A → Option 
 then_meaning {means = means} value exact start alike same some so implies later =
     then_part value (meaning_exact exact same) (value_faults (meaning_exact exact same) (meaning_start means start) some so) (alike_meaning same alike) implies later
 
--- Octets that may be any, and what comes behind them.
+-- Octets that may be any, and what comes after them.
 pub then_reserved : {B P : Type 0} {size : ℕ} {next : List ℕ → Reader B} {fields : P → List Field} {holds : P → Type 0} {follows : List ℕ → Type 0}
     → ((x : List ℕ) → ExactFaults (next x) fields holds follows)
     → ExactFaults (octets size >>= next) (λ parts. Reserved size ∷ fields parts) holds follows
@@ -216,7 +216,7 @@ one_thing x (flag ∷ flags) (second ∷ others) e this that =
     let head : flag ≡ second = ap (λ (b : ℕ). (b, flag.1)) bit ∙ ap (λ (s : Bool). (second.0, s)) set in
     cc
 
--- An octet of flags, and what comes behind it; the bits of the flags are the same of all parts.
+-- An octet of flags, and what comes after it; the bits of the flags are the same of all parts.
 pub then_flags : {B P : Type 0} {next : ℕ → Reader B} {flags : P → List (ℕ × Bool)} {fields : P → List Field} {holds : P → Type 0} {follows : List ℕ → Type 0}
     → ((one other : P) → bits_of (flags one) ≡ bits_of (flags other))
     → ((x : ℕ) → ExactFaults (next x) fields (λ parts. AreFlags x (flags parts) × holds parts) follows)
@@ -262,7 +262,7 @@ alike_lists {A = A} firsts alike (x ∷ xs) (y ∷ ys) more most len so also e =
 pub several_alike : {A : Type 0} (firsts : A → List Field) {holds : A → Type 0} → Alike firsts holds → (count : ℕ) → Alike (λ (values : List A). flat_map firsts values) (λ values. (length values ≡ count) × AllByRecursion holds values)
 several_alike firsts alike count one other more most so also e = alike_lists firsts alike one other more most (so.0 ∙ sym also.0) so.1 also.1 e
 
--- So many values, one after another.
+-- That many values, one after another.
 pub several_faults : {A : Type 0} {value : Reader A} {firsts : A → List Field} {holds : A → Type 0} → Exact value (λ x. x) firsts holds Anything → ExactFaults value firsts holds Anything → Alike firsts holds → (count : ℕ)
     → ExactFaults (several count value) (λ values. flat_map firsts values) (λ values. (length values ≡ count) × AllByRecursion holds values) Anything
 unfolding several
@@ -323,7 +323,7 @@ end_err : {A : Type 0} (b : Bool) (place fault : ℕ) (x : A) → cond b (Ok x) 
 end_err true place fault x e = absurd cc
 end_err false place fault x e = (refl, cc)
 
--- The last line of a block behind which nothing is left.
+-- The last line of a block after which nothing is left.
 pub ends : {B P : Type 0} {holds : P → Type 0} (value : B) (parts : P) → holds parts → ExactFaults (at_end value) (λ parts. []) holds Nothing
 ends value parts so = record {
   some = parts;

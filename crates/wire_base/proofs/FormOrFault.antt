@@ -1,9 +1,10 @@
--- Octets are a form of a value or have a first fault, whatever the layout: what follows where a reader tells both.
+-- Octets are a form of a value or have a first fault, whatever the layout: what follows where a
+-- reader reports both.
 use Rattle.std.proofs.Common.{◌≡◌, ℕ, ◌⊎◌, inl, inr, List, [], ◌∷◌, ◌++◌, length, Result, Ok, Err, refl, sym, ap, subst, ◌∙◌, arith}
 use Rattle.std.specs.Prelude.{IfOk}
 use Rattle.std.proofs.lemmas.List.{append-nil}
-use Rattle.wire_base.specs.declared.layout.refused.FieldRefused.{FieldRefused}
-use Rattle.wire_base.specs.declared.layout.refused.FieldRefused.TheVariants as refused
+use Rattle.wire_base.specs.declared.layout.field_refused.FieldRefused.{FieldRefused}
+use Rattle.wire_base.specs.declared.layout.field_refused.FieldRefused.TheVariants as refused
 use Rattle.wire_base.specs.FirstFault.{HasFields, GoesOn, FirstFault, OnFault, ReadsForm, ReadsFault, FormOrFault, NoneIsAFront}
 use Rattle.wire_base.specs.Layout.{AreOctets, Field, Form}
 use Rattle.wire_base.specs.Reading.{Gives, Reader, Rest, value_alone, whole}
@@ -45,7 +46,8 @@ fault_of_call reader base octets stops are (Err (refused.Fault place)) given = (
 
 -- ---- a form or a fault
 
--- Where a reader gives a value exactly of its form and says a fault exactly where it is theirs, octets have one of the two.
+-- Where a reader gives a value exactly of its form and says a fault exactly where it is theirs,
+-- octets have one of the two.
 pub one_of_two : {V : Type 0} (reader : Reader V) {form : V → List ℕ → Type 0} {fault : ℕ → List ℕ → ℕ → Type 0} → ReadsForm reader form → ReadsFault reader fault → FormOrFault form fault
 one_of_two {V = V} reader {form = form} {fault = fault} reads stops base octets are = record {
   one_value = λ one other this that. let both : Ok one ≡ Ok other = sym ((reads base octets one are).1 this) ∙ (reads base octets other are).1 that in cc;
@@ -58,16 +60,16 @@ one_of_two {V = V} reader {form = form} {fault = fault} reads stops base octets 
     either (Ok value) e = inl (value, (reads base octets value are).0 e)
     either (Err place) e = inr (place, (stops base octets place are).0 e)
 
--- ---- no form is a front
+-- ---- no form is a prefix
 
 module _ {V : Type 0} {fields : V → List Field} {holds : V → Type 0} (alike : Alike fields holds) where
-  -- Behind all fields of a value no field of one is to come.
+  -- After all fields of a value no field of one is to come.
   none_to_come : (value : V) → holds value → (others : List Field) → HasFields fields holds (fields value) others → others ≡ []
   none_to_come value so others h =
       let same : value ≡ h.value = alike value h.value others [] so h.so (sym h.split ∙ sym (append-nil (fields h.value))) in
       none_behind (fields value) others (ap fields same ∙ h.split)
 
-  -- Octets behind the form of a value are a fault.
+  -- Octets after the form of a value are a fault.
   over_is_fault : (value : V) (octets : List ℕ) (x : ℕ) (more : List ℕ) → Form (fields value) octets → holds value → FirstFault fields holds 0 (octets ++ x ∷ more) (length octets)
   over_is_fault value octets x more form so = record {
     firsts = fields value;

@@ -11,6 +11,9 @@ pub mod StampLaws
 pub mod WrittenLaws
 pub mod Remaining
 pub mod Faults
+pub mod FaultTables
+pub mod Fronts
+pub mod FieldsAt
 pub mod FieldFaults
 pub mod FormOrFault
 pub mod Escaping

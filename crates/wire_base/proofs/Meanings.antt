@@ -6,7 +6,7 @@ use Rattle.wire_base.specs.Layout.{Field, Fixed, Form}
 use Rattle.wire_base.specs.Reading.{Reader, Rest, and_then, octets, meant_at, meaning, if_so}
 use Rattle.wire_base.proofs.Exact.{Exact, Anything, Takes, behind, bind_ok, alone, from_alone, octets_forth, octets_back}
 
--- So many octets, as they stand.
+-- That many octets, as they stand.
 pub fixed_exact : (size : ℕ) → Exact (octets size) (λ value. value) (λ value. Fixed size value ∷ []) (λ value. Unit {0}) Anything
 fixed_exact size = record {
   forth = λ before read are e.
@@ -17,7 +17,8 @@ fixed_exact size = record {
       subst (λ (o : List ℕ). octets size (record { at = at; octets = o ++ rest }) ≡ Ok (value, behind at o rest)) (sym f.1) (octets_back size at value rest f.0);
 }
 
--- What fields mean: each value of which `holds` is so is what its spelling means, and nothing else means anything.
+-- What fields mean: each value of which `holds` is so is what its spelling means, and nothing else
+-- means anything.
 pub record Means {A B : Type 0} (means : A → Option B) (spelling : B → A) (holds : B → Type 0) : Type 0 where
   pub forth : (field : A) (value : B) → means field ≡ Some value → (spelling value ≡ field) × holds value
   pub back : (value : B) → holds value → means (spelling value) ≡ Some value

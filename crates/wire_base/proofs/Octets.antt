@@ -1,9 +1,9 @@
--- Octets that move from the front of a list.
+-- Octets that move from the start of a list.
 use Rattle.std.proofs.Common.{◌≡◌, ℕ, ◌+◌, ◌<◌, min, List, [], ◌++◌, length, take, drop, sym, ap, ◌∙◌, arith}
 use Rattle.std.proofs.lemmas.List.{take_at, take-append-drop, nil_from_length}
 use Rattle.std.proofs.lemmas.List.{drop-drop}
 
--- What was copied to the front of a buffer, and what is left behind it, are what was there.
+-- What was copied to the prefix of a buffer, and what is left after it, are what was there.
 pub moved : (octets copied tail : List ℕ) (place count : ℕ) → copied ≡ take count (drop place octets) → length copied ≡ count
     → drop place octets ≡ take count (copied ++ tail) ++ drop (place + count) octets
 moved octets copied tail place count is len =

@@ -6,7 +6,7 @@ use Rattle.wire_base.specs.Reading.{Reader, Rest, ◌>>=◌, and_then, octets, r
 use Rattle.wire_base.proofs.Exact.{Exact, Nothing, behind, alone, from_alone, octets_back}
 use Rattle.wire_base.proofs.Spelled.{AreOctets-rest}
 
--- All octets that are left are read, and nothing is left behind them.
+-- All octets that are left are read, and nothing is left after them.
 remaining_is : (at : ℕ) (all : List ℕ) → remaining (record { at = at; octets = all }) ≡ Ok (all, behind at all [])
 remaining_is at all = ap (λ (o : List ℕ). octets (length all) (record { at = at; octets = o })) (sym (append-nil all)) ∙ octets_back (length all) at all [] refl
 

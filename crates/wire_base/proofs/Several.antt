@@ -1,8 +1,8 @@
 -- Values that a loop reads one after another are those that `several` reads.
 use Rattle.std.proofs.Common.{◌≡◌, ℕ, suc, ◌-◌, ◌+◌, ◌≤◌, ◌<◌, List, [], ◌∷◌, ◌++◌, Result, Ok, Err, refl, sym, ap, ◌∙◌, append_assoc, arith}
 use Rattle.std.proofs.lemmas.List.{append-nil}
-use Rattle.wire_base.specs.declared.layout.refused.FieldRefused.{FieldRefused}
-use Rattle.wire_base.specs.declared.layout.refused.FieldRefused.TheVariants as refused
+use Rattle.wire_base.specs.declared.layout.field_refused.FieldRefused.{FieldRefused}
+use Rattle.wire_base.specs.declared.layout.field_refused.FieldRefused.TheVariants as refused
 use Rattle.wire_base.specs.Reading.{Reader, Rest, Gives, and_then, several}
 
 -- What was read before, and what is still read: the loop keeps that this is what is read in all.
@@ -21,7 +21,7 @@ regroup : {A : Type 0} (front : List A) (first : A) (read : Result (List A × Re
 regroup front first (Ok read) = ap (λ (values : List _). Ok (values, read.1)) (sym (append_assoc front (first ∷ []) read.0))
 regroup front first (Err place) = refl
 
--- One more value is read: it goes to the front.
+-- One more value is read: it goes to the prefix.
 pub more : {A : Type 0} (value : Reader A) (front : List A) (count i : ℕ) (rest after : Rest) (first : A) (total : Result (List A × Rest) ℕ) → i < count → value rest ≡ Ok (first, after)
     → with_front front (several (count - i) value rest) ≡ total → with_front (front ++ first ∷ []) (several (count - (i + 1)) value after) ≡ total
 unfolding several
@@ -40,7 +40,7 @@ stops value (refused.Fault offset) front count i rest total lt fails so_far =
     let here : with_front front (several (count - i) value rest) ≡ Err offset = rw (left, fails) refl in
     sym so_far ∙ here
 
--- So many values were read as are asked for: they are all.
+-- That many values were read as are asked for: they are all.
 pub all_read : {A : Type 0} (value : Reader A) (front : List A) (count i : ℕ) (rest : Rest) (total : Result (List A × Rest) ℕ) → count ≤ i → with_front front (several (count - i) value rest) ≡ total → total ≡ Ok (front, rest)
 unfolding several
 all_read value front count i rest total le so_far =

@@ -7,7 +7,7 @@ use Rattle.std.proofs.lemmas.List.Sums.{fold_push}
 use Rattle.wire_base.specs.Numbers.{number_of, octets_of}
 use Rattle.wire_base.specs.Layout.{AreOctets}
 
--- A front of octets has octets.
+-- A prefix of octets has octets.
 pub AreOctets-take : (count : ℕ) (octets : List ℕ) → AreOctets octets → AreOctets (take count octets)
 AreOctets-take count octets are i =
     elim (cases_lt i count) [
@@ -15,7 +15,7 @@ AreOctets-take count octets are i =
       | inr le ↦ rw (get_or_past (take count octets) i 0 (omega (arith, length-take count octets))) (omega arith)
     ]
 
--- What stands in front of other octets has octets.
+-- What stands before other octets has octets.
 pub AreOctets-front : (octets front rest : List ℕ) → octets ≡ front ++ rest → AreOctets octets → AreOctets front
 AreOctets-front octets front rest is are i =
     elim (cases_lt i (length front)) [
@@ -23,7 +23,7 @@ AreOctets-front octets front rest is are i =
       | inr le ↦ rw (get_or_past front i 0 le) (omega arith)
     ]
 
--- What stands behind a front of octets has octets.
+-- What stands after a prefix of octets has octets.
 pub AreOctets-rest : (octets front rest : List ℕ) → octets ≡ front ++ rest → AreOctets octets → AreOctets rest
 AreOctets-rest octets front rest is are i =
     let at : get_or octets (length front + i) 0 ≡ get_or rest i 0 = ap (λ (o : List ℕ). get_or o (length front + i) 0) is ∙ get_or-append-add front rest i 0 in
@@ -50,7 +50,7 @@ number_of-octets_of (suc size) number fits =
     let split = number_push (octets_of size (number / 256)) (number % 256) in
     omega (arith, front, split)
 
--- A list of a length that is not 0 is a front and the last of it.
+-- A list of a length that is not 0 is a prefix and the last of it.
 last_split : (size : ℕ) (octets : List ℕ) → length octets ≡ suc size → octets ≡ take size octets ++ get_or octets size 0 ∷ []
 last_split size octets len = sym (take_all (size + 1) octets (omega arith)) ∙ take_more octets size 0 (omega arith)
 
@@ -73,7 +73,7 @@ octets_of-number_of (suc size) octets len are =
     ap (λ (k : ℕ). octets_of size k ++ (number_of octets % 256) ∷ []) high ∙ ap (λ (o : ℕ). octets_of size (number_of front) ++ o ∷ []) low
     ∙ ap (λ (o : List ℕ). o ++ last ∷ []) again ∙ sym (last_split size octets len)
 
--- The number of so many octets fits them.
+-- The number of that many octets fits them.
 pub number_of-below : (size : ℕ) (octets : List ℕ) → length octets ≡ size → AreOctets octets → number_of octets < 256 ^ size
 number_of-below zero octets len are = rw (nil_from_length octets len) (omega arith)
 number_of-below (suc size) octets len are =

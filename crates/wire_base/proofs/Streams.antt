@@ -22,13 +22,13 @@ pub moves_none : {A : Type 0} (left : Option (List A)) → Moves left left []
 moves_none None = refl
 moves_none (Some items) = refl
 
--- What is moved behind what was moved is moved.
+-- What is moved after what was moved is moved.
 pub moves_more : {A : Type 0} (before mid after : Option (List A)) (first second : List A) → Moves before mid first → Moves mid after second → Moves before after (first ++ second)
 moves_more {A = A} before mid None first second a b = a ∙ ap (λ (o : Option (List A)). option_map (λ left. first ++ left) o) b
 moves_more {A = A} before mid (Some left) first second a b =
     a ∙ ap (λ (o : Option (List A)). option_map (λ items. first ++ items) o) b ∙ ap (λ (items : List A). Some items) (sym (append_assoc first second left))
 
--- A front of the rest that is written makes the front that was written longer.
+-- A prefix of the rest that is written makes the prefix that was written longer.
 pub wrote_more : (before mid after : Option (List ℕ)) (text rest : List ℕ) (count : ℕ) → WroteFront before mid text rest → Adds mid after (take count rest) → WroteFront before after text (drop count rest)
 wrote_more before mid after text rest count wrote adds = record {
   front = wrote.front ++ take count rest;

@@ -1,5 +1,5 @@
--- A text spells a value or has a first fault, whatever the kind of texts: what follows where a reader goes over a text
--- one character after another.
+-- A text spells a value or has a first fault, whatever the kind of texts: what follows where a
+-- reader goes over a text one character after another.
 use Rattle.std.proofs.Common.{◌≡◌, ℕ, zero, suc, ◌+◌, ◌<◌, ◌⊎◌, inl, inr, List, [], ◌∷◌, ◌++◌, length, take, drop, get_or, Option, Some, None, refl, sym, ap, subst, ◌∙◌, append_assoc, arith}
 use Rattle.std.proofs.lemmas.Bool.{cases_lt}
 use Rattle.std.proofs.lemmas.List.{append-nil, take-append-drop, take-append-le, length-take, take_more, take_all}
@@ -10,8 +10,8 @@ use Rattle.wire_base.specs.Texts.{Begins, Spells, StopsAt}
 abbrev pub Either : {V : Type 0} → (V → List ℕ) → (V → Type 0) → List ℕ → Type 0
 Either {V = V} spelling holds text = ((value : V) × Spells spelling holds text value) ⊎ ((place : ℕ) × StopsAt spelling holds text place)
 
--- A reader that goes over a text one character after another. `said` is what it has gone over, `fine` is so of the states
--- that it meets, and `value` is what it gives at the end of the text.
+-- A reader that goes over a text one character after another. `said` is what it has gone over,
+-- `fine` is so of the states that it meets, and `value` is what it gives at the end of the text.
 pub record Steps {V S : Type 0} (spelling : V → List ℕ) (holds : V → Type 0) (said : S → List ℕ) (fine : S → Type 0) (next : S → ℕ → Option S) (value : S → Option V) : Type 0 where
   pub begins : (s : S) → fine s → Begins spelling holds (said s)
   pub goes : (s t : S) (c : ℕ) → fine s → next s c ≡ Some t → fine t × (said t ≡ said s ++ c ∷ [])

@@ -19,7 +19,7 @@ unfolding written
 written_form [] fit = refl
 written_form (field ∷ fields) fit = (written_field field, written fields, refl, written_field_form field fit.0, written_form fields fit.1)
 
--- What is written of two lists of fields stands one behind the other.
+-- What is written of two lists of fields stands one after the other.
 pub written-append : (fields more : List Field) → written (fields ++ more) ≡ written fields ++ written more
 unfolding written
 written-append [] more = refl

@@ -2,8 +2,8 @@
 use Rattle.std.specs.Option.{unwrap_or}
 use Rattle.std.specs.Prelude.{ℕ, List, drop, slice_get}
 
--- The next moments, in order, and the one that comes again and again after them. A moment is a number of seconds since
--- 1970-01-01T00:00:00Z.
+-- The next moments, in order, and the one that comes again and again after them. A moment is a
+-- number of seconds since 1970-01-01T00:00:00Z.
 pub record Moments : Type 0 where
   pub next : List ℕ
   pub last : ℕ

@@ -29,7 +29,8 @@ has_failed came.Failed = true
 has_failed (came.Link link) = false
 has_failed came.Ended = false
 
--- What an answer is of the links that were left: the first of them, or that there is none. A call that failed took none.
+-- What an answer is of the links that were left: the first of them, or that there is none. A call
+-- that failed took none.
 abbrev pub Comes : {L : Type 0} → Option (List L) → Option (List L) → Came L → Type 0
 Comes left left-after (came.Link link) = Moves left left-after (link ∷ [])
 Comes left left-after came.Ended = (left-after ≡ left) × NothingLeft left

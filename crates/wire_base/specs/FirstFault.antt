@@ -1,10 +1,11 @@
--- The first fault of octets, over values of which each has a layout (Layout.antt): the place at which they go on as no
--- value does. Here `fields` are the fields of a value, and `holds` is so of the values that there are.
+-- The first fault of octets, over values of which each has a layout (Layout.antt): the place at
+-- which they go on as no value does. Here `fields` are the fields of a value, and `holds` is so of
+-- the values that there are.
 use Rattle.std.specs.Prelude.{◌≡◌, ◌↔◌, ◌⊎◌, ◌+◌, ℕ, List, [], ◌∷◌, ◌++◌, Result, Ok, Err, length}
 use Rattle.wire_base.specs.Layout.{AreOctets, Field, FieldForm, Form}
 use Rattle.wire_base.specs.Reading.{Reader, whole}
-use Rattle.wire_base.specs.declared.layout.refused.FieldRefused.{FieldRefused}
-use Rattle.wire_base.specs.declared.layout.refused.FieldRefused.TheVariants as refused
+use Rattle.wire_base.specs.declared.layout.field_refused.FieldRefused.{FieldRefused}
+use Rattle.wire_base.specs.declared.layout.field_refused.FieldRefused.TheVariants as refused
 
 -- ---- the definition
 
@@ -14,14 +15,15 @@ pub record HasFields {V : Type 0} (fields : V → List Field) (holds : V → Typ
   pub so : holds value
   pub split : fields value ≡ firsts ++ others
 
--- What is left of the octets goes on with the first of the fields that are still to come; where none is, `follows` is so
--- of what is left.
+-- What is left of the octets goes on with the first of the fields that are still to come; where
+-- none is, `follows` is so of what is left.
 abbrev pub GoesOn : (List ℕ → Type 0) → List Field → List ℕ → Type 0
 GoesOn follows [] left = follows left
 GoesOn follows (field ∷ others) left = (front : List ℕ) × (rest : List ℕ) × (left ≡ front ++ rest) × FieldForm field front
 
--- Octets, of which the first stands at `base`, stop at the place: those in front of it are the first fields of some value,
--- and what is left there goes on as no value does that has these fields first.
+-- Octets, of which the first stands at `base`, stop at the place: those before it are the
+-- first fields of some value, and what is left there goes on as no value does that has these fields
+-- first.
 pub record Stops {V : Type 0} (fields : V → List Field) (holds : V → Type 0) (follows : List ℕ → Type 0) (base : ℕ) (octets : List ℕ) (place : ℕ) : Type 0 where
   pub firsts : List Field
   pub others : List Field
@@ -33,7 +35,8 @@ pub record Stops {V : Type 0} (fields : V → List Field) (holds : V → Type 0)
   pub stands : place ≡ base + length front
   pub none : (others : List Field) → HasFields fields holds firsts others → GoesOn follows others left → ⊥
 
--- The first fault of octets that are to be one value and nothing else: behind its last field nothing is left.
+-- The first fault of octets that are to be one value and nothing else: after its last field
+-- nothing is left.
 abbrev pub FirstFault : {V : Type 0} → (V → List Field) → (V → Type 0) → ℕ → List ℕ → ℕ → Type 0
 FirstFault fields holds base octets place = Stops fields holds (λ left. left ≡ []) base octets place
 
@@ -63,6 +66,6 @@ pub record OneOfTwo {V : Type 0} (form : V → Type 0) (fault : ℕ → Type 0) 
 abbrev pub FormOrFault : {V : Type 0} → (V → List ℕ → Type 0) → (ℕ → List ℕ → ℕ → Type 0) → Type 0
 FormOrFault form fault = (base : ℕ) (octets : List ℕ) → AreOctets octets → OneOfTwo (λ value. form value octets) (λ place. fault base octets place)
 
--- No form of a value is the front of another one.
+-- No form of a value is a prefix of another one.
 abbrev pub NoneIsAFront : {V : Type 0} → (V → List ℕ → Type 0) → Type 0
 NoneIsAFront {V} form = (one other : V) (octets more : List ℕ) → AreOctets (octets ++ more) → form one octets → form other (octets ++ more) → (one ≡ other) × (more ≡ [])

@@ -12,15 +12,16 @@ use Rattle.wire_base.specs.declared.outside.no_fault_link.LinkTurn.{LinkTurn}
 use Rattle.wire_base.specs.declared.outside.no_fault_link.LinkTurn.TheVariants as held
 use Rattle.wire_base.specs.declared.outside.files.NamedFile.{NamedFile}
 
--- A source in memory: the octets that are left, how many calls were made, which calls fail (the first has the number 1)
--- and how many did.
+-- A source in memory: the octets that are left, how many calls were made, which calls fail (the
+-- first has the number 1) and how many did.
 pub record SourceInMemory : Type 0 where
   pub left : List ℕ
   pub made : ℕ
   pub failing : List ℕ
   pub faults : ℕ
 
--- A sink in memory: the octets that it took, how many more it has room for, and its calls as a source has them.
+-- A sink in memory: the octets that it took, how many more it has room for, and its calls as a
+-- source has them.
 pub record SinkInMemory : Type 0 where
   pub written : List ℕ
   pub room : ℕ
@@ -41,16 +42,16 @@ next_fails made failing = list_any (λ number. number == next made) failing
 
 -- ---- links
 
--- The turns in memory of a link that does not fail: those taken, except ends, and those left; how many octets one call
--- moves at most; and how many calls were idle turns.
+-- The turns in memory of a link that does not fail: those taken, except ends, and those left; how
+-- many octets one call moves at most; and how many calls were idle turns.
 pub record TurnsInMemory : Type 0 where
   pub taken : List Turn
   pub left : List Turn
   pub most : ℕ
   pub idles : ℕ
 
--- A link in memory: its turns, now with the ends; the octets that it was given, how many more it has room for, and its
--- calls as a source has them.
+-- A link in memory: its turns, now with the ends; the octets that it was given, how many more it
+-- has room for, and its calls as a source has them.
 pub record LinkInMemory : Type 0 where
   pub taken : List Turn
   pub left : List Turn
@@ -75,7 +76,8 @@ octets_ahead (Octet octet ∷ turns) = 1 + octets_ahead turns
 octets_ahead (Idle ∷ turns) = 0
 octets_ahead (Ended ∷ turns) = 0
 
--- What a call answers that does not fail and may move so many octets: those that come before the first mark, or that mark.
+-- What a call answers that does not fail and may move this many octets: those that come before the
+-- first mark, or that mark.
 abbrev pub answer_of : List Turn → ℕ → Took
 answer_of [] room = took.Ended
 answer_of (Octet octet ∷ turns) room = took.Bytes (min room (octets_ahead (Octet octet ∷ turns)))
@@ -91,8 +93,9 @@ Moved before after took.Failed buffer = ⊥
 
 -- ---- doors
 
--- A door in memory: the links that are left and those that went back, what the last call answered, whether a link is out,
--- and its calls as a source has them, with the faults of the links that went back.
+-- A door in memory: the links that are left and those that went back, what the last call answered,
+-- whether a link is out, and its calls as a source has them, with the faults of the links that went
+-- back.
 pub record DoorInMemory : Type 0 where
   pub left : List LinkInMemory
   pub returned : List LinkInMemory

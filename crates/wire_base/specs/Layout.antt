@@ -7,11 +7,11 @@ abbrev pub AreOctets : List ℕ → Type 0
 AreOctets octets = (i : ℕ) → slice_index octets i < 256
 
 -- A field, with what it says.
---   Number size value     a number of so many octets, the most significant first
---   Reserved size         so many octets that may be any
+--   Number size value     a number of that many octets, the most significant first
+--   Reserved size         that many octets that may be any
 --   Flags flags           an octet of flags: of each, the bit that it is, and whether it is set; other bits may be any
---   Fixed size octets     these octets, of which there are so many
---   Counted size octets   a length of so many octets, and then the octets that it counts
+--   Fixed size octets     these octets, of which there are that many
+--   Counted size octets   a length of that many octets, and then the octets that it counts
 pub data Field : Type 0 where
   Number : ℕ → ℕ → Field
   Reserved : ℕ → Field

@@ -14,6 +14,8 @@ pub mod Doors
 pub mod Clocks
 pub mod Layout
 pub mod FirstFault
+pub mod FaultTable
+pub mod Feeding
 pub mod Stamp
 pub mod Written
 pub mod Escaped

@@ -1,4 +1,4 @@
--- Files by their names, as an object that gives them tells of them.
+-- Files by their names, as an object that gives them shows them.
 use Rattle.std.specs.Prelude.{◌≡◌, ◌<◌, ◌≤◌, ◌++◌, ℕ, Bool, true, false, List, [], ◌∷◌, Option, Some, None, length, IfSome, if◌then◌else◌}
 use Rattle.std.specs.Option.{option_map}
 use Rattle.std.specs.Str.{bytes_eq}
@@ -11,8 +11,8 @@ abbrev pub content_of : List NamedFile → List ℕ → Option (List ℕ)
 content_of [] name = None
 content_of (file ∷ files) name = if bytes_eq file.name name then Some file.content else content_of files name
 
--- What a call that does not fail answers for a name: where the files are told, `Missing` exactly where none has it, and
--- `TooLong` exactly where its content is longer than the limit.
+-- What a call that does not fail answers for a name: where the files are exposed, `Missing` exactly
+-- where none has it, and `TooLong` exactly where its content is longer than the limit.
 abbrev pub IsAnswer : Option (List NamedFile) → List ℕ → ℕ → FileAnswer → Type 0
 IsAnswer files name limit (answer.Content octets) = (length octets ≤ limit) × IfSome files (λ all. content_of all name ≡ Some octets)
 IsAnswer files name limit answer.Missing = IfSome files (λ all. content_of all name ≡ None)
@@ -32,7 +32,8 @@ has_failed answer.Memory = false
 abbrev pub Read : Type 0
 Read = List ℕ × Bool
 
--- What is told of a call for a name: that it was made, and whether it failed. One that ends for want of memory is not told.
+-- What is exposed of a call for a name: that it was made, and whether it failed. One that ends
+-- because memory ran out is not exposed.
 abbrev pub read_of : List ℕ → FileAnswer → List Read
 read_of name answer.Failed = (name, true) ∷ []
 read_of name (answer.Content octets) = (name, false) ∷ []
@@ -40,6 +41,6 @@ read_of name answer.Missing = (name, false) ∷ []
 read_of name (answer.TooLong len) = (name, false) ∷ []
 read_of name answer.Memory = []
 
--- Where reads are told, these behind the ones before.
+-- Where reads are exposed, these after the ones before.
 abbrev pub with_reads : List Read → Option (List Read) → Option (List Read)
 with_reads more before = option_map (λ reads. reads ++ more) before

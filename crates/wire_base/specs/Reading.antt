@@ -1,8 +1,10 @@
--- Reading a value field by field. A reader takes the octets of its field from the front of what is left, or stops at
--- the place of the first fault; a block of readers names the fields of a layout in the order of its figure.
+-- Reading a value field by field. A reader takes the octets of its field from the start of what is
+-- left, or stops at the place of the first fault; a block of readers names the fields of a layout
+-- in the order of its figure.
 use Rattle.std.specs.Prelude.{◌≡◌, ◌==◌, ◌+◌, ℕ, zero, suc, List, [], ◌∷◌, Bool, Option, Some, None, Result, Ok, Err, length, take, drop, nat_lt, if◌then◌else◌}
-use Rattle.wire_base.specs.declared.layout.refused.FieldRefused.{FieldRefused}
-use Rattle.wire_base.specs.declared.layout.refused.FieldRefused.TheVariants as refused
+use Rattle.wire_base.specs.declared.layout.placed.Placed.{Placed}
+use Rattle.wire_base.specs.declared.layout.field_refused.FieldRefused.{FieldRefused}
+use Rattle.wire_base.specs.declared.layout.field_refused.FieldRefused.TheVariants as refused
 use Rattle.wire_base.specs.Numbers.{number_of}
 
 -- What is left to be read, and the place at which it stands.
@@ -10,11 +12,11 @@ pub record Rest : Type 0 where
   pub at : ℕ
   pub octets : List ℕ
 
--- A reader gives its value and what is left behind it, or the place of the first fault.
+-- A reader gives its value and what is left after it, or the place of the first fault.
 abbrev pub Reader : Type 0 → Type 0
 Reader A = Rest → Result (A × Rest) ℕ
 
--- What comes behind a field: another reader, unless the field had a fault.
+-- What comes after a field: another reader, unless the field had a fault.
 abbrev pub and_then : {A B : Type 0} → Result (A × Rest) ℕ → (A → Reader B) → Result (B × Rest) ℕ
 and_then (Ok read) next = next read.0 read.1
 and_then (Err place) next = Err place
@@ -27,7 +29,7 @@ abbrev pub ◌>>=◌ : {A B : Type 0} → Reader A → (A → Reader B) → Read
 abbrev pub done : {A : Type 0} → A → Reader A
 done value rest = Ok (value, rest)
 
--- So many octets. Where they do not fit, the fault is at the first of them.
+-- That many octets. Where they do not fit, the fault is at the first of them.
 abbrev pub octets : ℕ → Reader (List ℕ)
 octets count rest = if nat_lt (length rest.octets) count then Err rest.at else Ok (take count rest.octets, record { at = rest.at + count; octets = drop count rest.octets })
 
@@ -35,18 +37,23 @@ octets count rest = if nat_lt (length rest.octets) count then Err rest.at else O
 abbrev pub remaining : Reader (List ℕ)
 remaining rest = octets (length rest.octets) rest
 
--- A number of so many octets.
+-- A number of that many octets.
 abbrev pub number : ℕ → Reader ℕ
 number size = do
   spelled ← octets size
   done (number_of spelled)
 
--- The place of a fault is told as this one.
+-- A field with the place of its first octet.
+abbrev pub placed : {A : Type 0} → Reader A → Reader (Placed A)
+placed field rest = and_then (field rest) (λ value. done (record { at = rest.at; value = value }))
+
+-- The place of a fault is reported as this one.
 abbrev pub faults_at : {A : Type 0} → ℕ → Result A ℕ → Result A ℕ
 faults_at place (Ok read) = Ok read
 faults_at place (Err fault) = Err place
 
--- A length of so many octets, and the octets that it counts. Where they do not fit, the fault is at the length.
+-- A length of that many octets, and the octets that it counts. Where they do not fit, the fault is
+-- at the length.
 unfoldable pub counted : ℕ → Reader (List ℕ)
 counted size rest = faults_at rest.at ((number size >>= octets) rest)
 
@@ -63,11 +70,11 @@ meaning means field rest = and_then (field rest) (λ value. meant_at rest.at (me
 abbrev pub if_so : {A : Type 0} → (A → Bool) → A → Option A
 if_so test value = if test value then Some value else None
 
--- A value behind which nothing is left. Octets left over are a fault at the first of them.
+-- A value after which nothing is left. Octets left over are a fault at the first of them.
 abbrev pub at_end : {A : Type 0} → A → Reader A
 at_end value rest = if length rest.octets == 0 then Ok (value, rest) else Err rest.at
 
--- So many values, one after another.
+-- That many values, one after another.
 unfoldable pub several : {A : Type 0} → ℕ → Reader A → Reader (List A)
 several zero value = done []
 several (suc count) value = do
@@ -75,7 +82,7 @@ several (suc count) value = do
   others ← several count value
   done (first ∷ others)
 
--- What a call gave is what a reader gives, but for want of memory, of which nothing is said.
+-- What a call gave is what a reader gives, except running out of memory, of which nothing is said.
 abbrev pub Gives : {X Y : Type 0} → (X → Y) → Result X FieldRefused → Result Y ℕ → Type 0
 Gives view (Ok value) read = read ≡ Ok (view value)
 Gives view (Err (refused.Fault offset)) read = read ≡ Err offset
@@ -86,7 +93,7 @@ abbrev pub GivesExactly : {X Y : Type 0} → (X → Y) → Result X FieldRefused
 GivesExactly view (Err refused.Memory) read = ⊥
 GivesExactly view result read = Gives view result read
 
--- A value without what is left behind it.
+-- A value without what is left after it.
 abbrev pub value_alone : {A : Type 0} → Result (A × Rest) ℕ → Result A ℕ
 value_alone (Ok read) = Ok read.0
 value_alone (Err place) = Err place

@@ -1,4 +1,5 @@
--- How readers of texts go on, one character after another.
+-- How the readers of texts go on, one character after another, as their private functions do it.
+-- What the readers give is said in Texts alone.
 use Rattle.std.specs.Prelude.{◌≡◌, ◌+◌, ◌-◌, ◌*◌, ◌^◌, ◌<◌, ◌==◌, ◌&&◌, ℕ, Bool, not, true, false, List, [], ◌∷◌, ◌++◌, codes, length, Option, Some, None, nat_lt, nat_le, if◌then◌else◌}
 use Rattle.wire_base.specs.Escaped.{hex_digit, is_plain}
 use Rattle.wire_base.specs.declared.values.unescape.Next.{Next}
@@ -12,8 +13,8 @@ use Rattle.wire_base.specs.declared.values.unescape.Part.TheVariants as part
 abbrev pub digit_value : ℕ → Option ℕ
 digit_value character = if nat_le 48 character && nat_le character 57 then Some (character - 48) else None
 
--- The number that a digit of this value spells after others: of these it is known that they spell a number. No digit
--- follows a leading zero, and no number has more than 32 bits.
+-- The number that a digit of this value spells after others: of these it is known that they spell a
+-- number. No digit follows a leading zero, and no number has more than 32 bits.
 abbrev pub after_digits : Option ℕ → ℕ → Option ℕ
 after_digits None digit = Some digit
 after_digits (Some number) digit = if number == 0 then None else (if nat_lt (10 * number + digit) (2 ^ 32) then Some (10 * number + digit) else None)

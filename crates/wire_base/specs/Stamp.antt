@@ -1,5 +1,6 @@
--- Stamps: a date and a time of day in UTC as twenty characters, `YYYY-MM-DDThh:mm:ssZ` (RFC 8412, section 5.8, which
--- takes the form of RFC 3339, section 5.6, with capital letters and without fractions of a second).
+-- Stamps: a date and a time of day in UTC as twenty characters, `YYYY-MM-DDThh:mm:ssZ` (RFC 8412,
+-- section 5.8, which takes the form of RFC 3339, section 5.6, with capital letters and without
+-- fractions of a second).
 use Rattle.std.specs.Prelude.{◌≡◌, ◌↔◌, ◌⊎◌, ◌+◌, ◌-◌, ◌*◌, ◌/◌, ◌%◌, ◌<◌, ◌≤◌, ◌&&◌, ◌||◌, ℕ, zero, suc, Bool, List, [], ◌∷◌, ◌++◌, Result, Ok, Err, IsTrue, fold, codes, nat_lt, nat_le, pos, slice_range}
 use Rattle.std.specs.Str.{bytes_eq}
 use Rattle.jiff.specs.Types.{DateTime}
@@ -8,15 +9,15 @@ use Rattle.jiff_core.specs.Calendar.{IsCivilDate}
 use Rattle.wire_base.specs.declared.values.stamp.ClockRange.{ClockRange}
 use Rattle.wire_base.specs.declared.values.stamp.Moment.{Moment}
 
--- A date of the years 0000 to 9999 that the calendar of `jiff` has, and a time that a clock shows. A leap second has the
--- number 60.
+-- A date of the years 0000 to 9999 that the calendar of `jiff` has, and a time that a clock shows.
+-- A leap second has the number 60.
 pub record IsMoment (m : Moment) : Type 0 where
   pub date : IsCivilDate (pos m.year) m.month m.day
   pub hour : m.hour < 24
   pub minute : m.minute < 60
   pub second : m.second ≤ 60
 
--- A number in decimal digits, so many as are asked for.
+-- A number in decimal digits, as many as are asked for.
 unfoldable pub digits : ℕ → ℕ → List ℕ
 digits zero number = []
 digits (suc size) number = digits size (number / 10) ++ (48 + number % 10) ∷ []
@@ -78,7 +79,8 @@ pub record Shows (clock : DateTime) (m : Moment) : Type 0 where
   pub minute : clock.time.minute ≡ m.minute
   pub second : clock.time.second ≡ m.second
 
--- A clock in UTC shows the moment so many seconds after 1970-01-01T00:00:00, by the calendar of `jiff`.
+-- A clock in UTC shows the moment that many seconds after 1970-01-01T00:00:00, by the calendar of
+-- `jiff`.
 abbrev pub IsShownAt : ℕ → Moment → Type 0
 IsShownAt secs m = (clock : DateTime) × (civil_nanos clock ≡ pos (secs * 1_000_000_000)) × Shows clock m
 
@@ -86,7 +88,8 @@ IsShownAt secs m = (clock : DateTime) × (civil_nanos clock ≡ pos (secs * 1_00
 abbrev pub LAST_SECOND : ℕ
 LAST_SECOND = 4294967295
 
--- What is given as the stamp of a second: the text of what a clock shows then, exactly up to the last second.
+-- What is given as the stamp of a second: the text of what a clock shows then, exactly up to the
+-- last second.
 abbrev pub IsStampAt : ℕ → Result (List ℕ) ClockRange → Type 0
 IsStampAt secs (Ok text) = (secs ≤ LAST_SECOND) × (m : Moment) × IsShownAt secs m × (text ≡ moment_text m)
 IsStampAt secs (Err range) = (LAST_SECOND < secs) × (range.secs ≡ secs)

@@ -29,7 +29,8 @@ is_idle kind.TimedOut = true
 is_idle kind.Interrupted = true
 is_idle _ = false
 
--- What the stream read where `take` answers this: a count of octets, none at the end, and else an error.
+-- What the stream read where `take` answers this: a count of octets, none at the end, and else an
+-- error.
 abbrev pub read_of : Took → Result ℕ Unit
 read_of (took.Bytes count) = Ok count
 read_of took.Ended = Ok 0

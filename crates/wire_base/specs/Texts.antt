@@ -1,5 +1,5 @@
--- Texts that spell values, and the first fault of a text that spells none. A kind of texts is given by `spelling`, the
--- text of each value, and by `holds`, which is so of the values that there are.
+-- Texts that spell values, and the first fault of a text that spells none. A kind of texts is given
+-- by `spelling`, the text of each value, and by `holds`, which is so of the values that there are.
 use Rattle.std.specs.Prelude.{◌≡◌, ◌+◌, ◌<◌, ◌≤◌, ◌^◌, ℕ, List, ◌++◌, Result, Ok, Err, length, take}
 use Rattle.std.specs.Fmt.{decimal}
 use Rattle.wire_base.specs.Escaped.{escaped}
@@ -21,8 +21,9 @@ pub record Begins {V : Type 0} (spelling : V → List ℕ) (holds : V → Type 0
   pub more : List ℕ
   pub split : spelling value ≡ characters ++ more
 
--- The first fault of a text is at the place. The text spells no value. The text of some value begins with the characters
--- before the place, and none with these and the character at the place, where there is one.
+-- The first fault of a text is at the place. The text spells no value. The text of some value
+-- begins with the characters before the place, and none with these and the character at the place,
+-- where there is one.
 pub record StopsAt {V : Type 0} (spelling : V → List ℕ) (holds : V → Type 0) (text : List ℕ) (place : ℕ) : Type 0 where
   pub no_value : (value : V) → Spells spelling holds text value → ⊥
   pub within : place ≤ length text
@@ -31,8 +32,8 @@ pub record StopsAt {V : Type 0} (spelling : V → List ℕ) (holds : V → Type 
 
 -- ---- what readers of texts give
 
--- What a call gave of a text: the value that the text spells, or the place of its first fault. Nothing is said where it
--- was out of memory.
+-- What a call gave of a text: the value that the text spells, or the place of its first fault.
+-- Nothing is said where it was out of memory.
 abbrev pub ReadsText : {V : Type 0} → (V → List ℕ) → (V → Type 0) → List ℕ → Result V TextRefused → Type 0
 ReadsText spelling holds text (Ok value) = Spells spelling holds text value
 ReadsText spelling holds text (Err (refused.Fault place)) = StopsAt spelling holds text place

@@ -1,4 +1,5 @@
--- What is written of a layout: of the octets that have its form those in which all that may be any is 0.
+-- What is written of a layout: of the octets that have its form those in which all that may be any
+-- is 0.
 use Rattle.std.specs.Prelude.{◌≡◌, ◌+◌, ◌<◌, ◌^◌, ℕ, Bool, List, [], ◌∷◌, ◌++◌, length, replicate, if◌then◌else◌}
 use Rattle.std.specs.List.{flat_map}
 use Rattle.wire_base.specs.Numbers.{octets_of}

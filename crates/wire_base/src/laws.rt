@@ -8,14 +8,14 @@ pub fn stamp_test_is_form()
     ensures law { StampTestIsForm }
 {}
 
-/// Each text is that of octets or has a first fault, and never both. The octets are those of no other text, and the fault
-/// has one place.
+/// Each text is that of octets or has a first fault, and never both. It is the text of no other
+/// octets, and its first fault has one place.
 pub fn escaped_or_fault()
     ensures law { EscapedOrFault }
 {}
 
-/// Each text is a decimal number below 2^32 or has a first fault, and never both. The number and the place of the fault
-/// are the only ones.
+/// Each text is that of a number below 2^32 or has a first fault, and never both. It is the text of
+/// no other number, and its first fault has one place.
 pub fn decimal_or_fault()
     ensures law { DecimalOrFault }
 {}

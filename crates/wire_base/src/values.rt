@@ -1,4 +1,5 @@
-//! Values that every crate uses: the one list type, texts, boxes, stamps, out of memory, and octets as printable text.
+//! Values that every crate uses: the one list type, texts, boxes, stamps, out of memory, and octets
+//! as printable text.
 
 pub(crate) mod boxed;
 pub(crate) mod decimal;

@@ -1,8 +1,9 @@
-//! Links, doors, files and clocks of the system: what each answers, and where it fails. The tests connect to this host
-//! alone, and make a file in the working folder.
+//! Links, doors, files and clocks of the system: what each answers, and where it fails. The tests
+//! connect to this host alone, and make a file in the working folder.
 
 ghost use Rattle.std.specs.Prelude.{◌≡◌, false};
 
+use std::cell::Cell;
 use std::io::{ErrorKind, Read, Write};
 use std::net::{OpenStream, TcpListener, TcpStream};
 use std::num::NonZeroU32;
@@ -14,7 +15,8 @@ use wire_base::{
     TcpLink, Took,
 };
 
-/// A link over a connection, and the stream of its other end. A write to the link waits for one second.
+/// A link over a connection, and the stream of its other end. A write to the link waits for one
+/// second.
 fn pair(rt: &HostRuntime) -> io::Result<(TcpLink<TcpStream>, TcpStream)> {
     let listener = TcpListener::bind(rt, "127.0.0.1:0")?;
     let peer = TcpStream::connect(rt, listener.local_addr()?)?;
@@ -40,7 +42,8 @@ fn answers<L: Link>(link: &mut L, wanted: Took) -> bool {
     link.take(&mut buf) == wanted
 }
 
-/// Whether what is written at one end of a link comes at the other, after a second in which nothing comes.
+/// Whether what is written at one end of a link comes at the other, after a second in which nothing
+/// comes.
 fn passes_octets(rt: &HostRuntime) -> io::Result<bool> {
     let (mut link, mut peer) = pair(rt)?;
     let was_idle = answers(&mut link, Took::Idle);
@@ -125,15 +128,34 @@ impl Write for Interrupted {
 
 impl OpenStream for Interrupted {}
 
+/// Whether a read of the link is idle, and a write fails and is counted.
+fn is_idle_and_fails(mut link: TcpLink<Interrupted>) -> bool {
+    let idle = answers(&mut link, Took::Idle) & (link.faults() == 0);
+    idle & (link.give(b"abc") == Err(Failed)) & (link.faults() == 1)
+}
+
 #[test]
 fn an_interrupted_read_is_idle_and_a_write_fails(rt: HostRuntime) {
-    let mut link = TcpLink::new(Interrupted);
-    assert!(rt; answers(&mut link, Took::Idle));
-    assert!(rt; link.give(b"abc") == Err(Failed));
+    assert!(rt; is_idle_and_fails(TcpLink::new(Interrupted)));
     assert!(rt; TcpLink::set_up(Interrupted, NonZeroU32::MIN).is_err());
 }
 
-/// Whether the next link of a door that is `wanted` to fail does so, or else comes. It goes back.
+/// Whether a link comes at the door. It goes back.
+fn comes<D: Door>(door: &mut D) -> bool
+    requires home { D.out door.old ≡ false }
+    ensures home { D.out door.new ≡ false }
+{
+    match door.next() {
+        Came::Link(link) => {
+            door.back(link);
+            true
+        }
+        Came::Ended => false,
+        Came::Failed => false,
+    }
+}
+
+/// Whether the door answers that it failed. A link that comes goes back.
 fn fails<D: Door>(door: &mut D) -> bool
     requires home { D.out door.old ≡ false }
     ensures home { D.out door.new ≡ false }
@@ -157,7 +179,7 @@ fn comes_to_both(rt: &HostRuntime) -> io::Result<bool> {
     let _one = TcpStream::connect(rt, address)?;
     let _two = TcpStream::connect(rt, address)?;
     let _three = TcpStream::connect(rt, address)?;
-    Ok(!fails(&mut first) & !fails(&mut second) & !fails(&mut first))
+    Ok(comes(&mut first) & comes(&mut second) & comes(&mut first))
 }
 
 /// Whether a door over an address in use fails, each time.
@@ -173,9 +195,21 @@ fn dials(rt: &HostRuntime) -> io::Result<bool> {
     let listener = TcpListener::bind(rt, "127.0.0.1:0")?;
     let address = format!(in rt.alloc(); "{}", listener.local_addr()?)?;
     let mut door = DialDoor::new(rt, address.as_str(), NonZeroU32::MIN);
-    let came = !fails(&mut door) & !fails(&mut door);
+    let came = comes(&mut door) & comes(&mut door);
     drop(listener);
     Ok(came & fails(&mut door) & fails(&mut door))
+}
+
+/// Whether doors over texts that are no address fail.
+fn fail_at_no_address(rt: &HostRuntime) -> bool {
+    for text in ["no address", "127.0.0.1", "127.0.0.1:65536", ""].iter() {
+        let listens = fails(&mut ListenDoor::bind(rt, text, NonZeroU32::MIN));
+        let dials = fails(&mut DialDoor::new(rt, text, NonZeroU32::MIN));
+        if !listens || !dials {
+            return false;
+        }
+    }
+    true
 }
 
 #[test]
@@ -183,16 +217,7 @@ fn doors_hand_out_links_or_fail(rt: HostRuntime) -> Result<(), Fail> {
     assert!(rt; comes_to_both(&rt)?);
     assert!(rt; is_taken(&rt)?);
     assert!(rt; dials(&rt)?);
-    for text in ["no address", "127.0.0.1", "127.0.0.1:65536", ""] {
-        assert!(rt;
-            fails(&mut ListenDoor::bind(&rt, text, NonZeroU32::MIN)),
-            "at {text}"
-        );
-        assert!(rt;
-            fails(&mut DialDoor::new(&rt, text, NonZeroU32::MIN)),
-            "at {text}"
-        );
-    }
+    assert!(rt; fail_at_no_address(&rt));
     Ok(())
 }
 
@@ -221,17 +246,23 @@ fn files_are_read_or_fail(rt: HostRuntime) -> Result<(), Fail> {
     Ok(())
 }
 
-/// A clock of a system that gives one time, or none.
+/// A clock of a system that gives a time at its first call, if it has one, and then none.
 #[derive(Drop)]
-struct Still(Option<u64>);
+struct Once(Cell<Option<u64>>);
 
-impl TimeSource for Still {
+impl Once {
+    fn new(seconds: Option<u64>) -> Self {
+        Once(Cell::new(seconds))
+    }
+}
+
+impl TimeSource for Once {
     fn monotonic(&self) -> io::Result<Duration> {
         self.since_1970()
     }
 
     fn since_1970(&self) -> io::Result<Duration> {
-        match self.0 {
+        match self.0.take() {
             Some(seconds) => Ok(Duration::from_secs(seconds)),
             None => Err(io::Error::from(ErrorKind::Other)),
         }
@@ -245,12 +276,17 @@ fn goes_on<C: Clock>(clock: &mut C) -> bool {
     before < clock.now()
 }
 
+/// The first two moments of a clock.
+fn two_moments<C: Clock>(clock: &mut C) -> (u64, u64) {
+    let first = clock.now();
+    (first, clock.now())
+}
+
 #[test]
 fn clocks_give_seconds(rt: HostRuntime) {
-    assert_eq!(rt;
-        SystemClock::new(Still(Some(1_700_000_000))).now(),
-        1_700_000_000
-    );
-    assert_eq!(rt; SystemClock::new(Still(None)).now(), 0);
+    let last_again = two_moments(&mut SystemClock::new(Once::new(Some(5))));
+    assert!(rt; last_again == (5, 5));
+    let none_at_first = two_moments(&mut SystemClock::new(Once::new(None)));
+    assert!(rt; none_at_first == (0, 0));
     assert!(rt; goes_on(&mut SystemClock::new(&rt)));
 }

@@ -1,61 +1,71 @@
-//! Lists and texts, and a clock and a door in memory.
+//! Links, a clock and a door in memory.
 
 ghost use Rattle.std.specs.List.{All};
 ghost use Rattle.std.specs.Prelude.{◌≡◌, false, IfOk};
 
 use std::alloc::Global;
 use std::test::Fail;
-use wire_base::{Came, Clock, Door, Link, List, MemClock, MemDoor, MemLink, Memory, Text, TryCopy};
+use wire_base::{
+    Came, Clock, Door, Failed, Link, LinkTurn, List, MemClock, MemDoor, MemLink, Memory,
+    NoFaultLink, Took,
+};
 
-/// Whether a copy of a list of these items equals it.
-fn are_copied<T: TryCopy + Copy + PartialEq>(alloc: Global, items: &[T]) -> Result<bool, Memory> {
-    let list = List::from_slice(alloc, items)?;
-    Ok(list.copy()? == list)
+/// The turns a, b, idle, c.
+fn four_turns(alloc: Global) -> Result<List<LinkTurn>, Memory> {
+    let (a, b, c) = (
+        LinkTurn::Octet(b'a'),
+        LinkTurn::Octet(b'b'),
+        LinkTurn::Octet(b'c'),
+    );
+    List::from_slice(alloc, &[a, b, LinkTurn::Idle, c])
+}
+
+/// Whether the next turn of a link is this octet alone.
+fn gives_octet<L: Link>(link: &mut L, octet: u8) -> bool {
+    let mut buf = [0; 4];
+    (link.take(&mut buf) == Took::Bytes(1)) & (buf[0] == octet)
+}
+
+/// Whether the next call of `take` answers this, which is no octets.
+fn answers<L: Link>(link: &mut L, wanted: Took) -> bool {
+    let mut buf = [0; 4];
+    link.take(&mut buf) == wanted
+}
+
+/// Whether a link that moves one octet in a call gives the four turns, and then its end.
+fn gives_four_turns<L: Link>(link: &mut L) -> bool {
+    gives_octet(link, b'a')
+        && gives_octet(link, b'b')
+        && answers(link, Took::Idle)
+        && gives_octet(link, b'c')
+        && answers(link, Took::Ended)
+}
+
+/// Whether a link that never fails gives its turns, and takes all that it is given.
+fn never_fails(turns: List<LinkTurn>) -> bool {
+    let mut link = NoFaultLink::new(turns, 1);
+    (link.most() == 1) & gives_four_turns(&mut link) & (link.give(b"xy") == Ok(2))
+}
+
+/// Whether a link whose sixth and eighth call fail gives its turns before, and takes one octet
+/// between.
+fn fails_twice(mut link: MemLink) -> bool {
+    let turns = gives_four_turns(&mut link) & answers(&mut link, Took::Failed);
+    let given = (link.give(b"xy") == Ok(1)) & (link.give(b"y") == Err(Failed));
+    turns & given & (link.given() == b"x".as_slice()) & (link.faults() == 2)
 }
 
 #[test]
-fn lists_of_plain_values_are_copied(rt: HostRuntime) -> Result<(), Fail> {
+fn links_in_memory_give_their_turns(rt: HostRuntime) -> Result<(), Fail> {
     let alloc = rt.alloc();
-    let numbers = are_copied(alloc, &[4_294_967_295u32, 0])?;
-    let signed = are_copied(alloc, &[-1i64, 1])?;
-    let truths = are_copied(alloc, &[true, false])?;
-    let pairs = are_copied(alloc, &[(7u32, true), (8, false)])?;
-    assert!(rt; numbers & signed & truths & pairs);
-    Ok(())
-}
-
-/// Whether the items of the list, except the first two, are `rest`.
-fn has_after_two(alloc: Global, rest: &[u32]) -> Result<bool, Memory> {
-    let mut list = List::from_slice(alloc, &[1, 2, 3, 4])?;
-    list.drop_front(2);
-    Ok(list.as_slice() == rest)
-}
-
-#[test]
-fn the_first_items_are_dropped(rt: HostRuntime) -> Result<(), Fail> {
-    let alloc = rt.alloc();
-    let others = has_after_two(alloc, &[3, 4])?;
-    let fewer = has_after_two(alloc, &[4])?;
-    assert!(rt; others & !fewer);
-    Ok(())
-}
-
-/// Whether texts of their own that read so are equal.
-fn are_equal(alloc: Global, one: &str, other: &str) -> Result<bool, Memory> {
-    Ok(Text::new(alloc, one)? == Text::new(alloc, other)?)
-}
-
-#[test]
-fn texts_are_compared_by_their_octets(rt: HostRuntime) -> Result<(), Fail> {
-    let alloc = rt.alloc();
-    let same = are_equal(alloc, "caf\u{e9}", "caf\u{e9}")?;
-    let other = are_equal(alloc, "cafe", "caf\u{e9}")?;
-    assert!(rt; same & !other);
+    let passed = never_fails(four_turns(alloc)?);
+    let failed = fails_twice(MemLink::new(alloc, four_turns(alloc)?, 1, 2, &[6, 8])?);
+    assert!(rt; passed & failed);
     Ok(())
 }
 
 /// Four moments of a clock, with a rest after the second.
-fn four_moments<C: Clock>(clock: &mut C) -> (u64, u64, u64, u64) {
+fn four_moments(mut clock: MemClock) -> (u64, u64, u64, u64) {
     let first = clock.now();
     let second = clock.now();
     clock.rest();
@@ -64,8 +74,8 @@ fn four_moments<C: Clock>(clock: &mut C) -> (u64, u64, u64, u64) {
 
 #[test]
 fn a_clock_gives_its_last_moment_after_the_others(rt: HostRuntime) -> Result<(), Fail> {
-    let mut clock = MemClock::new(List::from_slice(rt.alloc(), &[5, 3])?, 9);
-    assert!(rt; four_moments(&mut clock) == (5, 3, 9, 9));
+    let moments = List::from_slice(rt.alloc(), &[5, 3])?;
+    assert!(rt; four_moments(MemClock::new(moments, 9)) == (5, 3, 9, 9));
     Ok(())
 }
 
@@ -98,7 +108,8 @@ fn give_on_next<D: Door>(door: &mut D) -> Outcome
     }
 }
 
-/// A link without turns and with room for one octet, which fails at the calls numbered in `failing`.
+/// A link without turns and with room for one octet, which fails at the calls numbered in
+/// `failing`.
 fn quiet_link(alloc: Global, failing: &[u64]) -> Result<MemLink, Memory>
     ensures fresh { IfOk result (λ link. link.faults ≡ 0) }
 {
@@ -123,16 +134,20 @@ fn are_both(links: &[MemLink]) -> bool {
     }
 }
 
-#[test]
-fn a_door_hands_out_its_links_in_turn(rt: HostRuntime) -> Result<(), Fail> {
-    let alloc = rt.alloc();
+/// Whether a door whose second call fails hands out its links in turn, and has them back.
+fn hands_out_in_turn(alloc: Global) -> Result<bool, Memory> {
     let mut door = MemDoor::new(alloc, two_links(alloc)?, &[2])?;
     let first = give_on_next(&mut door);
     let second = give_on_next(&mut door);
-    assert!(rt; first == Outcome::Gave && second == Outcome::Failed);
     let third = give_on_next(&mut door);
     let fourth = give_on_next(&mut door);
-    assert!(rt; third == Outcome::CouldNotGive && fourth == Outcome::Ended);
-    assert!(rt; are_both(door.returned()));
+    let before = (first == Outcome::Gave) & (second == Outcome::Failed);
+    let after = (third == Outcome::CouldNotGive) & (fourth == Outcome::Ended);
+    Ok(before & after & are_both(door.returned()))
+}
+
+#[test]
+fn a_door_hands_out_its_links_in_turn(rt: HostRuntime) -> Result<(), Fail> {
+    assert!(rt; hands_out_in_turn(rt.alloc())?);
     Ok(())
 }

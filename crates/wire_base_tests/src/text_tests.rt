@@ -1,97 +1,85 @@
-//! Texts of octets and decimal numbers, and the first faults of texts that are none.
+//! Texts that own their octets, values in boxes, and what is said of refusals.
 
 use std::alloc::Global;
-use wire_base::{TextRefused, read_decimal, read_escaped};
+use std::fmt::Display;
+use std::test::Fail;
+use wire_base::{
+    Boxed, ClockRange, Failed, FieldRefused, Memory, Stopped, Text, TextRefused, TryCopy,
+};
 
-/// Whether the text is that of these octets.
-fn is_text_of(alloc: Global, text: &[u8], octets: &[u8]) -> bool {
-    match read_escaped(alloc, text) {
-        Ok(read) => read.as_slice() == octets,
+/// Whether a text and its copy read as this.
+fn reads_as(text: Text, wanted: &str) -> Result<bool, Memory> {
+    let copy = text.copy()?;
+    Ok((copy.as_str() == wanted) & (text.as_str() == wanted))
+}
+
+#[test]
+fn a_text_is_its_octets(rt: HostRuntime) -> Result<(), Fail> {
+    let made = reads_as(Text::new(rt.alloc(), "caf\u{e9}")?, "caf\u{e9}")?;
+    let name = Text::from_string(String::from_str(rt.alloc(), "name")?);
+    let taken = reads_as(name, "name")?;
+    assert!(rt; made & taken);
+    Ok(())
+}
+
+/// Whether texts of their own that read so are equal.
+fn are_equal(alloc: Global, one: &str, other: &str) -> Result<bool, Memory> {
+    Ok(Text::new(alloc, one)? == Text::new(alloc, other)?)
+}
+
+#[test]
+fn texts_are_compared_by_their_octets(rt: HostRuntime) -> Result<(), Fail> {
+    let alloc = rt.alloc();
+    let same = are_equal(alloc, "caf\u{e9}", "caf\u{e9}")?;
+    let other = are_equal(alloc, "cafe", "caf\u{e9}")?;
+    assert!(rt; same & !other);
+    Ok(())
+}
+
+/// Whether a box, its copy, and what comes out of it are the text `held`.
+fn holds_its_value(alloc: Global) -> Result<bool, Memory> {
+    let boxed = Boxed::new(alloc, Text::new(alloc, "held")?)?;
+    let other = Boxed::new(boxed.allocator(), boxed.copy()?.into_inner())?;
+    Ok((other.get().as_str() == "held") & (boxed.get().as_str() == "held"))
+}
+
+#[test]
+fn a_box_holds_its_value(rt: HostRuntime) -> Result<(), Fail> {
+    assert!(rt; holds_its_value(rt.alloc())?);
+    Ok(())
+}
+
+/// Whether what is said of the refusal is `wanted`.
+fn says<D: Display>(alloc: Global, refused: &D, wanted: &str) -> bool {
+    match format!(in alloc; "{refused}") {
+        Ok(text) => text.as_str() == wanted,
         Err(_) => false,
     }
 }
 
-/// The place of the first fault of a text of octets.
-fn escaped_fault(alloc: Global, text: &[u8]) -> Option<usize> {
-    match read_escaped(alloc, text) {
-        Err(TextRefused::Fault { place }) => Some(place),
-        _ => None,
-    }
-}
-
-/// Texts, and the octets that they spell.
-const ESCAPED: [(&str, &[u8]); 6] = [
-    ("\\e", b""),
-    ("a\\x20b", b"a b"),
-    ("\\x5c", b"\\"),
-    ("\\x00\\x7f\\xff", b"\x00\x7f\xff"),
-    ("~!", b"~!"),
-    ("e", b"e"),
-];
-
 #[test]
-fn a_text_spells_octets(rt: HostRuntime) {
-    for (text, octets) in ESCAPED.iter() {
-        assert!(rt;
-            is_text_of(rt.alloc(), text.as_bytes(), octets),
-            "the text {text}"
-        );
-    }
-}
-
-/// Texts that spell no octets, and the places of their first faults.
-const ESCAPED_FAULTS: [(&str, usize); 14] = [
-    ("", 0),
-    ("\\", 1),
-    ("\\\\", 1),
-    ("\\ea", 2),
-    ("a\\e", 2),
-    ("a b", 1),
-    ("\\x", 2),
-    ("\\xFF", 2),
-    ("\\x41", 2),
-    ("\\x5", 3),
-    ("\\x5d", 3),
-    ("\\x1G", 3),
-    ("\\x0a\\x21", 7),
-    ("\u{e9}", 0),
-];
-
-#[test]
-fn a_text_has_a_first_fault(rt: HostRuntime) {
-    for (text, place) in ESCAPED_FAULTS.iter() {
-        let found = escaped_fault(rt.alloc(), text.as_bytes());
-        assert_eq!(rt; found, Some(*place), "the text {text}");
-    }
-}
-
-/// Texts, and the numbers that they spell, or the places of their first faults.
-const DECIMALS: [(&str, Result<u32, usize>); 14] = [
-    ("0", Ok(0)),
-    ("7", Ok(7)),
-    ("100", Ok(100)),
-    ("4294967295", Ok(4_294_967_295)),
-    ("4294967296", Err(9)),
-    ("4294967300", Err(9)),
-    ("42949672950", Err(10)),
-    ("9999999999", Err(9)),
-    ("", Err(0)),
-    ("007", Err(1)),
-    ("+7", Err(0)),
-    ("-7", Err(0)),
-    ("12a", Err(2)),
-    ("1 ", Err(1)),
-];
-
-#[test]
-fn a_text_spells_a_decimal_number(rt: HostRuntime) {
-    for (text, wanted) in DECIMALS.iter() {
-        let (number, place) = match read_decimal(text.as_bytes()) {
-            Ok(number) => (Some(number), None),
-            Err(TextRefused::Fault { place }) => (None, Some(place)),
-            Err(TextRefused::Memory) => (None, None),
-        };
-        assert_eq!(rt; number, wanted.ok(), "the text {text}");
-        assert_eq!(rt; place, wanted.err(), "the text {text}");
-    }
+fn refusals_say_what_happened(rt: HostRuntime) {
+    let alloc = rt.alloc();
+    let fields = says(
+        alloc,
+        &FieldRefused::Fault { offset: 7 },
+        "a fault at octet 7",
+    );
+    let texts = says(
+        alloc,
+        &TextRefused::Fault { place: 7 },
+        "a fault at octet 7",
+    );
+    let calls = says(alloc, &Stopped::Fault, "a call of the outside failed")
+        & says(alloc, &Failed, "the call failed");
+    let stamps = says(
+        alloc,
+        &ClockRange { secs: 7 },
+        "second 7 is too late for a stamp",
+    );
+    let memory = says(alloc, &FieldRefused::Memory, "out of memory")
+        & says(alloc, &TextRefused::Memory, "out of memory")
+        & says(alloc, &Stopped::Memory, "out of memory")
+        & says(alloc, &Memory, "out of memory");
+    assert!(rt; fields & texts & stamps & calls & memory);
 }

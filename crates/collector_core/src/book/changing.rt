@@ -4,7 +4,7 @@ ghost use Rattle.std.specs.Prelude.{List, false, Err, ◌≡◌, ◌<◌, ◌≤
 ghost use Rattle.wire_base.specs.Stamp.{IsStamp};
 ghost use Rattle.swima_model.specs.declared.record.Record.{Record};
 ghost use Rattle.swima_model.specs.Live.{record_of};
-ghost use Rattle.swima_model.specs.Size.{MOST_OCTETS, MOST_RECORDS_OCTETS, are_large, records_octets};
+ghost use Rattle.swima_model.specs.Size.{MOST_CONTENT_OCTETS, MOST_RECORDS_OCTETS, are_large, records_octets};
 ghost use Rattle.event_log.specs.Log.{IsLog};
 ghost use Rattle.collector_core.specs.declared.chronicle.Entry.{Entry};
 ghost use Rattle.collector_core.specs.declared.chronicle.Entry.TheVariants as entry;
@@ -14,10 +14,10 @@ ghost use Rattle.collector_core.specs.Legal.{IsContent};
 ghost use Rattle.collector_core.specs.Refusals.{alter_refusal, create_refusal, delete_refusal, epoch_refusal, others_than, trim_refusal};
 ghost use Rattle.collector_core.specs.Standing.{Changes, ChangesExactly, IsAlteration, IsCreation, IsDeletion, StandsForSome, alteration, book_after, creation};
 
-use super::{Book, MOST_RECORDS, MOST_RECORDS_OCTETS};
+use super::Book;
 use crate::error::BookError;
 use crate::records::{place_of, push_record, put_content, take_record, within_limits};
-use swima_model::{Action, Body, Content, Event, Record};
+use swima_model::{Action, Body, Content, Event, MOST_RECORDS, MOST_RECORDS_OCTETS, Record};
 use wire_base::{Memory, TryCopy};
 
 impl Book {
@@ -46,7 +46,8 @@ impl Book {
         Ok(self.add(stamp, content)?)
     }
 
-    /// Replaces the content of a record where nothing refuses it. Its clauses are of the book alone.
+    /// Replaces the content of a record where nothing refuses it. Its clauses are of the book
+    /// alone.
     pub(super) fn try_alter(
         &mut self,
         stamp: &[u8; 20],
@@ -124,7 +125,7 @@ impl Book {
         let _first = self.log.first();
     }
 
-    /// Why a record of this content is not created, but for want of memory.
+    /// Why a record of this content is not created, except running out of memory.
     fn create_refused(&self, content: &Content) -> Option<BookError>
         ensures refusal { result ≡ create_refusal self.now.log.last self.now.next self.now.records content.now }
     {
@@ -140,7 +141,7 @@ impl Book {
                 count: MOST_RECORDS as u32,
             });
         }
-        bytes_refused(self.octets, content.octets())
+        bytes_refused(self.octet_count, content.octets())
     }
 
     /// The place of a live record that may be altered or deleted, or why it may not.
@@ -162,7 +163,7 @@ impl Book {
         }
     }
 
-    /// How many octets the records have but for that at a place.
+    /// How many octets the records have except for that at a place.
     fn octets_beside(&self, place: usize) -> u64
         requires place { place < length self.now.records }
         ensures others { (id : ℕ) → IsPlaceOf self.now.records id (Some place) → result ≡ records_octets (others_than id self.now.records) }
@@ -170,17 +171,17 @@ impl Book {
             → place ≡ length before → result ≡ records_octets (before ++ after) }
         ensures within { result ≤ MOST_RECORDS_OCTETS }
     {
-        self.octets - self.records[place].content.octets()
+        self.octet_count - self.records[place].content.octets()
     }
 
-    /// Adds a record, which nothing refuses but want of memory.
+    /// Adds a record, which nothing refuses except running out of memory.
     fn add(&mut self, stamp: &[u8; 20], content: &Content) -> Result<u32, Memory>
         requires stamp { IsStamp stamp.now }
         requires content { IsContent content.now }
         requires allowed { create_refusal self.old.log.last self.old.next self.old.records content.now ≡ None }
         ensures added { IfOk result (λ id. (id ≡ self.old.next)
             × (self.new ≡ book_after self.old (entry.Event (creation self.old.log.last self.old.next stamp.now content.now)))) }
-        ensures memory { OnErr result (self.new ≡ self.old) }
+        ensures unchanged { OnErr result (self.new ≡ self.old) }
         ensures fits { OnOk result (are_large self.new.records ≡ false) }
     {
         let id = self.next;
@@ -194,15 +195,16 @@ impl Book {
             },
         };
         let content = content.copy()?;
-        let octets = self.octets + content.octets();
+        let octets = self.octet_count + content.octets();
         push_record(&mut self.records, Record { id, content })?;
-        self.octets = octets;
+        self.octet_count = octets;
         self.next = id + 1;
         let _oldest = self.log.push(event);
         Ok(id)
     }
 
-    /// Replaces the content of the record at a place, which nothing refuses but want of memory.
+    /// Replaces the content of the record at a place, which nothing refuses except running out of
+    /// memory.
     fn replace(
         &mut self,
         stamp: &[u8; 20],
@@ -217,7 +219,7 @@ impl Book {
         requires octets { IsExchange self.old.records place content.now octets }
         ensures altered { OnOk result ((id : ℕ) → IsPlaceOf self.old.records id (Some place)
             → self.new ≡ book_after self.old (entry.Event (alteration self.old.log.last stamp.now id content.now))) }
-        ensures memory { OnErr result (self.new ≡ self.old) }
+        ensures unchanged { OnErr result (self.new ≡ self.old) }
         ensures fits { OnOk result (are_large self.new.records ≡ false) }
     {
         let id = self.records[place].id;
@@ -232,7 +234,7 @@ impl Book {
         };
         let content = content.copy()?;
         put_content(&mut self.records, place, content);
-        self.octets = octets;
+        self.octet_count = octets;
         let _oldest = self.log.push(event);
         Ok(())
     }
@@ -251,7 +253,7 @@ impl Book {
         let alloc = *self.records.allocator();
         let mut subject = take_record(&mut self.records, place);
         within_limits(&subject.content);
-        self.octets -= subject.content.octets();
+        self.octet_count -= subject.content.octets();
         subject.content.body = Body::empty(alloc);
         let event = Event {
             eid: self.log.last() + 1,
@@ -263,10 +265,10 @@ impl Book {
     }
 }
 
-/// Why so many octets may not stand beside those that are held.
+/// Why that many octets may not stand beside those that are held.
 fn bytes_refused(held: u64, given: u64) -> Option<BookError>
     requires held { held ≤ MOST_RECORDS_OCTETS }
-    requires given { given ≤ MOST_OCTETS }
+    requires given { given ≤ MOST_CONTENT_OCTETS }
     ensures refusal { result ≡ (if nat_lt MOST_RECORDS_OCTETS (held + given) then Some (refused.BytesFull held given) else None) }
 {
     if held + given > MOST_RECORDS_OCTETS {

@@ -4,7 +4,7 @@ ghost use Rattle.std.specs.Prelude.{◌<◌};
 ghost use Rattle.wire_base.specs.Reading.{Gives, Reader, several};
 
 use crate::layout::cursor::Cursor;
-use crate::layout::refused::FieldRefused;
+use crate::layout::field_refused::FieldRefused;
 use crate::values::list::List;
 use crate::values::memory::Memory;
 use std::alloc::Global;
@@ -22,7 +22,8 @@ pub trait FieldReader {
         ensures field { Gives (λ read. (read, cursor.new)) result (reading self.now cursor.old) };
 }
 
-/// The next `count` fields, of which each has at least `fewest` octets; a fault at the place of the first one in them.
+/// The next `count` fields, of which each has at least `fewest` octets; a fault at the place of the
+/// first one in them.
 pub fn read_several<R: FieldReader>(
     alloc: Global,
     cursor: &mut Cursor,

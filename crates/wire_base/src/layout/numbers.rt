@@ -40,35 +40,38 @@ pub fn u32_at(bytes: &[u8], place: usize) -> u32
 #[tactic(auto, unfolding(crate::specs::Numbers::octets_of))]
 pub fn put_u8(out: &mut Octets, n: u8) -> Result<(), Memory>
     ensures appended { OnOk result (out.new ≡ out.old ++ octets_of 1 n) }
-    ensures stays { OnErr result (out.new ≡ out.old) }
+    ensures unchanged { OnErr result (out.new ≡ out.old) }
 {
     out.push(n)
 }
 
-/// Puts a number of two octets at the end, the most significant first; at `Memory` the list is as it was.
+/// Puts a number of two octets at the end, the most significant first; at `Memory` the list is as
+/// it was.
 #[tactic(auto, unfolding(crate::specs::Numbers::octets_of))]
 pub fn put_u16(out: &mut Octets, n: u16) -> Result<(), Memory>
     ensures appended { OnOk result (out.new ≡ out.old ++ octets_of 2 n) }
-    ensures stays { OnErr result (out.new ≡ out.old) }
+    ensures unchanged { OnErr result (out.new ≡ out.old) }
 {
     out.extend(&[(n / 256) as u8, (n % 256) as u8])
 }
 
-/// Puts a number of three octets at the end, the most significant first; at `Memory` the list is as it was.
+/// Puts a number of three octets at the end, the most significant first; at `Memory` the list is as
+/// it was.
 #[tactic(auto, unfolding(crate::specs::Numbers::octets_of))]
 pub fn put_u24(out: &mut Octets, n: u32) -> Result<(), Memory>
     requires fits { n < 2 ^ 24 }
     ensures appended { OnOk result (out.new ≡ out.old ++ octets_of 3 n) }
-    ensures stays { OnErr result (out.new ≡ out.old) }
+    ensures unchanged { OnErr result (out.new ≡ out.old) }
 {
     out.extend(&[(n / 65_536) as u8, (n / 256 % 256) as u8, (n % 256) as u8])
 }
 
-/// Puts a number of four octets at the end, the most significant first; at `Memory` the list is as it was.
+/// Puts a number of four octets at the end, the most significant first; at `Memory` the list is as
+/// it was.
 #[tactic(auto, unfolding(crate::specs::Numbers::octets_of))]
 pub fn put_u32(out: &mut Octets, n: u32) -> Result<(), Memory>
     ensures appended { OnOk result (out.new ≡ out.old ++ octets_of 4 n) }
-    ensures stays { OnErr result (out.new ≡ out.old) }
+    ensures unchanged { OnErr result (out.new ≡ out.old) }
 {
     out.extend(&[
         (n / 16_777_216) as u8,

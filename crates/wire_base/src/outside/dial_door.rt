@@ -1,4 +1,5 @@
-//! Connections of the system as a door, as those to a TCP address: the trusted edge. It exposes no links.
+//! Connections of the system as a door, as those to a TCP address: the trusted edge. It exposes no
+//! links.
 
 ghost use Rattle.std.specs.Prelude.{◌≡◌, ◌+◌, ◌-◌, ◌^◌, false, true, if◌then◌else◌, None, IfSome, min, nat_lt};
 ghost use Rattle.wire_base.specs.Counter.{next};
@@ -30,8 +31,9 @@ impl<'a, R> Model for DialDoor<'a, R> {
 }
 
 impl<'a, R: Net> DialDoor<'a, R> {
-    /// A door to `address`, with no link out and no fault yet: the name or number of a host, a colon, and a port. It is
-    /// looked up anew for each link. A write to a link waits for `write_seconds`.
+    /// A door to `address`, with no link out and no fault yet: the name or number of a host, a
+    /// colon, and a port. It is looked up anew for each link. A write to a link waits for
+    /// `write_seconds`.
     pub fn new(system: R, address: &'a str, write_seconds: NonZeroU32) -> Self
         ensures made { result ≡ record { inner = system; out = false; faults = 0 } }
     {
@@ -58,8 +60,9 @@ impl<'a, R: Net> Door for DialDoor<'a, R> {
 
     ghost faults = { λ door. door.faults };
 
-    /// Connects once, for as long as the system waits for an answer. Text that is no address, a connection that the
-    /// other host does not take, and one whose settings the system refused, are faults.
+    /// Connects once, for as long as the system waits for an answer. Text that is no address, a
+    /// connection that the other host does not take, and one whose settings the system refused, are
+    /// faults.
     fn next(&mut self) -> Came<TcpLink<R::Stream>>
         requires home { self.old.out ≡ false }
         ensures comes { Comes None None result }

@@ -28,8 +28,8 @@ pub trait Door {
     /// The links that are left to come, where the door exposes them.
     ghost left: { Self → Option (List Self.L) };
 
-    /// The links that went back, in order, where the door exposes them: each as it was then, with its turns, with what was
-    /// given on it, and with its count of faults.
+    /// The links that went back, in order, where the door exposes them: each as it was then, with
+    /// its turns, with what was given on it, and with its count of faults.
     ghost returned: { Self → Option (List Self.L) };
 
     /// What the last call of `next` answered, where the door exposes it.
@@ -41,7 +41,8 @@ pub trait Door {
     /// How many calls failed, together with the faults of the links that went back. It never falls.
     ghost faults: { Self → ℕ };
 
-    /// The next link, which has no fault yet; or that none is left. A call that failed leaves the links that are left.
+    /// The next link, which has no fault yet; or that none is left. A call that failed leaves the
+    /// links that are left.
     fn next(&mut self) -> Came<Self::L>
         requires home { out self.old ≡ false }
         ensures comes { Comes (left self.old) (left self.new) result }

@@ -11,7 +11,8 @@ use std::fs;
 use std::io::Read;
 use std::marker::Model;
 
-/// A file of the system as a source, and where it did not open, a source whose calls all fail. Each error is a fault.
+/// A file of the system as a source, and where it did not open, a source whose calls all fail. Each
+/// error is a fault.
 #[derive(Debug, Drop)]
 pub struct FileSource<F> {
     file: Option<F>,
@@ -28,7 +29,8 @@ impl<F> Model for FileSource<F> {
 }
 
 impl<F: Read> FileSource<F> {
-    /// A source over the file at `path`, with no fault yet. The path is absolute, or relative to the working folder.
+    /// A source over the file at `path`, with no fault yet. The path is absolute, or relative to
+    /// the working folder.
     pub fn open<R: fs::Files<File = F>>(system: &R, path: &str) -> Self
         ensures faults { result.faults ≡ 0 }
     {
@@ -52,6 +54,7 @@ impl<F: Read> Source for FileSource<F> {
         ensures cause { HasCause self.old.faults self.new.faults (is_err result) }
         ensures passed { ReadConsumes (option_and_then F.remaining self.old.inner) (option_and_then F.remaining self.new.inner) result buf.new }
         ensures closed { self.old.inner ≡ None → is_err result ≡ true }
+        ensures stays { self.old.inner ≡ None → self.new.inner ≡ None }
         ensures faults { self.new.faults ≡ (if is_err result then next self.old.faults else self.old.faults) }
     {
         let passed = match &mut self.file {

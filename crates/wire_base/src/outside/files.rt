@@ -23,11 +23,11 @@ pub enum FileAnswer {
     Content(Octets),
     /// There is no file of that name.
     Missing,
-    /// The file has so many octets, which is more than was asked for.
+    /// The file has that many octets, which is more than was asked for.
     TooLong(u64),
     /// The call failed.
     Failed,
-    /// Want of memory.
+    /// Out of memory.
     Memory,
 }
 
@@ -36,14 +36,15 @@ pub trait Files {
     ghost use Rattle.wire_base.specs.NamedFile.{Read};
     ghost use Rattle.wire_base.specs.declared.outside.files.NamedFile.{NamedFile};
 
-    /// The names and contents of all files, where they are told. Of two files of one name the first counts.
+    /// The names and contents of all files, where they are exposed. Of two files of one name the
+    /// first counts.
     ghost contents: { Self → Option (List NamedFile) };
 
     /// How many calls failed. It never falls.
     ghost faults: { Self → ℕ };
 
-    /// The reads that were made, in order, where they are told: of each the name that it was given and whether it failed. One
-    /// that ends for want of memory is not among them.
+    /// The reads that were made, in order, where they are exposed: of each the name that it was
+    /// given and whether it failed. One that ends because memory ran out is not among them.
     ghost reads: { Self → Option (List Read) };
 
     /// The content of the file `name`, if that has at most `limit` octets.

@@ -1,4 +1,5 @@
-//! The files of the system, by their paths: the trusted edge. They tell nothing of what they hold.
+//! The files of the system, by their paths: the trusted edge. They expose nothing of what they
+//! hold.
 
 ghost use Rattle.std.specs.Fs.{IsFile, file_type, metadata_len};
 ghost use Rattle.std.specs.Prelude.{◌≡◌, ◌≤◌, if◌then◌else◌, List, ℕ, Option, None};
@@ -6,28 +7,31 @@ ghost use Rattle.std.specs.IoError.{error_kind};
 ghost use Rattle.wire_base.specs.Counter.{next};
 ghost use Rattle.wire_base.specs.NamedFile.{IsAnswer, has_failed};
 ghost use Rattle.wire_base.specs.Outside.{HasCause};
-ghost use Rattle.wire_base.specs.Unread.{IsLength, IsWithin, unread_by, unread_where};
+ghost use Rattle.wire_base.specs.Unread.{IsLength, IsWithin, unread_by};
 ghost use Rattle.wire_base.specs.declared.outside.folder_files.Unread.TheVariants as unread;
 
 use crate::outside::files::{FileAnswer, Files};
-use crate::outside::passing::{Stopped, fill};
-use crate::outside::standard::StdinSource;
+use crate::outside::fill_and_write::{Stopped, fill};
+use crate::outside::standard_streams::StdinSource;
 use crate::values::list::{List, Octets};
 use crate::values::memory::Memory;
+use crate::values::text::Text;
 use std::alloc::Global;
 use std::fs::Metadata;
 use std::io::ErrorKind;
 use std::marker::Model;
 use std::{fs, io};
 
-/// The files of a system. A name is a path as the system takes it: absolute, or relative to the working folder. No such
-/// name, and a name that leads through something that is no folder, is `Missing`; whatever else the system refuses, and
-/// what is no plain file, is a fault.
+/// The files of a system. A name is a path as the system takes it: absolute, or relative to the
+/// working folder. No such name, and a name that leads through something that is no folder, is
+/// `Missing`; whatever else the system refuses, and what is no plain file, is a fault.
 #[derive(Debug, Drop)]
 pub struct FolderFiles<R> {
     system: R,
     alloc: Global,
     faults: u64,
+    last: Option<ErrorKind>,
+    failed: Option<Text>,
 }
 
 impl<R> Model for FolderFiles<R> {
@@ -47,7 +51,19 @@ impl<R: fs::Files> FolderFiles<R> {
             system,
             alloc,
             faults: 0,
+            last: None,
+            failed: None,
         }
+    }
+
+    /// What the system said at the last read that failed, if one did: for people.
+    pub fn last_error(&self) -> Option<ErrorKind> {
+        self.last
+    }
+
+    /// The name of the file of that read, where there was room for it.
+    pub fn failed_name(&self) -> Option<&Text> {
+        self.failed.as_ref()
     }
 }
 
@@ -58,8 +74,8 @@ impl<R: fs::Files> Files for FolderFiles<R> {
 
     ghost reads = { λ _. None };
 
-    /// Reads the file, unless its length is above the limit. Of a file that grows meanwhile it reads one octet more than
-    /// the limit at most, and tells as its length what it read.
+    /// Reads the file, unless its length is above the limit. Of a file that grows meanwhile it
+    /// reads one octet more than the limit at most, and exposes as its length what it read.
     fn read(&mut self, name: &str, limit: usize) -> FileAnswer
         ensures answer { IsAnswer None name.now limit result }
         ensures cause { HasCause self.old.faults self.new.faults (has_failed result) }
@@ -71,8 +87,10 @@ impl<R: fs::Files> Files for FolderFiles<R> {
             Err(Unread::Missing) => FileAnswer::Missing,
             Err(Unread::TooLong(len)) => FileAnswer::TooLong(len),
             Err(Unread::Memory) => FileAnswer::Memory,
-            Err(Unread::Failed) => {
+            Err(Unread::Failed(kind)) => {
                 self.faults = self.faults.saturating_add(1);
+                self.last = Some(kind);
+                self.failed = Text::new(self.alloc, name).ok();
                 FileAnswer::Failed
             }
         }
@@ -84,7 +102,7 @@ impl<R: fs::Files> Files for FolderFiles<R> {
 enum Unread {
     Missing,
     TooLong(u64),
-    Failed,
+    Failed(ErrorKind),
     Memory,
 }
 
@@ -94,18 +112,7 @@ impl From<io::Error> for Unread {
     fn from(error: io::Error) -> Self {
         match error.kind() {
             ErrorKind::NotFound | ErrorKind::NotADirectory => Unread::Missing,
-            _ => Unread::Failed,
-        }
-    }
-}
-
-impl From<Stopped> for Unread {
-    ghost from_gives = { λ stopped e. e ≡ unread_where stopped };
-
-    fn from(stopped: Stopped) -> Self {
-        match stopped {
-            Stopped::Fault => Unread::Failed,
-            Stopped::Memory => Unread::Memory,
+            kind => Unread::Failed(kind),
         }
     }
 }
@@ -131,11 +138,15 @@ fn content_within<R: fs::Files>(
     let len = length_within(&fs::metadata(system, name)?, limit)?;
     let mut held = List::with_capacity(alloc, len)?;
     let mut file = StdinSource::new(fs::open(system, name)?);
-    fill(&mut file, &mut held, limit.saturating_add(1))?;
-    if limit < held.len() {
-        return Err(Unread::TooLong(held.len() as u64));
+    match fill(&mut file, &mut held, limit.saturating_add(1)) {
+        Ok(()) if limit < held.len() => Err(Unread::TooLong(held.len() as u64)),
+        Ok(()) => Ok(held),
+        Err(Stopped::Fault) => {
+            let kind = file.last_error().unwrap_or(ErrorKind::Other);
+            Err(Unread::Failed(kind))
+        }
+        Err(Stopped::Memory) => Err(Unread::Memory),
     }
-    Ok(held)
 }
 
 /// The length of what is a plain file and has at most `limit` octets.
@@ -143,7 +154,12 @@ fn length_within(metadata: &Metadata, limit: usize) -> Result<usize, Unread>
     ensures length { IsLength metadata.now limit result }
 {
     if !metadata.is_file() {
-        return Err(Unread::Failed);
+        let kind = if metadata.is_dir() {
+            ErrorKind::IsADirectory
+        } else {
+            ErrorKind::Unsupported
+        };
+        return Err(Unread::Failed(kind));
     }
     match usize::try_from(metadata.len()) {
         Ok(len) if len <= limit => Ok(len),

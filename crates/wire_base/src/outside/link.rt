@@ -19,7 +19,8 @@ pub enum Took {
     Failed,
 }
 
-/// What gives the octets of another end, and takes octets for it, each in order and in pieces of its own choice.
+/// What gives the octets of another end, and takes octets for it, each in order and in pieces of
+/// its own choice.
 pub trait Link {
     ghost use Rattle.wire_base.specs.Turns.{Turn};
 
@@ -38,8 +39,9 @@ pub trait Link {
     /// How many calls were idle turns. It never falls.
     ghost idles: { Self → ℕ };
 
-    /// Moves the next octets to the start of `buf`, which is not empty, and answers how many; or that nothing came for a
-    /// while, or that the other end has closed. A call that failed leaves the turns as they were.
+    /// Moves the next octets to the start of `buf`, which is not empty, and answers how many; or
+    /// that nothing came for a while, or that the other end has closed. A call that failed leaves
+    /// the turns as they were.
     fn take(&mut self, buf: &mut [u8]) -> Took
         requires { 0 < length buf.old }
         ensures takes { Takes (taken self.old) (taken self.new) (left self.old) (left self.new) result buf.new }
@@ -47,8 +49,8 @@ pub trait Link {
         ensures cause { HasCause (faults self.old) (faults self.new) (has_failed result) }
         ensures idle { HasCause (idles self.old) (idles self.new) (was_idle result) };
 
-    /// Gives at least one octet from the start of `piece`, which is not empty, and answers how many.
-    /// `Failed` leaves what was given as it was.
+    /// Gives at least one octet from the start of `piece`, which is not empty, and answers how
+    /// many. `Failed` leaves what was given as it was.
     fn give(&mut self, piece: &[u8]) -> Result<usize, Failed>
         requires { 0 < length piece.now }
         ensures some { IfOk result (λ count. 0 < count) }

@@ -1,4 +1,5 @@
-//! A listener of the system as a door, as one on a TCP address: the trusted edge. It exposes no links.
+//! A listener of the system as a door, as one on a TCP address: the trusted edge. It exposes no
+//! links.
 
 ghost use Rattle.std.specs.Prelude.{◌≡◌, ◌+◌, ◌-◌, ◌^◌, false, true, if◌then◌else◌, ℕ, List, Option, None, IfSome, min, nat_lt};
 ghost use Rattle.wire_base.specs.Counter.{next};
@@ -12,7 +13,8 @@ use std::marker::Model;
 use std::net::{Net, OpenListener, OpenStream, TcpListener};
 use std::num::NonZeroU32;
 
-/// A listener of the system as a door: each link is a connection that another end made. Links never run out.
+/// A listener of the system as a door: each link is a connection that another end made. Links never
+/// run out.
 #[derive(Debug, Drop)]
 pub struct ListenDoor<L> {
     listener: Option<L>,
@@ -31,8 +33,8 @@ impl<L> Model for ListenDoor<L> {
 }
 
 impl<L: OpenListener> ListenDoor<L> {
-    /// A door over `listener`, with no link out and no fault yet. Without a listener each call of `next` fails. A write to
-    /// a link waits for `write_seconds`.
+    /// A door over `listener`, with no link out and no fault yet. Without a listener each call of
+    /// `next` fails. A write to a link waits for `write_seconds`.
     pub fn new(listener: Option<L>, write_seconds: NonZeroU32) -> Self
         ensures made { result ≡ record { inner = listener; out = false; faults = 0 } }
     {
@@ -44,8 +46,9 @@ impl<L: OpenListener> ListenDoor<L> {
         }
     }
 
-    /// A door over a listener on `address`: the name or number of a host, a colon, and a port. Where the system refuses
-    /// to listen there, or the text is no address, each call of `next` fails.
+    /// A door over a listener on `address`: the name or number of a host, a colon, and a port.
+    /// Where the system refuses to listen there, or the text is no address, each call of `next`
+    /// fails.
     pub fn bind<R: Net<Listener = L>>(system: &R, address: &str, write_seconds: NonZeroU32) -> Self
         ensures home { result.out ≡ false }
         ensures faults { result.faults ≡ 0 }
@@ -53,8 +56,8 @@ impl<L: OpenListener> ListenDoor<L> {
         ListenDoor::new(TcpListener::bind(system, address).ok(), write_seconds)
     }
 
-    /// Another door over the same listener: each connection comes to one of the two. Where the system refuses another
-    /// handle of the listener, each call of its `next` fails.
+    /// Another door over the same listener: each connection comes to one of the two. Where the
+    /// system refuses another handle of the listener, each call of its `next` fails.
     pub fn another(&self) -> Self
         ensures closed { self.now.inner ≡ None → result.inner ≡ None }
         ensures home { result.out ≡ false }
@@ -84,8 +87,8 @@ where
 
     ghost faults = { λ door. door.faults };
 
-    /// Waits for the next connection. A listener that did not open, a connection that could not be accepted, and one
-    /// whose settings the system refused, are faults.
+    /// Waits for the next connection. A listener that did not open, a connection that could not be
+    /// accepted, and one whose settings the system refused, are faults.
     fn next(&mut self) -> Came<TcpLink<L::Stream>>
         requires home { self.old.out ≡ false }
         ensures comes { Comes None None result }

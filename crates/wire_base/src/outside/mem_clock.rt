@@ -8,7 +8,8 @@ use crate::values::list::List;
 use std::collections::VecDeque;
 use std::marker::Model;
 
-/// A clock that exposes its moments: each of a list, one a call, and then one moment again and again.
+/// A clock that exposes its moments: each of a list, one a call, and then one moment again and
+/// again.
 #[derive(Debug, Drop)]
 pub struct MemClock {
     next: VecDeque<u64>,
@@ -24,8 +25,8 @@ impl Model for MemClock {
 }
 
 impl MemClock {
-    /// A clock that gives `moments` in order, and `last` from then on, in seconds since 1970-01-01T00:00:00Z. It takes no
-    /// memory.
+    /// A clock that gives `moments` in order, and `last` from then on, in seconds since
+    /// 1970-01-01T00:00:00Z. It takes no memory.
     pub fn new(moments: List<u64>, last: u64) -> Self
         ensures made { result ≡ record { next = moments; last = last } }
     {

@@ -8,7 +8,7 @@ ghost use Rattle.wire_base.specs.InMemory.{DoorInMemory, next_fails};
 ghost use Rattle.wire_base.specs.Outside.{Adds, HasCause};
 
 use crate::outside::door::{Came, Door};
-use crate::outside::failing::FailingCalls;
+use crate::outside::failing_calls::FailingCalls;
 use crate::outside::mem_link::MemLink;
 use crate::values::list::List;
 use crate::values::memory::Memory;
@@ -25,8 +25,8 @@ enum LastAnswer {
     Failed,
 }
 
-/// A door that exposes its links, and hands them out in order. The calls of `next` whose numbers it was given fail. All its
-/// room is taken when it is made.
+/// A door that exposes its links, and hands them out in order. The calls of `next` whose numbers it
+/// was given fail. All its room is taken when it is made.
 #[derive(Debug, Drop)]
 pub struct MemDoor {
     left: VecDeque<MemLink>,
@@ -60,8 +60,8 @@ impl Model for MemDoor {
 }
 
 impl MemDoor {
-    /// A door that will hand out all of `links`, each of which has no fault yet. It fails at the calls of `next` numbered in
-    /// `failing`, the first being 1.
+    /// A door that will hand out all of `links`, each of which has no fault yet. It fails at the
+    /// calls of `next` numbered in `failing`, the first being 1.
     pub fn new(alloc: Global, links: List<MemLink>, failing: &[u64]) -> Result<Self, Memory>
         requires fresh { All (λ link. link.faults ≡ 0) links }
         ensures made { IfOk result (λ door. door ≡ record {
@@ -106,7 +106,8 @@ impl Door for MemDoor {
 
     ghost faults = { λ door. door.faults };
 
-    /// The first of the links that are left, unless there is none or the call is one that fails. It takes no memory.
+    /// The first of the links that are left, unless there is none or the call is one that fails. It
+    /// takes no memory.
     fn next(&mut self) -> Came<MemLink>
         requires home { self.old.out ≡ false }
         ensures comes { Comes (Some self.old.left) (Some self.new.left) result }
@@ -136,7 +137,8 @@ impl Door for MemDoor {
         }
     }
 
-    /// Puts the link after those that went back before it, and adds its faults to those of the door. It takes no memory.
+    /// Puts the link after those that went back before it, and adds its faults to those of the
+    /// door. It takes no memory.
     fn back(&mut self, link: MemLink)
         requires out { self.old.out ≡ true }
         ensures returned { Adds (Some self.old.returned) (Some self.new.returned) (link ∷ []) }

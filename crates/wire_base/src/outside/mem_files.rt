@@ -8,14 +8,14 @@ ghost use Rattle.wire_base.specs.NamedFile.{IsAnswer, content_of, has_failed};
 ghost use Rattle.wire_base.specs.Outside.{HasCause};
 ghost use Rattle.wire_base.specs.declared.outside.files.FileAnswer.TheVariants as answer;
 
-use crate::outside::failing::FailingCalls;
+use crate::outside::failing_calls::FailingCalls;
 use crate::outside::files::{FileAnswer, Files, NamedFile};
 use crate::values::list::{List, Octets, TryCopy};
 use crate::values::memory::Memory;
 use std::alloc::Global;
 use std::marker::Model;
 
-/// Files in memory that tells what they hold; the calls whose numbers it was given fail.
+/// Files in memory that expose what they hold; the calls whose numbers they were given fail.
 #[derive(Debug, Drop)]
 pub struct MemFiles {
     files: List<NamedFile>,
@@ -41,8 +41,8 @@ impl MemFiles {
         }
     }
 
-    /// All of `files`, of which the first counts where two have one name. It fails at the calls numbered in `failing`,
-    /// the first being 1.
+    /// All of `files`, of which the first counts where two have one name. It fails at the calls
+    /// numbered in `failing`, the first being 1.
     pub fn new(alloc: Global, files: List<NamedFile>, failing: &[u64]) -> Result<Self, Memory>
         ensures made { IfOk result (λ made. made
             ≡ record { files = files; made = 0; failing = failing.now; faults = 0 }) }
@@ -61,7 +61,8 @@ impl Files for MemFiles {
 
     ghost reads = { λ _. None };
 
-    /// A copy of the content, unless the call is one that fails. Memory is asked for that copy alone.
+    /// A copy of the content, unless the call is one that fails. Memory is asked for that copy
+    /// alone.
     fn read(&mut self, name: &str, limit: usize) -> FileAnswer
         ensures answer { IsAnswer (Some self.old.files) name.now limit result }
         ensures contents { Some self.new.files ≡ Some self.old.files }

@@ -1,13 +1,13 @@
 //! A link over turns in memory, some of whose calls fail, and which may run full.
 
-ghost use Rattle.std.specs.Prelude.{◌≡◌, ◌<◌, ◌≤◌, ◌-◌, ◌^◌, ◌==◌, ◌||◌, if◌then◌else◌, [], Some, List, ℕ, IfOk, OnErr, is_err, length, map, min};
+ghost use Rattle.std.specs.Prelude.{◌≡◌, ◌<◌, ◌≤◌, ◌+◌, ◌-◌, ◌^◌, ◌==◌, ◌||◌, if◌then◌else◌, [], Some, List, ℕ, IfOk, OnErr, is_err, length, map, min};
 ghost use Rattle.wire_base.specs.Counter.{next};
 ghost use Rattle.wire_base.specs.InMemory.{LinkInMemory, answer_of, next_fails, turn_of};
 ghost use Rattle.wire_base.specs.Outside.{HasCause, Writes};
-ghost use Rattle.wire_base.specs.Turns.{Takes, has_failed, was_idle};
+ghost use Rattle.wire_base.specs.Turns.{Takes, has_ended, has_failed, was_idle};
 ghost use Rattle.wire_base.specs.declared.outside.link.Took.TheVariants as took;
 
-use crate::outside::failing::FailingCalls;
+use crate::outside::failing_calls::FailingCalls;
 use crate::outside::link::{Link, Took};
 use crate::outside::no_fault_link::{LinkTurn, NoFaultLink};
 use crate::outside::source::Failed;
@@ -16,9 +16,10 @@ use crate::values::memory::Memory;
 use std::alloc::Global;
 use std::marker::Model;
 
-/// A link in memory that exposes its turns and what it was given. The calls whose numbers it was given fail; so does each
-/// call of `give` once there is no room left, as on a full device, and each call of `take` after 18446744073709551615 ends,
-/// which is as far as they are counted. All its room is taken when it is made.
+/// A link in memory that exposes its turns and what it was given. The calls whose numbers it was
+/// given fail; so does each call of `give` once there is no room left, as on a full device, and
+/// each call of `take` after 18446744073709551615 ends, which is as far as they are counted. All
+/// its room is taken when it is made.
 #[derive(Debug, Drop)]
 pub struct MemLink {
     turns: NoFaultLink,
@@ -52,8 +53,9 @@ impl Model for MemLink {
 }
 
 impl MemLink {
-    /// A link that has all of `turns` left, moves at most `most` octets in a call, which is at least 1, has room to be given
-    /// `room` octets, and fails at the calls numbered in `failing`, the first being 1.
+    /// A link that has all of `turns` left, moves at most `most` octets in a call, which is at
+    /// least 1, has room to be given `room` octets, and fails at the calls numbered in `failing`,
+    /// the first being 1.
     pub fn new(
         alloc: Global,
         turns: List<LinkTurn>,
@@ -111,8 +113,8 @@ impl Link for MemLink {
 
     ghost idles = { λ link. link.idles };
 
-    /// Moves the octets up to the next mark, at most as many as `buf` has room for and as a call moves, or that mark alone,
-    /// unless the call is one that fails.
+    /// Moves the octets up to the next mark, at most as many as `buf` has room for and as a call
+    /// moves, or that mark alone, unless the call is one that fails.
     fn take(&mut self, buf: &mut [u8]) -> Took
         requires { 0 < length buf.old }
         ensures takes { Takes (Some self.old.taken) (Some self.new.taken) (Some self.old.left) (Some self.new.left) result buf.new }
@@ -122,6 +124,8 @@ impl Link for MemLink {
         ensures fails { has_failed result ≡ (self.old.ends == 2 ^ 64 - 1 || next_fails self.old.made self.old.failing) }
         ensures answer { result ≡ (if has_failed result then took.Failed else answer_of self.old.left (min (length buf.old) self.old.most)) }
         ensures room { (self.new.room ≡ self.old.room) × (self.new.most ≡ self.old.most) }
+        ensures ends { self.new.ends ≡ (if has_ended result then self.old.ends + 1 else self.old.ends) }
+        ensures idles { self.new.idles ≡ (if was_idle result then next self.old.idles else self.old.idles) }
         ensures faults { self.new.faults ≡ (if has_failed result then next self.old.faults else self.old.faults) }
         ensures calls { (self.new.made ≡ next self.old.made) × (self.new.failing ≡ self.old.failing) }
     {
@@ -139,8 +143,8 @@ impl Link for MemLink {
         }
     }
 
-    /// Takes as much of `piece` as there is room for and as a call moves, unless there is no room or the call is one that
-    /// fails.
+    /// Takes as much of `piece` as there is room for and as a call moves, unless there is no room
+    /// or the call is one that fails.
     fn give(&mut self, piece: &[u8]) -> Result<usize, Failed>
         requires { 0 < length piece.now }
         ensures some { IfOk result (λ count. 0 < count) }

@@ -5,15 +5,16 @@ ghost use Rattle.wire_base.specs.Counter.{next};
 ghost use Rattle.wire_base.specs.InMemory.{SinkInMemory, next_fails};
 ghost use Rattle.wire_base.specs.Outside.{HasCause, Writes};
 
-use crate::outside::failing::FailingCalls;
+use crate::outside::failing_calls::FailingCalls;
 use crate::outside::sink::Sink;
 use crate::outside::source::Failed;
 use crate::values::memory::Memory;
 use std::alloc::Global;
 use std::marker::Model;
 
-/// A sink into memory that tells what was written. The calls whose numbers it was given fail, and so does each call
-/// once there is no room left, as on a full device. All its room is taken when it is made.
+/// A sink into memory that exposes what was written. The calls whose numbers it was given fail, and
+/// so does each call once there is no room left, as on a full device. All its room is taken when it
+/// is made.
 #[derive(Debug, Drop)]
 pub struct MemSink {
     octets: Vec<u8>,
@@ -33,7 +34,8 @@ impl Model for MemSink {
 }
 
 impl MemSink {
-    /// An empty sink with room for `room` octets, that fails at the calls numbered in `failing`, the first being 1.
+    /// An empty sink with room for `room` octets, that fails at the calls numbered in `failing`,
+    /// the first being 1.
     pub fn new(alloc: Global, room: usize, failing: &[u64]) -> Result<Self, Memory>
         ensures made { IfOk result (λ sink. sink
             ≡ record { written = []; room = room; made = 0; failing = failing.now; faults = 0 }) }
@@ -59,7 +61,8 @@ impl Sink for MemSink {
 
     ghost faults = { λ sink. sink.faults };
 
-    /// Takes as much of `piece` as there is room for, unless there is none or the call is one that fails.
+    /// Takes as much of `piece` as there is room for, unless there is none or the call is one that
+    /// fails.
     fn write(&mut self, piece: &[u8]) -> Result<usize, Failed>
         requires { 0 < length piece.now }
         ensures some { IfOk result (λ count. 0 < count) }

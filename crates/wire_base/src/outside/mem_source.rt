@@ -5,15 +5,16 @@ ghost use Rattle.wire_base.specs.Counter.{next};
 ghost use Rattle.wire_base.specs.InMemory.{SourceInMemory, next_fails};
 ghost use Rattle.wire_base.specs.Outside.{HasCause, Reads};
 
-use crate::outside::failing::FailingCalls;
-use crate::outside::no_fault::NoFaultSource;
+use crate::outside::failing_calls::FailingCalls;
+use crate::outside::no_fault_streams::NoFaultSource;
 use crate::outside::source::{Failed, Source};
 use crate::values::list::Octets;
 use crate::values::memory::Memory;
 use std::alloc::Global;
 use std::marker::Model;
 
-/// A source over octets in memory that tells what is left; the calls whose numbers it was given fail.
+/// A source over octets in memory that exposes what is left; the calls whose numbers it was given
+/// fail.
 #[derive(Debug, Drop)]
 pub struct MemSource {
     octets: NoFaultSource,
@@ -29,7 +30,8 @@ impl Model for MemSource {
 }
 
 impl MemSource {
-    /// A source that has all of `octets` left, and fails at the calls numbered in `failing`, the first being 1.
+    /// A source that has all of `octets` left, and fails at the calls numbered in `failing`, the
+    /// first being 1.
     pub fn new(alloc: Global, octets: Octets, failing: &[u64]) -> Result<Self, Memory>
         ensures made { IfOk result (λ source. source
             ≡ record { left = octets; made = 0; failing = failing.now; faults = 0 }) }
@@ -46,7 +48,8 @@ impl Source for MemSource {
 
     ghost faults = { λ source. source.faults };
 
-    /// Moves as many octets as there are and as `buf` has room for, unless the call is one that fails.
+    /// Moves as many octets as there are and as `buf` has room for, unless the call is one that
+    /// fails.
     fn read(&mut self, buf: &mut [u8]) -> Result<usize, Failed>
         requires { 0 < length buf.old }
         ensures within { IfOk result (λ count. count ≤ length buf.new) }

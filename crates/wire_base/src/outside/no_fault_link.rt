@@ -20,8 +20,8 @@ pub enum LinkTurn {
     Idle,
 }
 
-/// A link over turns in memory, none of whose calls fails. It keeps none of what it is given and exposes nothing of it, nor
-/// of the turns that were taken; it exposes the turns that are left.
+/// A link over turns in memory, none of whose calls fails. It keeps none of what it is given and
+/// exposes nothing of it, nor of the turns that were taken; it exposes the turns that are left.
 #[derive(Debug, Drop)]
 pub struct NoFaultLink {
     turns: List<LinkTurn>,
@@ -42,7 +42,8 @@ impl Model for NoFaultLink {
 }
 
 impl NoFaultLink {
-    /// A link that has all of `turns` left. A call moves at most `most` octets, which is at least 1. It takes no memory.
+    /// A link that has all of `turns` left. A call moves at most `most` octets, which is at least
+    /// 1. It takes no memory.
     pub fn new(turns: List<LinkTurn>, most: usize) -> Self
         requires some { 0 < most }
         ensures made { result ≡ record { taken = []; left = map turn_of turns; most = most; idles = 0 } }
@@ -63,8 +64,8 @@ impl NoFaultLink {
         self.most
     }
 
-    /// Moves the octets up to the next mark to the start of `buf`, at most as many as it has room for and as a call moves;
-    /// or answers that mark, or that nothing is left.
+    /// Moves the octets up to the next mark to the start of `buf`, at most as many as it has room
+    /// for and as a call moves; or answers that mark, or that nothing is left.
     pub(crate) fn pass(&mut self, buf: &mut [u8]) -> Took
         requires { 0 < length buf.old }
         ensures answer { result ≡ answer_of self.old.left (min (length buf.old) self.old.most) }
@@ -90,7 +91,8 @@ impl NoFaultLink {
     }
 }
 
-/// Copies the octets before the first mark to the start of `buf`, at most `most`, and answers how many.
+/// Copies the octets before the first mark to the start of `buf`, at most `most`, and answers how
+/// many.
 fn copy_octets(turns: &[LinkTurn], buf: &mut [u8], most: usize) -> usize
     ensures count { result ≡ min (min (length buf.old) most) (octets_ahead (map turn_of turns.now)) }
     ensures copied { turns_of (take result buf.new) ≡ take result (map turn_of turns.now) }
@@ -127,7 +129,9 @@ impl Link for NoFaultLink {
         ensures cause { HasCause 0 0 (has_failed result) }
         ensures idle { HasCause self.old.idles self.new.idles (was_idle result) }
         ensures answer { result ≡ answer_of self.old.left (min (length buf.old) self.old.most) }
+        ensures moved { Moved self.old self.new result buf.new }
         ensures most { self.new.most ≡ self.old.most }
+        ensures idles { self.new.idles ≡ (if was_idle result then next self.old.idles else self.old.idles) }
     {
         self.pass(buf)
     }

@@ -7,13 +7,13 @@ use crate::outside::source::Failed;
 
 /// What takes octets in order, in pieces of its own choice.
 pub trait Sink {
-    /// The octets that were written, where the sink tells.
+    /// The octets that were written, where the sink exposes them.
     ghost written: { Self → Option (List ℕ) };
 
     /// How many calls failed. It never falls.
     ghost faults: { Self → ℕ };
 
-    /// Takes at least one octet of the front of `piece`, which is not empty, and says how many.
+    /// Takes a prefix of `piece` of at least one octet, and says how many; `piece` is not empty.
     /// `Failed` leaves what was written as it was.
     fn write(&mut self, piece: &[u8]) -> Result<usize, Failed>
         requires { 0 < length piece.now }

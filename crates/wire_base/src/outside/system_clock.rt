@@ -34,8 +34,8 @@ impl<R: TimeSource> SystemClock<R> {
 impl<R: TimeSource> Clock for SystemClock<R> {
     ghost moments = { λ _. None };
 
-    /// The whole seconds since 1970 by the system. Where it gives no time, or one before 1970, the moment that came last
-    /// comes again, which is 0 at first.
+    /// The whole seconds since 1970 by the system. Where it gives no time, or one before 1970, the
+    /// moment that came last comes again, which is 0 at first.
     fn now(&mut self) -> u64
         ensures system { self.new.inner ≡ self.old.inner }
         ensures last { self.new.last ≡ result }

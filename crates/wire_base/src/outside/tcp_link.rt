@@ -48,8 +48,9 @@ impl<S: Read + Write> TcpLink<S> {
 }
 
 impl<S: Read + Write + OpenStream + Drop> TcpLink<S> {
-    /// A link over `stream` that sends each piece at once. A read waits for one second, and a write for `write_seconds`.
-    /// `Failed` comes where the system refuses one of these settings; then the stream is closed.
+    /// A link over `stream` that sends each piece at once. A read waits for one second, and a write
+    /// for `write_seconds`. `Failed` comes where the system refuses one of these settings; then the
+    /// stream is closed.
     pub fn set_up(stream: S, write_seconds: NonZeroU32) -> Result<Self, Failed>
         ensures made { IfOk result (λ link. link ≡ record { inner = stream; faults = 0; idles = 0 }) }
     {
@@ -87,8 +88,9 @@ impl<S: Read + Write> Link for TcpLink<S> {
 
     ghost idles = { λ link. link.idles };
 
-    /// Reads once from the stream. A read that the system ended without octets, because its time was over or a signal
-    /// came, is an idle turn; each other error is a fault. After a reset the system may report the end of the stream.
+    /// Reads once from the stream. A read that the system ended without octets, because its time
+    /// was over or a signal came, is an idle turn; each other error is a fault. After a reset the
+    /// system may report the end of the stream.
     fn take(&mut self, buf: &mut [u8]) -> Took
         requires { 0 < length buf.old }
         ensures takes { Takes None None None None result buf.new }
@@ -112,8 +114,8 @@ impl<S: Read + Write> Link for TcpLink<S> {
         }
     }
 
-    /// Writes once to the stream. A write of nothing is a fault, and so is each error: also a write whose time was over,
-    /// and one that a signal interrupted, which is not tried again.
+    /// Writes once to the stream. A write of nothing is a fault, and so is each error: also a write
+    /// whose time was over, and one that a signal interrupted, which is not tried again.
     fn give(&mut self, piece: &[u8]) -> Result<usize, Failed>
         requires { 0 < length piece.now }
         ensures some { IfOk result (λ count. 0 < count) }

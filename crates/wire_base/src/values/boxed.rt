@@ -7,7 +7,8 @@ use crate::values::memory::Memory;
 use std::alloc::Global;
 use std::marker::Model;
 
-/// A `Box` that contracts see as its value, so that a copy equals its original. A type may hold itself by it.
+/// A `Box` that contracts see as its value, so that a copy equals its original. A type may hold
+/// itself by it.
 #[derive(Debug, Drop)]
 pub struct Boxed<T> {
     inner: Box<T>,

@@ -7,10 +7,10 @@ ghost use Rattle.wire_base.specs.Escaped.{escaped, hex_digit, hex_octet, is_plai
 use crate::values::list::Octets;
 use crate::values::memory::Memory;
 
-/// Puts `octets` at the end of `out` as text: printable octets but the backslash as they are, each other one as `\x`
-/// and two lower-case hexadecimal digits, and no octets as `\e`.
+/// Puts `octets` at the end of `out` as text: printable octets but the backslash as they are, each
+/// other one as `\x` and two lower-case hexadecimal digits, and no octets as `\e`.
 pub fn push_escaped(out: &mut Octets, octets: &[u8]) -> Result<(), Memory>
-    ensures text { OnOk result (out.new ≡ out.old ++ escaped octets.now) }
+    ensures appended { OnOk result (out.new ≡ out.old ++ escaped octets.now) }
 {
     if octets.is_empty() {
         return out.extend(b"\\e");
@@ -27,7 +27,7 @@ pub fn push_escaped(out: &mut Octets, octets: &[u8]) -> Result<(), Memory>
     }
 }
 
-/// How many octets in front stand for themselves.
+/// How many octets at the start stand for themselves.
 fn plain_front(octets: &[u8]) -> usize
     ensures front { result ≡ prefix_len is_plain octets.now }
 {
@@ -43,7 +43,7 @@ fn plain_front(octets: &[u8]) -> usize
 
 /// Puts an octet that does not stand for itself at the end of `out`.
 fn push_hex(out: &mut Octets, octet: u8) -> Result<(), Memory>
-    ensures text { OnOk result (out.new ≡ out.old ++ hex_octet octet) }
+    ensures appended { OnOk result (out.new ≡ out.old ++ hex_octet octet) }
 {
     out.extend(&[b'\\', b'x', hex_digit(octet / 16), hex_digit(octet % 16)])
 }

@@ -1,7 +1,7 @@
 //! The one list type of the project: contracts see it as the list of its items.
 
 ghost use Rattle.std.specs.Cmp.Lexicographic.{lists_equiv, lists_per, pointwise};
-ghost use Rattle.std.specs.Prelude.{◌≡◌, ◌∷◌, ◌++◌, ◌≤◌, ◌↔◌, [], drop, length, slice_get, IfOk, IsTrue, OnOk, OnErr};
+ghost use Rattle.std.specs.Prelude.{◌≡◌, ◌∷◌, ◌++◌, ◌≤◌, ◌↔◌, [], drop, length, slice_get, take, IfOk, IsTrue, OnOk, OnErr};
 ghost use Rattle.std.specs.List.{insert};
 ghost use Rattle.std.specs.Option.{option_copied};
 
@@ -164,22 +164,29 @@ impl<T> List<T> {
 impl<T: Drop> List<T> {
     /// Puts an item at the end; at `Memory` the item is dropped and the list is as it was.
     pub fn push(&mut self, item: T) -> Result<(), Memory>
-        ensures ok { OnOk result (self.new ≡ self.old ++ item ∷ []) }
-        ensures memory { OnErr result (self.new ≡ self.old) }
+        ensures appended { OnOk result (self.new ≡ self.old ++ item ∷ []) }
+        ensures unchanged { OnErr result (self.new ≡ self.old) }
     {
         self.items.push(item)?;
         Ok(())
     }
 
-    /// Puts an item at `place`, before those that stand there and behind; at `Memory` the item is dropped and the list is as
-    /// it was.
+    /// Puts an item at `place`, before the items from there on; at `Memory` the item is
+    /// dropped and the list is as it was.
     pub fn insert(&mut self, place: usize, item: T) -> Result<(), Memory>
         requires within { place ≤ length self.old }
         ensures ok { OnOk result (self.new ≡ insert self.old place item) }
-        ensures memory { OnErr result (self.new ≡ self.old) }
+        ensures unchanged { OnErr result (self.new ≡ self.old) }
     {
         self.items.insert(place, item)?;
         Ok(())
+    }
+
+    /// Keeps the first `len` items, or all where there are fewer. It takes no memory.
+    pub fn truncate(&mut self, len: usize)
+        ensures items { self.new ≡ take len self.old }
+    {
+        self.items.truncate(len);
     }
 
     /// Removes the first `count` items, of which there are at least that many. It takes no memory.
@@ -203,8 +210,8 @@ impl<T: Copy> List<T> {
 
     /// Puts all of `items` at the end; at `Memory` the list is as it was.
     pub fn extend(&mut self, items: &[T]) -> Result<(), Memory>
-        ensures ok { OnOk result (self.new ≡ self.old ++ items.now) }
-        ensures memory { OnErr result (self.new ≡ self.old) }
+        ensures appended { OnOk result (self.new ≡ self.old ++ items.now) }
+        ensures unchanged { OnErr result (self.new ≡ self.old) }
     {
         self.items.extend_from_slice(items)?;
         Ok(())

@@ -1,9 +1,9 @@
-//! Want of memory, as every result of the project names it.
+//! Out of memory, as every result of the project names it.
 
 use std::alloc::{AllocError, AllocFailed};
 use thiserror::Error;
 
-/// Want of memory. It is the last refusal of every call that can meet it, and stands for no other.
+/// Out of memory. It is the last refusal of every call that can meet it, and stands for no other.
 #[derive(Clone, Copy, Debug, PartialEq, Eq, Error)]
 #[error("out of memory")]
 pub struct Memory;

@@ -17,8 +17,8 @@ pub struct ClockRange {
     pub secs: u64,
 }
 
-/// The stamp of the moment `secs` seconds after 1970-01-01T00:00:00Z, as `YYYY-MM-DDThh:mm:ssZ` in UTC; `ClockRange`
-/// exactly where `secs` is above 4294967295. It takes no memory.
+/// The stamp of the moment `secs` seconds after 1970-01-01T00:00:00Z, as `YYYY-MM-DDThh:mm:ssZ` in
+/// UTC; `ClockRange` exactly where `secs` is above 4294967295. It takes no memory.
 pub fn stamp_text(secs: u64) -> Result<[u8; 20], ClockRange>
     ensures text { IsStampAt secs result }
     ensures stamp { IfOk result IsStamp }
@@ -27,16 +27,17 @@ pub fn stamp_text(secs: u64) -> Result<[u8; 20], ClockRange>
         return Err(ClockRange { secs });
     };
     let instant = Timestamp::from_second(i64::from(second)).unwrap();
-    Ok(Moment::shown(Offset::UTC.to_datetime(instant)).text())
+    Ok(Moment::from_clock(Offset::UTC.to_datetime(instant)).text())
 }
 
-/// Whether the text is a stamp: `YYYY-MM-DDThh:mm:ssZ` with a real date, an hour up to 23, a minute up to 59 and a second
-/// up to 60, or `0000-00-00T00:00:00Z` (RFC 8412, section 5.8). It takes no memory.
+/// Whether the text is a stamp: `YYYY-MM-DDThh:mm:ssZ` with a real date, an hour up to 23, a minute
+/// up to 59 and a second up to 60, or `0000-00-00T00:00:00Z` (RFC 8412, section 5.8). It takes no
+/// memory.
 pub fn is_stamp(text: &[u8; 20]) -> bool
     ensures test { result ≡ is_stamp text.now }
     ensures stamp { IsTrue result ↔ IsStamp text.now }
 {
-    let moment = Moment::named(text);
+    let moment = Moment::from_text(text);
     (moment.is_real() & (moment.text() == *text)) | (*text == UNKNOWN_TIME)
 }
 
@@ -56,7 +57,7 @@ pub struct Moment {
 
 impl Moment {
     /// What a clock shows in the year 0 or later.
-    fn shown(clock: DateTime) -> Self
+    fn from_clock(clock: DateTime) -> Self
         requires { pos 0 ≤ℤ clock.date.year }
         ensures shown { Shows clock result }
     {
@@ -71,7 +72,7 @@ impl Moment {
     }
 
     /// The moment that a text names, if it is that of a moment.
-    fn named(text: &[u8; 20]) -> Self
+    fn from_text(text: &[u8; 20]) -> Self
         ensures moment { result ≡ moment_at text.now }
     {
         Moment {

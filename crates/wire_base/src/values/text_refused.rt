@@ -9,8 +9,9 @@ use thiserror::Error;
 /// Why a text is not read as a value.
 #[derive(Clone, Copy, Debug, PartialEq, Eq, Error)]
 pub enum TextRefused {
-    /// The text spells no value. Some value is spelled with the octets before `place` first, and none with these and the
-    /// octet at `place`. Where `place` is the length of the text, the text ends too soon.
+    /// The text spells no value. Some value is spelled with the octets before `place` first, and
+    /// none with these and the octet at `place`. Where `place` is the length of the text, the text
+    /// ends too soon.
     #[error("a fault at octet {place}")]
     Fault {
         /// The place of the first fault, counted from 0.

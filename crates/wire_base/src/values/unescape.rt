@@ -12,9 +12,10 @@ use crate::values::memory::Memory;
 use crate::values::text_refused::TextRefused;
 use std::alloc::Global;
 
-/// The octets whose text, as `push_escaped` writes it, is `text`, or the place of the first octet with which it is the
-/// text of none. An escape of an octet that is printed as itself is a fault, and so are an upper-case digit and an escape
-/// that ends too soon. The empty text has its fault at 0.
+/// The octets whose text, as `push_escaped` writes it, is `text`, or the place of the first octet
+/// with which it is the text of none. An escape of an octet that is printed as itself is a fault,
+/// and so are an upper-case digit and an escape that ends too soon. The empty text has its fault at
+/// 0.
 pub fn read_escaped(alloc: Global, text: &[u8]) -> Result<Octets, TextRefused>
     ensures octets { ReadsText escaped AreOctets text.now result }
 {
@@ -35,8 +36,9 @@ pub fn read_escaped(alloc: Global, text: &[u8]) -> Result<Octets, TextRefused>
     }
 }
 
-/// Reads one more character after `octets` and a part of the text of the next octet. An octet whose text is whole then is
-/// put at the end of `octets`. Gives the part that follows, or `None` where no text goes on so.
+/// Reads one more character after `octets` and a part of the text of the next octet. An octet whose
+/// text is whole then is put at the end of `octets`. Gives the part that follows, or `None` where
+/// no text goes on so.
 fn put_character(octets: &mut Octets, part: Part, character: u8) -> Result<Option<Part>, Memory>
     requires { HasDigit part }
     ensures next { IfOk result (λ longer. Goes octets.old part character octets.new longer) }

@@ -1,4 +1,4 @@
--- What the loops that copy keep: a front was copied.
+-- What the loops that copy keep: a prefix was copied.
 use Rattle.std.proofs.Common.{◌≡◌, take}
 use Rattle.cbor_det.proofs.item.+copy.Given as goal
 

@@ -1,4 +1,4 @@
--- What the run over the front of the piece says of the joined octets.
+-- What the run over the prefix of the piece says of the joined octets.
 use Rattle.std.proofs.Common.{arith, refl}
 use Rattle.cbor_det.specs.View.{view}
 use Rattle.cbor_det.proofs.Fed.{done_at, fault_at, limit_at, more_at}

@@ -1,4 +1,4 @@
--- What the run over the front says of the octets.
+-- What the run over the prefix says of the octets.
 use Rattle.std.proofs.Common.{inl, arith}
 use Rattle.cbor_det.specs.Standing.{place}
 use Rattle.cbor_det.proofs.Fed.{phase_goes}

@@ -1,4 +1,4 @@
--- A chunk by itself, and behind the others.
+-- A chunk by itself, and after the others.
 use Rattle.cbor_det.specs.Standing.{place}
 use Rattle.cbor_det.proofs.Strings.{bad, chunk_put}
 use Rattle.cbor_det.proofs.string.chunk_ended.Goals as goal

@@ -1,4 +1,4 @@
--- What the loops keep: a front was written.
+-- What the loops keep: a prefix was written.
 use Rattle.std.proofs.Common.{◌≡◌, ◌++◌, map, take}
 use Rattle.cbor_det.specs.Canonical.{canon_terms, canon_pairs}
 use Rattle.cbor_det.specs.View.{view, terms_of, pairs_of}

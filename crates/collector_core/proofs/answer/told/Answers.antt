@@ -17,8 +17,8 @@ returns-then-size-most c =
     let count : c.min-count.result ≡ min (max (longest (front_fits c.args.request.now c.args.point (values c.args.events.now) c.args.most) (length (values c.args.events.now))) 1) (length (values c.args.events.now)) =
     omega (arith, c.min-count.ensures, c.max.ensures, c.fitting.ensures.count c.args.point, length-map c.args.events.now (λ b. b.now)) in
     record {
-      answer = told_too_large c.args.request.now c.args.point (values c.args.events.now) c.args.most c.min-count.result (20 + c.size_of_events-size.result) count
-          (ap (λ (n : ℕ). 20 + n) (c.size_of_events-size.ensures.size ∙ ap (sum_by (event_size c.args.request.now.kind)) (sym (take-map (λ b. b.now) c.min-count.result c.args.events.now))))
+      answer = told_too_large c.args.request.now c.args.point (values c.args.events.now) c.args.most c.min-count.result (20 + c.size_of_lent-size.result) count
+          (ap (λ (n : ℕ). 20 + n) (c.size_of_lent-size.ensures.size ∙ ap (sum_by (event_size c.args.request.now.kind)) (sym (take-map (λ b. b.now) c.min-count.result c.args.events.now))))
           c.if-size-most.true;
     }
 
@@ -32,7 +32,7 @@ returns c =
           ∙ ap (λ (es : List Event). consulted_before es c.args.point.eid) (ap values (take_rest c.args.events.now c.min-count.result) ∙ sym (drop-map (λ b. b.now) c.min-count.result c.args.events.now)))
           ∙ ap (λ (es : List Event). answer.Report (Events c.args.request.now.kind false c.args.request.now.id c.args.point (consulted_before (drop c.min-count.result (values c.args.events.now)) c.args.point.eid) es))
           (c.in_ok-events_of_kind.ensures.carried ∙ ap (events_of_kind c.args.request.now.kind) (sym (take-map (λ b. b.now) c.min-count.result c.args.events.now)))
-          ∙ told_fits c.args.request.now c.args.point (values c.args.events.now) c.args.most c.min-count.result (20 + c.size_of_events-size.result) count
-          (ap (λ (n : ℕ). 20 + n) (c.size_of_events-size.ensures.size ∙ ap (sum_by (event_size c.args.request.now.kind)) (sym (take-map (λ b. b.now) c.min-count.result c.args.events.now))))
+          ∙ told_fits c.args.request.now c.args.point (values c.args.events.now) c.args.most c.min-count.result (20 + c.size_of_lent-size.result) count
+          (ap (λ (n : ℕ). 20 + n) (c.size_of_lent-size.ensures.size ∙ ap (sum_by (event_size c.args.request.now.kind)) (sym (take-map (λ b. b.now) c.min-count.result c.args.events.now))))
           c.if-size-most.false;
     }

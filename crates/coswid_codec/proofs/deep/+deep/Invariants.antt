@@ -1,4 +1,4 @@
--- The levels fall; the parts in front are not so deep.
+-- The levels fall; the parts before are not so deep.
 use Rattle.std.proofs.Common.{◌+◌, ◌*◌, ◌<◌, map, take}
 use Rattle.cbor_det.specs.Term.{terms_depth}
 use Rattle.cbor_det.specs.View.{view, terms_of, pairs_view}

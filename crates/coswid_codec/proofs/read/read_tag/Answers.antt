@@ -26,6 +26,10 @@ pub returns-clause-shallow : goal.returns-clause-shallow
 returns-clause-shallow c =
     (read_whole c.args.bytes.now (view c.in_ok-item.item) c.in_ok-tag.tag c.in_ok-item.used c.in_ok-item.ensures.found c.in_ok-tag.ensures.told.0 c.in_ok-tag.ensures.told.1).shallow
 
+pub returns-clause-sizes : goal.returns-clause-sizes
+returns-clause-sizes c =
+    (read_whole c.args.bytes.now (view c.in_ok-item.item) c.in_ok-tag.tag c.in_ok-item.used c.in_ok-item.ensures.found c.in_ok-tag.ensures.told.0 c.in_ok-tag.ensures.told.1).sizes
+
 pub returns-clause-only : goal.returns-clause-only
 returns-clause-only c =
     (read_whole c.args.bytes.now (view c.in_ok-item.item) c.in_ok-tag.tag c.in_ok-item.used c.in_ok-item.ensures.found c.in_ok-tag.ensures.told.0 c.in_ok-tag.ensures.told.1).only

@@ -1,4 +1,4 @@
--- The lines of the findings gone over stand behind what stood there.
+-- The lines of the findings gone over stand after what stood there.
 use Rattle.std.proofs.Common.{◌≡◌, ◌++◌, take}
 use Rattle.std.specs.List.{flat_map}
 use Rattle.coswid_codec.specs.TagText.{finding_line}

@@ -1,4 +1,5 @@
--- What was put, and what is wrong with the links of the tags that are left, is what is wrong with all of them.
+-- What was put, and what is wrong with the links of the tags that are left, is what is wrong with
+-- all of them.
 use Rattle.std.proofs.Common.{◌≡◌, ◌+◌, ◌++◌, drop}
 use Rattle.coswid_links.specs.Links.{tag_findings}
 use Rattle.coswid_links.specs.Listed.{each_from}

@@ -1,5 +1,5 @@
 use Rattle.std.proofs.Common.{ℕ, List, length, ◌<◌, sym, subst, arith}
-use Rattle.coswid_links.specs.Numbered.{AreOwnPlaces, Tells}
+use Rattle.coswid_links.specs.FirstEqual.{AreOwnPlaces, Tells}
 use Rattle.coswid_links.specs.Releases.{claim, claim_of, content, content_of, same_claim, same_content}
 use Rattle.coswid_links.specs.Rivals.{same_release}
 use Rattle.coswid_links.proofs.Apart.{nothing_put}
@@ -18,10 +18,10 @@ returns-then-has_no_repeat c =
     c.in_ok-releases.ensures.releases c.in_ok-releases-2.ensures.places in
     let own : AreOwnPlaces numbers =
     subst (λ (ns : List ℕ). AreOwnPlaces ns) c.as_slice.ensures.value (c.has_no_repeat.ensures.own.0 c.if-has_no_repeat.true) in
-    record { findings = nothing_put tags numbers c.args.found.now by_release own }
+    record { appended = nothing_put tags numbers c.args.found.now by_release own }
 
-pub of-requires-clause-alike : goal.of-requires-clause-alike
-of-requires-clause-alike c =
+pub new-requires-clause-alike : goal.new-requires-clause-alike
+new-requires-clause-alike c =
     let tags = c.args.tags.now in
     same_lengths tags c.in_ok-releases-2.releases.items c.in_ok-contents-2.contents.items
     (tells_through _ same_claim claim_of claim claims_equal releases_agree c.in_ok-releases.field-0.items tags c.in_ok-releases-2.releases.items
@@ -29,8 +29,8 @@ of-requires-clause-alike c =
     (tells_through _ same_content content_of content contents_equal contents_agree c.in_ok-contents.field-0.items tags c.in_ok-contents-2.contents.items
     c.in_ok-contents.ensures.contents c.in_ok-contents-2.ensures.places)
 
-pub of-requires-clause-below : goal.of-requires-clause-below
-of-requires-clause-below c =
+pub new-requires-clause-below : goal.new-requires-clause-below
+new-requires-clause-below c =
     all_below _ (keys_equal _ same_claim claim_of claim claims_equal releases_agree) c.in_ok-releases.field-0.items c.in_ok-releases-2.releases.items c.in_ok-releases-2.ensures.places
 
 pub loop-first-preserved : goal.loop-first-preserved
@@ -46,4 +46,4 @@ loop-first-preserved c =
     let told_content = subst (λ (ns : List ℕ). Tells one_content tags ns) (sym c.in_ok-places.ensures.contents) by_content in
     let lt : c.loop-first.first < length tags = omega arith in
     pairs_more tags c.in_ok-places.places.releases.items c.in_ok-places.places.contents.items told_release told_content c.loop-first.first _ c.loop-first.found c.put_rivals_of.new.found lt
-    c.loop-first.invariant c.in_ok-put_rivals_of.ensures.rivals
+    c.loop-first.invariant c.in_ok-put_rivals_of.ensures.appended

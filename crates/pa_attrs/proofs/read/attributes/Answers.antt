@@ -34,7 +34,7 @@ pub loop-rest-preserved : goal.loop-rest-preserved
 loop-rest-preserved c =
     let m = message_good _ _ _ _ (sym c.in-Ok.ensures.header) in
     record {
-      so_far = rw c.split_at-in-loop-rest.ensures.back (went_on _ _ _ _ _ _ _ _ _ _ (sym c.in-Ok.ensures.header) c.in_ok-keep.ensures.kept c.is_still_answered-answer.ensures.answer c.loop-rest.invariant.so_far);
+      so_far = rw c.split_at-in-loop-rest.ensures.back (went_on _ _ _ _ _ _ _ _ _ _ (sym c.in-Ok.ensures.header) c.in_ok-keep.ensures.appended c.is_still_answered-answer.ensures.answer c.loop-rest.invariant.so_far);
       places = omega (arith, c.loop-rest.invariant.places, m.good.within, c.split_at-in-loop-rest.ensures.back_len);
     }
 

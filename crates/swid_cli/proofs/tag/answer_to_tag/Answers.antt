@@ -1,6 +1,6 @@
 use Rattle.std.proofs.Common.{ℕ, List, ◌∙◌, arith}
 use Rattle.std.proofs.lemmas.Result.{err_from_is_err_and}
-use Rattle.coswid_res.specs.declared.verdict.Verdict.{Verdict}
+use Rattle.coswid_res.specs.declared.verification.verdict.Verdict.{Verdict}
 use Rattle.swid_cli.specs.Tagging.{more_follows}
 use Rattle.swid_cli.proofs.TagReading.{ended_so, more_reads, stopped_behind, stopped_first, stopped_so, whole_reads}
 use Rattle.swid_cli.proofs.TagTelling.{refused_tells, whole_tells}

@@ -1,4 +1,4 @@
--- The octets of the ones gone over stand behind what stood there.
+-- The octets of the ones gone over stand after what stood there.
 use Rattle.std.proofs.Common.{◌≡◌, ◌++◌, take}
 use Rattle.std.specs.Prelude.{All}
 use Rattle.std.specs.List.{flat_map}

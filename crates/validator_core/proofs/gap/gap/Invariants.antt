@@ -1,4 +1,4 @@
--- The first gap is that of the events that are left, behind the last one gone over.
+-- The first gap is that of the events that are left, after the last one gone over.
 use Rattle.std.proofs.Common.{◌≡◌, ◌+◌, ◌-◌, ◌≤◌, drop}
 use Rattle.validator_core.specs.Following.{eids, events_above, first_difference, gap, numbers_from}
 use Rattle.validator_core.proofs.gap.gap.Given as goal

@@ -1,4 +1,4 @@
--- Behind an item the next one begins.
+-- After an item the next one begins.
 use Rattle.cbor_det.proofs.Standing.{stands_first}
 use Rattle.cbor_det.proofs.feed.CborFeed.read.Goals as goal
 

@@ -1,4 +1,4 @@
--- Of a front the others were copied.
+-- Of a prefix the others were copied.
 use Rattle.std.proofs.Common.{◌≡◌, take}
 use Rattle.std.specs.List.{filter}
 use Rattle.cbor_det.proofs.Others.{is_other}

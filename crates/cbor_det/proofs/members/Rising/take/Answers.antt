@@ -6,7 +6,7 @@ use Rattle.cbor_det.proofs.members.Rising.take.Goals as goal
 
 pub invariant_of-self-in-Some : goal.invariant_of-self-in-Some
 invariant_of-self-in-Some c = record {
-  rises = rises_after _ _ c.args.self.now.key c.in-Some.key c.args.item (sym c.in-Some.ensures.value) c.args.self.now.rises c.push.result _ c.in-Some.ensures.after c.push.ensures.ok c.push.ensures.memory;
+  rises = rises_after _ _ c.args.self.now.key c.in-Some.key c.args.item (sym c.in-Some.ensures.value) c.args.self.now.rises c.push.result _ c.in-Some.ensures.after c.push.ensures.appended c.push.ensures.unchanged;
 }
 
 pub returns-in-None : goal.returns-in-None
@@ -14,5 +14,5 @@ returns-in-None c = record { taken = took_key (listed c.args.self.now.pairs) c.a
 
 pub returns-in-Some : goal.returns-in-Some
 returns-in-Some c = record {
-  taken = took_value _ _ c.args.self.now.key c.in-Some.key c.args.item (sym c.in-Some.ensures.value) c.args.self.now.rises c.push.result _ c.in-Some.ensures.after c.push.ensures.ok;
+  taken = took_value _ _ c.args.self.now.key c.in-Some.key c.args.item (sym c.in-Some.ensures.value) c.args.self.now.rises c.push.result _ c.in-Some.ensures.after c.push.ensures.appended;
 }

@@ -9,5 +9,5 @@ use Rattle.collector_core.proofs.book.Book.octets_beside.Goals as goal
 pub returns-clause-others : goal.returns-clause-others
 returns-clause-others c id place =
     let at = subst (λ (book : BookView). IsPlaceOf book.records id (Some c.args.place)) (sym c.self.view_is) place in
-    ap (λ (n : ℕ). c.self.inside.octets - n) c.octets.ensures.octets ∙ beside _ _ id c.args.place _ c.index.result.now c.self.invariant.0 at c.index.ensures
+    ap (λ (n : ℕ). c.self.inside.octet_count - n) c.octets.ensures.octets ∙ beside _ _ id c.args.place _ c.index.result.now c.self.invariant.0 at c.index.ensures
     ∙ ap (λ (book : BookView). records_octets (others_than id book.records)) c.self.view_is

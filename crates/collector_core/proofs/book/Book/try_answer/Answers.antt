@@ -10,7 +10,7 @@ returns-then-is_dropped c =
     let below : c.args.request.now.earliest < c.args.self.now.log.first = ltb-true _ _ (sym c.is_dropped.ensures.dropped ∙ c.if-is_dropped.true) in
     record {
       some = subst StandsForSome c.self.view_is c.self.invariant.1;
-      answer = subst (λ (wanted : Answer). IfOk c.inventory.result (λ answer. answer ≡ wanted)) (all_answered c.args.self.now c.args.request.now c.args.max _ c.in_ok-wanted.ensures.asks below) c.inventory.ensures.answer;
+      answer = subst (λ (wanted : Answer). IfOk c.inventory.result (λ answer. answer ≡ wanted)) (all_answered c.args.self.now c.args.request.now c.args.max _ c.in_ok-targets.ensures.asks below) c.inventory.ensures.answer;
     }
 
 pub returns : goal.returns
@@ -18,5 +18,5 @@ returns c =
     let kept : c.args.self.now.log.first ≤ c.args.request.now.earliest = ltb-false _ _ (sym c.is_dropped.ensures.dropped ∙ c.if-is_dropped.false) in
     record {
       some = subst StandsForSome c.self.view_is c.self.invariant.1;
-      answer = subst (λ (wanted : Answer). IfOk c.told.result (λ answer. answer ≡ wanted)) (later_answered c.args.self.now c.args.request.now c.args.max _ c.in_ok-wanted.ensures.asks c.is_dropped.ensures.begins kept) c.told.ensures.answer;
+      answer = subst (λ (wanted : Answer). IfOk c.told.result (λ answer. answer ≡ wanted)) (later_answered c.args.self.now c.args.request.now c.args.max _ c.in_ok-targets.ensures.asks c.is_dropped.ensures.begins kept) c.told.ensures.answer;
     }

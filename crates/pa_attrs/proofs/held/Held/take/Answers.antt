@@ -27,7 +27,7 @@ take_value-requires-clause-most c =
     omega arith
 
 pub returns-in_err-more-in-Ok-clause-within : goal.returns-in_err-more-in-Ok-clause-within
-returns-in_err-more-in-Ok-clause-within c = rw c.in_err-more-in-Ok.ensures.memory (more_within _ c.requires.torn)
+returns-in_err-more-in-Ok-clause-within c = rw c.in_err-more-in-Ok.ensures.unchanged (more_within _ c.requires.torn)
 
 pub returns-then-len-said-clause-within : goal.returns-then-len-said-clause-within
 returns-then-len-said-clause-within c =

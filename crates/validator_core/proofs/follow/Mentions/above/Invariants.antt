@@ -1,4 +1,4 @@
--- The mentions are of the events gone over, which are those behind what is left.
+-- The mentions are of the events gone over, which are those after what is left.
 use Rattle.std.proofs.Common.{◌≡◌, ◌++◌, List, length}
 use Rattle.swima_model.specs.declared.event.Event.{Event}
 use Rattle.validator_core.specs.Following.{events_above}

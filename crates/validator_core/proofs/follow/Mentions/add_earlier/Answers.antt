@@ -1,4 +1,4 @@
--- What the last mention of a record says stands behind what later ones of others say.
+-- What the last mention of a record says stands after what later ones of others say.
 use Rattle.std.proofs.Common.{◌≡◌, ◌∙◌, true, false, not, refl, sym, rules}
 use Rattle.std.specs.Ordering.{nat_cmp}
 use Rattle.std.specs.BTreeSet.{contains}

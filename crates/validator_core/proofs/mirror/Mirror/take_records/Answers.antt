@@ -5,7 +5,7 @@ use Rattle.swima_model.specs.declared.record.Record.{Record}
 use Rattle.swima_model.specs.Doubled.{doubled}
 use Rattle.swima_model.specs.InOrder.{ids, in_order}
 use Rattle.swima_model.proofs.Placing.{in_order_rising_permutation, length_in_order}
-use Rattle.validator_core.specs.Given.{list_of}
+use Rattle.validator_core.specs.MaybeOwned.{list_of}
 use Rattle.validator_core.proofs.Judging.{count_fits}
 use Rattle.validator_core.proofs.mirror.Mirror.take_records.Goals as goal
 

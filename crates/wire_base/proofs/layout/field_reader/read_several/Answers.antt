@@ -6,7 +6,7 @@ use Rattle.wire_base.proofs.layout.field_reader.read_several.Goals as goal
 pub loop-preserved : goal.loop-preserved
 loop-preserved g c =
     let reading = g.R.FieldReader.reading c.args.reader.now in
-    rw c.in_ok-push.ensures.ok (more reading c.loop.values c.args.count c.loop.counter c.loop.cursor c.read.new.cursor c.in_ok-read.field-0 (several c.args.count reading c.args.cursor.now) c.loop-test.true c.in_ok-read.ensures.field c.loop.invariant)
+    rw c.in_ok-push.ensures.appended (more reading c.loop.values c.args.count c.loop.counter c.loop.cursor c.read.new.cursor c.in_ok-read.field-0 (several c.args.count reading c.args.cursor.now) c.loop-test.true c.in_ok-read.ensures.field c.loop.invariant)
 
 pub returns-in_err-read : goal.returns-in_err-read
 returns-in_err-read g c =

@@ -1,4 +1,5 @@
--- The octets copied so far are those of the turns gone over, and before the first mark come these and those behind them.
+-- The octets copied so far are those of the turns gone over. Before the first mark come these
+-- octets and those after them.
 use Rattle.std.proofs.Common.{◌≡◌, ◌+◌, ◌-◌, ◌≤◌, length, map, take, drop}
 use Rattle.wire_base.specs.InMemory.{octets_ahead, turn_of}
 use Rattle.wire_base.specs.Turns.{turns_of}

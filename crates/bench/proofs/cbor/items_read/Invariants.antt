@@ -1,0 +1,6 @@
+-- Each item takes octets.
+use Rattle.std.proofs.Common.{length}
+use Rattle.bench.proofs.cbor.items_read.Given as goal
+
+abbrev pub decreases-loop-rest : goal.decreases-loop-rest
+decreases-loop-rest l = length l.rest

@@ -1,0 +1,160 @@
+//! A book whose log is full.
+
+ghost use Rattle.std.specs.Prelude.{◌≤◌};
+ghost use Rattle.wire_base.specs.Stamp.{IsStamp};
+
+use crate::trouble::Trouble;
+use collector_core::{Answer, Book};
+use std::alloc::Global;
+use swima_model::{Body, Content, Ident, Kind, Locator, Model, Report};
+use swima_request::Request;
+use wire_base::{List, TryCopy, is_stamp};
+
+/// How many events the book keeps.
+const KEPT: u32 = 4096;
+
+/// How many events are asked for.
+const EVENTS: u32 = 100;
+
+/// The moment of each change.
+const STAMP: [u8; 20] = *b"2026-02-03T04:05:06Z";
+
+/// The body of each record at first.
+const BODY: [u8; 64] = [0; 64];
+
+/// The body of a record that was altered.
+const OTHER_BODY: [u8; 65] = [0; 65];
+
+/// What is asked of the book.
+#[derive(Clone, Copy)]
+pub(crate) enum Work {
+    /// The inventory of all records.
+    Answer,
+    /// The latest 100 events.
+    Events,
+    /// An alteration of the first record.
+    Change,
+    /// A deletion of the last record, and a creation of another.
+    Last,
+    /// A deletion of the record in the middle, and a creation of another.
+    Middle,
+}
+
+impl Work {
+    /// The work of this name.
+    pub(crate) fn of(name: &str) -> Result<Self, Trouble> {
+        match name {
+            "answer" => Ok(Work::Answer),
+            "events" => Ok(Work::Events),
+            "change" => Ok(Work::Change),
+            "last" => Ok(Work::Last),
+            "middle" => Ok(Work::Middle),
+            _ => Err(Trouble::Words),
+        }
+    }
+}
+
+/// Does the work that many times on a book of that many records, at least 1. It gives the number of
+/// records or events of all answers, or the number of changes.
+pub(crate) fn done(alloc: Global, records: u32, work: Work, times: u32) -> Result<u64, Trouble> {
+    let mut book = book_of(alloc, records)?;
+    alterations(alloc, &mut book, KEPT)?;
+    let count = book.count();
+    match work {
+        Work::Answer => answers(alloc, &book, 0, times),
+        Work::Events => answers(alloc, &book, KEPT - EVENTS + 1, times),
+        Work::Change => alterations(alloc, &mut book, times),
+        Work::Last => exchanges(alloc, &mut book, count, times),
+        Work::Middle => exchanges(alloc, &mut book, count / 2 + 1, times),
+    }
+}
+
+/// A book of that many records.
+fn book_of(alloc: Global, records: u32) -> Result<Book, Trouble> {
+    let one = content(alloc, &BODY)?;
+    let mut base = List::new(alloc);
+    for _ in 0..records {
+        base.push(one.copy()?)?;
+    }
+    Ok(Book::new(alloc, 1, KEPT as usize, base.as_slice())?)
+}
+
+/// A content with this body.
+fn content(alloc: Global, body: &[u8]) -> Result<Content, Trouble> {
+    Ok(Content {
+        model: Model { pen: 0, kind: 2 },
+        source: 1,
+        ident: Ident::new(alloc, b"example.com__org.example.software_1.0")?,
+        locator: Locator::new(alloc, b"/opt/example/software")?,
+        body: Body::new(alloc, body)?,
+    })
+}
+
+/// Alters the first record that many times, and gives how often that was done.
+fn alterations(alloc: Global, book: &mut Book, times: u32) -> Result<u64, Trouble> {
+    let other = content(alloc, &OTHER_BODY)?;
+    let mut done: u64 = 0;
+    for _ in 0..times {
+        alter(book, &other)?;
+        done = done.saturating_add(1);
+    }
+    Ok(done)
+}
+
+/// Alters the first record.
+fn alter(book: &mut Book, content: &Content) -> Result<(), Trouble> {
+    if !is_stamp(&STAMP) {
+        return Err(Trouble::Book);
+    }
+    Ok(book.alter(&STAMP, 1, content)?)
+}
+
+/// Deletes a record and creates another, that many times, and gives how often that was done. The
+/// first that is deleted has this identifier, and each further one the identifier above, so that
+/// each stands at the place of the first.
+fn exchanges(alloc: Global, book: &mut Book, first: u32, times: u32) -> Result<u64, Trouble> {
+    let other = content(alloc, &BODY)?;
+    let mut done: u64 = 0;
+    for further in 0..times {
+        exchange(book, first.saturating_add(further), &other)?;
+        done = done.saturating_add(1);
+    }
+    Ok(done)
+}
+
+/// Deletes the record of this identifier, and creates another.
+fn exchange(book: &mut Book, id: u32, content: &Content) -> Result<(), Trouble> {
+    if !is_stamp(&STAMP) {
+        return Err(Trouble::Book);
+    }
+    book.delete(&STAMP, id)?;
+    book.create(&STAMP, content)?;
+    Ok(())
+}
+
+/// How many records or events that many answers have.
+fn answers(alloc: Global, book: &Book, earliest: u32, times: u32) -> Result<u64, Trouble> {
+    let request = Request {
+        clear: false,
+        subscribe: false,
+        kind: Kind::Full,
+        id: 1,
+        earliest,
+        targets: List::new(alloc),
+    };
+    let mut counted: u64 = 0;
+    for _ in 0..times {
+        counted = counted.saturating_add(count_of(book.answer(&request, u32::MAX))?);
+    }
+    Ok(counted)
+}
+
+/// How many records or events the answer has.
+fn count_of(answer: Answer) -> Result<u64, Trouble> {
+    match answer {
+        Answer::Report(Report::Inventory { records, .. }) => Ok(records.len() as u64),
+        Answer::Report(Report::Events { events, .. }) => Ok(events.len() as u64),
+        Answer::TooLarge { .. } => Err(Trouble::Book),
+        Answer::Memory => Err(Trouble::Memory),
+    }
+}

@@ -1,0 +1,109 @@
+//! Does once what the scripts of `bench/` measure, and prints how much was done. The first word
+//! names the subject, and the file here that has it:
+//!
+//! - `book RECORDS WORK TIMES`: a book of that many records, at least 1; `Work` has the works;
+//! - `batches SIZE large`, `batches SIZE small`: a feed of one batch of 16 MiB, or of batches of 8
+//!   octets, in pieces of that many octets;
+//! - `cbor read`, `cbor write`, `cbor feed SIZE`: the items on standard input, one after another;
+//! - `links read`, `links check`: the tags on standard input as a list, and the findings on it;
+//! - `tags read`, `tags write`, `tags both`: the tags on standard input, one after another.
+//!
+//! Where nothing is printed, standard error has the reason.
+//!
+//! It stands on `coswid_links`, `coswid_codec`, `coswid_tag`, `cbor_det`, `pb_batch`,
+//! `collector_core`, `swima_request`, `swima_model` and `wire_base`.
+#![tactic(auto)]
+
+mod batches;
+mod book;
+mod cbor;
+mod figures;
+mod links;
+mod reading;
+mod tags;
+mod trouble;
+
+ghost use Rattle.std.specs.Prelude.{◌<◌, IfOk};
+
+use crate::book::Work;
+use crate::figures::Figures;
+use crate::trouble::Trouble;
+use std::env;
+use std::process::ExitCode;
+
+fn main(rt: HostRuntime) -> ExitCode {
+    match run(&rt) {
+        Ok(figures) => match println!(rt; "{figures}") {
+            Ok(()) => ExitCode::SUCCESS,
+            Err(_) => ExitCode::from(3),
+        },
+        Err(trouble) => match eprintln!(rt; "bench: {trouble}") {
+            Ok(()) => ExitCode::FAILURE,
+            Err(_) => ExitCode::from(3),
+        },
+    }
+}
+
+/// What the command line asks for.
+fn run(rt: &HostRuntime) -> Result<Figures, Trouble> {
+    let owned = words(rt)?;
+    let mut words = Vec::new(rt.alloc());
+    for word in &owned {
+        words.push(word.as_str())?;
+    }
+    measured(rt, &words)
+}
+
+/// The words of the command line without the program's name.
+fn words(rt: &HostRuntime) -> Result<Vec<String>, Trouble> {
+    let mut words = Vec::new(rt.alloc());
+    for word in env::args(rt)?.skip(1) {
+        words.push(word)?;
+    }
+    Ok(words)
+}
+
+/// What the words ask for.
+fn measured(rt: &HostRuntime, words: &[&str]) -> Result<Figures, Trouble> {
+    match words {
+        ["tags", "both"] => tags::both(rt),
+        _ => Ok(Figures::One(figure(rt, words)?)),
+    }
+}
+
+/// What the words ask for, where that is one figure.
+fn figure(rt: &HostRuntime, words: &[&str]) -> Result<u64, Trouble> {
+    match words {
+        ["book", records, work, times] => book::done(
+            rt.alloc(),
+            number(records)?,
+            Work::of(work)?,
+            number(times)?,
+        ),
+        ["batches", piece, "large"] => batches::large(rt.alloc(), size(piece)?),
+        ["batches", piece, "small"] => batches::small(rt.alloc(), size(piece)?),
+        ["cbor", "read"] => cbor::read(rt),
+        ["cbor", "write"] => cbor::write(rt),
+        ["cbor", "feed", piece] => cbor::feed(rt, size(piece)?),
+        ["links", "read"] => links::read(rt),
+        ["links", "check"] => links::check(rt),
+        ["tags", "read"] => tags::read(rt),
+        ["tags", "write"] => tags::write(rt),
+        _ => Err(Trouble::Words),
+    }
+}
+
+/// The number that the word spells.
+fn number(word: &str) -> Result<u32, Trouble> {
+    word.parse().ok().ok_or(Trouble::Words)
+}
+
+/// The number of octets that the word spells, at least 1.
+fn size(word: &str) -> Result<usize, Trouble>
+    ensures some { IfOk result (λ octets. 0 < octets) }
+{
+    match word.parse() {
+        Ok(octets) if 0 < octets => Ok(octets),
+        _ => Err(Trouble::Words),
+    }
+}

@@ -1,0 +1,7 @@
+use Rattle.std.proofs.Common.{◌≡◌, take}
+use Rattle.collector_core.specs.Answering.{wanted_records}
+use Rattle.collector_core.specs.Borrowed.{values}
+use Rattle.collector_core.proofs.targets.wanted_records.Given as goal
+
+abbrev pub invariant-loop-held : goal.invariant-loop-held
+invariant-loop-held l = values l.chosen.items ≡ wanted_records l.targets (take l.held-index l.records)

@@ -1,7 +1,0 @@
-use Rattle.std.proofs.Common.{◌≡◌, take}
-use Rattle.collector_core.specs.Answering.{wanted_records}
-use Rattle.collector_core.specs.Borrowed.{values}
-use Rattle.collector_core.proofs.wanted.wanted_records.Given as goal
-
-abbrev pub invariant-loop-held : goal.invariant-loop-held
-invariant-loop-held l = values l.chosen.items ≡ wanted_records l.wanted (take l.held-index l.records)

@@ -1,0 +1,8 @@
+-- A fault of the value is reported from one level further up.
+use Rattle.cbor_det.specs.View.{view}
+use Rattle.coswid_res.specs.Fault.{field_fault}
+use Rattle.coswid_res.specs.Schema.{one}
+use Rattle.coswid_res.proofs.tables.form.read_at.Goals as goal
+
+pub returns-in-Err : goal.returns-in-Err
+returns-in-Err g c = record { told = c.under.ensures.told (field_fault (one g.F.Form.form) (view c.args.item.now)) c.in-Err.ensures.told }

@@ -1,0 +1,132 @@
+//! Evidence: RFC 9393, section 2.9.4.
+
+ghost use Rattle.std.specs.Prelude.{◌≡◌, IfOk};
+ghost use Rattle.cbor_det.specs.View.{view};
+ghost use Rattle.coswid_res.specs.Fault.{field_fault};
+ghost use Rattle.coswid_res.specs.Reading.{Gives};
+ghost use Rattle.coswid_res.specs.Resources.{EvidenceKeys, EvidenceMap};
+ghost use Rattle.coswid_res.specs.ResourceItems.{evidence_pairs, evidence_item};
+ghost use Rattle.coswid_res.specs.Sizes.{EvidenceSizesFit};
+ghost use Rattle.coswid_res.specs.Schema as schema;
+
+use crate::fault::FormRefused;
+use crate::resources::copy_option::copy_option;
+use crate::resources::directory::DirEntries;
+use crate::resources::file::FileEntries;
+use crate::resources::process::ProcessEntries;
+use crate::resources::resource::ResourceEntries;
+use crate::resources::table;
+use crate::tables::form::Form;
+use crate::tables::map_form::{MapForm, Mapped};
+use cbor_det::{Item, Pairs};
+use std::alloc::Global;
+use wire_base::{Memory, Text, TryCopy};
+
+/// What was found of the software on an endpoint.
+#[derive(Debug, Drop)]
+pub struct Evidence {
+    /// Directories, at least one.
+    pub directory: Option<DirEntries>,
+    /// Files, at least one.
+    pub file: Option<FileEntries>,
+    /// Processes, at least one.
+    pub process: Option<ProcessEntries>,
+    /// Other resources, at least one.
+    pub resource: Option<ResourceEntries>,
+    /// Where the tag lies that was made of the evidence, a path.
+    pub location: Option<Text>,
+    /// When it was found, in seconds since 1970 began.
+    pub date: Option<i64>,
+    /// The endpoint on which it was found.
+    pub device_id: Option<Text>,
+    /// The pairs under all other keys.
+    pub extras: Pairs,
+}
+
+impl TryCopy for Evidence {
+    fn copy(&self) -> Result<Self, Memory> {
+        let mut made = Evidence {
+            directory: None,
+            file: None,
+            process: None,
+            resource: None,
+            location: None,
+            date: self.date,
+            device_id: None,
+            extras: self.extras.copy()?,
+        };
+        made.directory = copy_option(&self.directory)?;
+        made.file = copy_option(&self.file)?;
+        made.process = copy_option(&self.process)?;
+        made.resource = copy_option(&self.resource)?;
+        made.location = copy_option(&self.location)?;
+        made.device_id = copy_option(&self.device_id)?;
+        Ok(made)
+    }
+}
+
+/// The table of evidence.
+pub struct EvidenceTable;
+
+impl Mapped for EvidenceTable {
+    type Value = Evidence;
+
+    ghost name = { schema.evidence };
+
+    ghost keys = { EvidenceKeys };
+
+    ghost written = { evidence_pairs };
+
+    ghost fits = { EvidenceSizesFit };
+
+    fn read(alloc: Global, pairs: &Pairs) -> Result<Evidence, FormRefused> {
+        let directory = table::Directory::optional_row(alloc, pairs)?;
+        let file = table::File::optional_row(alloc, pairs)?;
+        let process = table::Process::optional_row(alloc, pairs)?;
+        let resource = table::Resource::optional_row(alloc, pairs)?;
+        let location = table::Location::optional(alloc, pairs)?;
+        let date = table::Date::optional(alloc, pairs)?;
+        let device_id = table::DeviceId::optional(alloc, pairs)?;
+        let extras = pairs.other_than(&table::evidence_keys())?;
+        Ok(Evidence {
+            directory,
+            file,
+            process,
+            resource,
+            location,
+            date,
+            device_id,
+            extras,
+        })
+    }
+
+    fn write(evidence: &Evidence) -> Result<Pairs, Memory> {
+        let mut pairs = evidence.extras.copy()?;
+        table::Directory::put_optional_row(&mut pairs, &evidence.directory)?;
+        table::File::put_optional_row(&mut pairs, &evidence.file)?;
+        table::Process::put_optional_row(&mut pairs, &evidence.process)?;
+        table::Resource::put_optional_row(&mut pairs, &evidence.resource)?;
+        table::Location::put_optional(&mut pairs, &evidence.location)?;
+        table::Date::put_optional(&mut pairs, &evidence.date)?;
+        table::DeviceId::put_optional(&mut pairs, &evidence.device_id)?;
+        Ok(pairs)
+    }
+}
+
+/// The evidence that the item is. `Form` with the first form fault exactly where it is none;
+/// `Memory` where there is no room.
+pub fn evidence_of(alloc: Global, item: &Item) -> Result<Evidence, FormRefused>
+    ensures told { Gives (λ e. EvidenceMap e (view item.now)) (field_fault (schema.one (schema.a_map schema.evidence)) (view item.now)) result }
+{
+    MapForm::<EvidenceTable>::read(alloc, item)
+}
+
+/// The item that the evidence is written as; `Memory` where there is no room. A value that was made
+/// by hand and is read from no item, as one with an empty list or with a listed key among its
+/// extras, is written all the same: no clause then says that the item is in its form.
+pub fn evidence_item(alloc: Global, evidence: &Evidence) -> Result<Item, Memory>
+    requires fits { EvidenceSizesFit evidence.now }
+    ensures written { IfOk result (λ made. view made ≡ evidence_item evidence.now) }
+{
+    MapForm::<EvidenceTable>::write(alloc, evidence)
+}

@@ -1,0 +1,107 @@
+//! Files of a payload or of evidence: RFC 9393, section 2.9.2.
+
+ghost use Rattle.coswid_res.specs.Files.{FileKeys, file_pairs};
+ghost use Rattle.coswid_res.specs.Sizes.{SizeFits};
+ghost use Rattle.coswid_res.specs.Schema as schema;
+
+use crate::fault::FormRefused;
+use crate::resources::copy_option::copy_option;
+use crate::resources::hash::HashEntry;
+use crate::resources::table;
+use crate::tables::map_form::Mapped;
+use cbor_det::Pairs;
+use std::alloc::Global;
+use wire_base::{List, Memory, Text, TryCopy};
+
+/// Files in order.
+pub type FileEntries = List<FileEntry>;
+
+/// A file.
+#[derive(Debug, Drop)]
+pub struct FileEntry {
+    /// The hash of its octets.
+    pub hash: Option<HashEntry>,
+    /// How many octets it has.
+    pub size: Option<u64>,
+    /// Its version, as the system reports it.
+    pub file_version: Option<Text>,
+    /// Whether the software needs it to run.
+    pub key: Option<bool>,
+    /// Where it is expected, a path.
+    pub location: Option<Text>,
+    /// Its name, without a path.
+    pub fs_name: Text,
+    /// What its path begins with on this host.
+    pub root: Option<Text>,
+    /// The pairs under all other keys.
+    pub extras: Pairs,
+}
+
+impl TryCopy for FileEntry {
+    fn copy(&self) -> Result<Self, Memory> {
+        let mut made = FileEntry {
+            hash: None,
+            size: self.size,
+            file_version: None,
+            key: self.key,
+            location: None,
+            fs_name: self.fs_name.copy()?,
+            root: None,
+            extras: self.extras.copy()?,
+        };
+        made.hash = copy_option(&self.hash)?;
+        made.file_version = copy_option(&self.file_version)?;
+        made.location = copy_option(&self.location)?;
+        made.root = copy_option(&self.root)?;
+        Ok(made)
+    }
+}
+
+/// The table of files.
+pub struct FileTable;
+
+impl Mapped for FileTable {
+    type Value = FileEntry;
+
+    ghost name = { schema.file };
+
+    ghost keys = { FileKeys };
+
+    ghost written = { file_pairs };
+
+    ghost fits = { SizeFits };
+
+    fn read(alloc: Global, pairs: &Pairs) -> Result<FileEntry, FormRefused> {
+        table::FsName::expect(alloc, pairs)?;
+        let hash = table::Hash::optional(alloc, pairs)?;
+        let size = table::Size::optional(alloc, pairs)?;
+        let file_version = table::FileVersion::optional(alloc, pairs)?;
+        let key = table::IsKey::optional(alloc, pairs)?;
+        let location = table::Location::optional(alloc, pairs)?;
+        let fs_name = table::FsName::required(alloc, pairs)?;
+        let root = table::Root::optional(alloc, pairs)?;
+        let extras = pairs.other_than(&table::file_keys())?;
+        Ok(FileEntry {
+            hash,
+            size,
+            file_version,
+            key,
+            location,
+            fs_name,
+            root,
+            extras,
+        })
+    }
+
+    fn write(file: &FileEntry) -> Result<Pairs, Memory> {
+        let mut pairs = file.extras.copy()?;
+        table::Hash::put_optional(&mut pairs, &file.hash)?;
+        table::Size::put_optional(&mut pairs, &file.size)?;
+        table::FileVersion::put_optional(&mut pairs, &file.file_version)?;
+        table::IsKey::put_optional(&mut pairs, &file.key)?;
+        table::Location::put_optional(&mut pairs, &file.location)?;
+        table::FsName::put(&mut pairs, &file.fs_name)?;
+        table::Root::put_optional(&mut pairs, &file.root)?;
+        Ok(pairs)
+    }
+}

@@ -1,0 +1,112 @@
+//! Payloads: RFC 9393, section 2.9.3.
+
+ghost use Rattle.std.specs.Prelude.{◌≡◌, IfOk};
+ghost use Rattle.cbor_det.specs.View.{view};
+ghost use Rattle.coswid_res.specs.Fault.{field_fault};
+ghost use Rattle.coswid_res.specs.Reading.{Gives};
+ghost use Rattle.coswid_res.specs.Resources.{PayloadKeys, PayloadMap};
+ghost use Rattle.coswid_res.specs.ResourceItems.{payload_pairs, payload_item};
+ghost use Rattle.coswid_res.specs.Sizes.{PayloadSizesFit};
+ghost use Rattle.coswid_res.specs.Schema as schema;
+
+use crate::fault::FormRefused;
+use crate::resources::copy_option::copy_option;
+use crate::resources::directory::DirEntries;
+use crate::resources::file::FileEntries;
+use crate::resources::process::ProcessEntries;
+use crate::resources::resource::ResourceEntries;
+use crate::resources::table;
+use crate::tables::form::Form;
+use crate::tables::map_form::{MapForm, Mapped};
+use cbor_det::{Item, Pairs};
+use std::alloc::Global;
+use wire_base::{Memory, TryCopy};
+
+/// What the software installs, as the tag's author states it.
+#[derive(Debug, Drop)]
+pub struct Payload {
+    /// Directories, at least one.
+    pub directory: Option<DirEntries>,
+    /// Files, at least one.
+    pub file: Option<FileEntries>,
+    /// Processes, at least one.
+    pub process: Option<ProcessEntries>,
+    /// Other resources, at least one.
+    pub resource: Option<ResourceEntries>,
+    /// The pairs under all other keys.
+    pub extras: Pairs,
+}
+
+impl TryCopy for Payload {
+    fn copy(&self) -> Result<Self, Memory> {
+        let mut made = Payload {
+            directory: None,
+            file: None,
+            process: None,
+            resource: None,
+            extras: self.extras.copy()?,
+        };
+        made.directory = copy_option(&self.directory)?;
+        made.file = copy_option(&self.file)?;
+        made.process = copy_option(&self.process)?;
+        made.resource = copy_option(&self.resource)?;
+        Ok(made)
+    }
+}
+
+/// The table of payloads.
+pub struct PayloadTable;
+
+impl Mapped for PayloadTable {
+    type Value = Payload;
+
+    ghost name = { schema.payload };
+
+    ghost keys = { PayloadKeys };
+
+    ghost written = { payload_pairs };
+
+    ghost fits = { PayloadSizesFit };
+
+    fn read(alloc: Global, pairs: &Pairs) -> Result<Payload, FormRefused> {
+        let directory = table::Directory::optional_row(alloc, pairs)?;
+        let file = table::File::optional_row(alloc, pairs)?;
+        let process = table::Process::optional_row(alloc, pairs)?;
+        let resource = table::Resource::optional_row(alloc, pairs)?;
+        let extras = pairs.other_than(&table::payload_keys())?;
+        Ok(Payload {
+            directory,
+            file,
+            process,
+            resource,
+            extras,
+        })
+    }
+
+    fn write(payload: &Payload) -> Result<Pairs, Memory> {
+        let mut pairs = payload.extras.copy()?;
+        table::Directory::put_optional_row(&mut pairs, &payload.directory)?;
+        table::File::put_optional_row(&mut pairs, &payload.file)?;
+        table::Process::put_optional_row(&mut pairs, &payload.process)?;
+        table::Resource::put_optional_row(&mut pairs, &payload.resource)?;
+        Ok(pairs)
+    }
+}
+
+/// The payload that the item is. `Form` with the first form fault exactly where it is none;
+/// `Memory` where there is no room.
+pub fn payload_of(alloc: Global, item: &Item) -> Result<Payload, FormRefused>
+    ensures told { Gives (λ p. PayloadMap p (view item.now)) (field_fault (schema.one (schema.a_map schema.payload)) (view item.now)) result }
+{
+    MapForm::<PayloadTable>::read(alloc, item)
+}
+
+/// The item that the payload is written as; `Memory` where there is no room. A value that was made
+/// by hand and is read from no item, as one with an empty list or with a listed key among its
+/// extras, is written all the same: no clause then says that the item is in its form.
+pub fn payload_item(alloc: Global, payload: &Payload) -> Result<Item, Memory>
+    requires fits { PayloadSizesFit payload.now }
+    ensures written { IfOk result (λ made. view made ≡ payload_item payload.now) }
+{
+    MapForm::<PayloadTable>::write(alloc, payload)
+}

@@ -1,0 +1,70 @@
+//! Processes of a payload or of evidence: RFC 9393, section 2.9.2.
+
+ghost use Rattle.coswid_res.specs.Resources.{ProcessKeys};
+ghost use Rattle.coswid_res.specs.ResourceItems.{process_pairs};
+ghost use Rattle.coswid_res.specs.Schema as schema;
+
+use crate::fault::FormRefused;
+use crate::resources::table;
+use crate::tables::map_form::Mapped;
+use cbor_det::Pairs;
+use std::alloc::Global;
+use wire_base::{List, Memory, Text, TryCopy};
+
+/// Processes in order.
+pub type ProcessEntries = List<ProcessEntry>;
+
+/// A process.
+#[derive(Debug, Drop)]
+pub struct ProcessEntry {
+    /// Its name, as a list of processes shows it.
+    pub process_name: Text,
+    /// Its number.
+    pub pid: Option<i64>,
+    /// The pairs under all other keys.
+    pub extras: Pairs,
+}
+
+impl TryCopy for ProcessEntry {
+    fn copy(&self) -> Result<Self, Memory> {
+        Ok(ProcessEntry {
+            process_name: self.process_name.copy()?,
+            pid: self.pid,
+            extras: self.extras.copy()?,
+        })
+    }
+}
+
+/// The table of processes.
+pub struct ProcessTable;
+
+impl Mapped for ProcessTable {
+    type Value = ProcessEntry;
+
+    ghost name = { schema.process };
+
+    ghost keys = { ProcessKeys };
+
+    ghost written = { process_pairs };
+
+    ghost fits = { λ v. Unit {0} };
+
+    fn read(alloc: Global, pairs: &Pairs) -> Result<ProcessEntry, FormRefused> {
+        table::ProcessName::expect(alloc, pairs)?;
+        let process_name = table::ProcessName::required(alloc, pairs)?;
+        let pid = table::Pid::optional(alloc, pairs)?;
+        let extras = pairs.other_than(&table::process_keys())?;
+        Ok(ProcessEntry {
+            process_name,
+            pid,
+            extras,
+        })
+    }
+
+    fn write(process: &ProcessEntry) -> Result<Pairs, Memory> {
+        let mut pairs = process.extras.copy()?;
+        table::ProcessName::put(&mut pairs, &process.process_name)?;
+        table::Pid::put_optional(&mut pairs, &process.pid)?;
+        Ok(pairs)
+    }
+}

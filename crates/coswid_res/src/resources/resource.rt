@@ -1,0 +1,65 @@
+//! Resources of a payload or of evidence that are neither directories nor files nor processes:
+//! RFC 9393, section 2.9.2.
+
+ghost use Rattle.coswid_res.specs.Resources.{ResourceKeys};
+ghost use Rattle.coswid_res.specs.ResourceItems.{resource_pairs};
+ghost use Rattle.coswid_res.specs.Schema as schema;
+
+use crate::fault::FormRefused;
+use crate::resources::table;
+use crate::tables::map_form::Mapped;
+use cbor_det::Pairs;
+use std::alloc::Global;
+use wire_base::{List, Memory, Text, TryCopy};
+
+/// Resources in order.
+pub type ResourceEntries = List<ResourceEntry>;
+
+/// A resource.
+#[derive(Debug, Drop)]
+pub struct ResourceEntry {
+    /// What kind of resource it is.
+    pub resource_type: Text,
+    /// The pairs under all other keys.
+    pub extras: Pairs,
+}
+
+impl TryCopy for ResourceEntry {
+    fn copy(&self) -> Result<Self, Memory> {
+        Ok(ResourceEntry {
+            resource_type: self.resource_type.copy()?,
+            extras: self.extras.copy()?,
+        })
+    }
+}
+
+/// The table of resources.
+pub struct ResourceTable;
+
+impl Mapped for ResourceTable {
+    type Value = ResourceEntry;
+
+    ghost name = { schema.resource };
+
+    ghost keys = { ResourceKeys };
+
+    ghost written = { resource_pairs };
+
+    ghost fits = { λ v. Unit {0} };
+
+    fn read(alloc: Global, pairs: &Pairs) -> Result<ResourceEntry, FormRefused> {
+        table::ResourceType::expect(alloc, pairs)?;
+        let resource_type = table::ResourceType::required(alloc, pairs)?;
+        let extras = pairs.other_than(&table::resource_keys())?;
+        Ok(ResourceEntry {
+            resource_type,
+            extras,
+        })
+    }
+
+    fn write(resource: &ResourceEntry) -> Result<Pairs, Memory> {
+        let mut pairs = resource.extras.copy()?;
+        table::ResourceType::put(&mut pairs, &resource.resource_type)?;
+        Ok(pairs)
+    }
+}

@@ -1,0 +1,86 @@
+//! One or more values: an array of them, or one alone.
+
+ghost use Rattle.std.specs.Prelude.{◌≡◌, ◌<◌, ◌≢◌, ◌^◌, IfOk, [], map};
+ghost use Rattle.std.specs.List.{All};
+ghost use Rattle.cbor_det.specs.Term.{array};
+ghost use Rattle.cbor_det.specs.View.{view, terms_of};
+ghost use Rattle.coswid_res.specs.Fault.{elements_fault, field_fault, under};
+ghost use Rattle.coswid_res.specs.Items.{row_item};
+ghost use Rattle.coswid_res.specs.Reading.{Gives};
+ghost use Rattle.coswid_res.specs.Schema.{one_or_more};
+ghost use Rattle.coswid_res.specs.Words.{Each, OneOrMore};
+
+use crate::fault::{FormRefused, WRONG_FORM};
+use crate::tables::form::{Form, read_at};
+use cbor_det::Item;
+use std::alloc::Global;
+use wire_base::{List, Memory};
+
+/// One or more values at the key `place`, with their faults reported from the map's level.
+pub(crate) fn read_row_at<F: Form>(
+    alloc: Global,
+    place: u64,
+    item: &Item,
+) -> Result<List<F::Value>, FormRefused>
+    requires { place < 2 ^ 63 }
+    ensures told { Gives (λ vs. OneOrMore F.is vs (view item.now)) (under place (field_fault (one_or_more F.form) (view item.now))) result }
+{
+    match read_row::<F>(alloc, item) {
+        Ok(values) => Ok(values),
+        Err(refused) => Err(refused.under(place)),
+    }
+}
+
+/// One value, or those of an array that is not empty.
+fn read_row<F: Form>(alloc: Global, item: &Item) -> Result<List<F::Value>, FormRefused>
+    ensures told { Gives (λ vs. OneOrMore F.is vs (view item.now)) (field_fault (one_or_more F.form) (view item.now)) result }
+{
+    match item {
+        Item::Array(items) => {
+            if items.is_empty() {
+                return Err(FormRefused::here(alloc, WRONG_FORM));
+            }
+            read_elements::<F>(alloc, items.as_slice())
+        }
+        _ => {
+            let mut values = List::new(alloc);
+            values.push(F::read(alloc, item)?)?;
+            Ok(values)
+        }
+    }
+}
+
+/// The values of an array; its first fault is that of its first element that has one.
+fn read_elements<F: Form>(alloc: Global, items: &[Item]) -> Result<List<F::Value>, FormRefused>
+    ensures told { Gives (λ vs. Each F.is vs (terms_of (map view items.now))) (elements_fault F.form 0 (terms_of (map view items.now))) result }
+{
+    let mut values = List::new(alloc);
+    for place in 0..items.len() {
+        values.push(read_at::<F>(alloc, place as u64, &items[place])?)?;
+    }
+    Ok(values)
+}
+
+/// The value alone where there is one, and else an array of all.
+pub(crate) fn write_row<F: Form>(alloc: Global, values: &List<F::Value>) -> Result<Item, Memory>
+    requires fits { All F.fits values.now }
+    ensures written { IfOk result (λ made. view made ≡ row_item (map F.written values.now)) }
+{
+    let slice = values.as_slice();
+    if slice.len() == 1 {
+        return F::write(alloc, &slice[0]);
+    }
+    write_all::<F>(alloc, slice)
+}
+
+/// An array of the values.
+fn write_all<F: Form>(alloc: Global, values: &[F::Value]) -> Result<Item, Memory>
+    requires fits { All F.fits values.now }
+    ensures written { IfOk result (λ made. view made ≡ array (terms_of (map F.written values.now))) }
+{
+    let mut items = List::new(alloc);
+    for value in values {
+        items.push(F::write(alloc, value)?)?;
+    }
+    Ok(Item::Array(items))
+}

@@ -1,0 +1,244 @@
+//! The forms of single values.
+
+ghost use Rattle.coswid_res.specs.Items.{unsigned_item, uri_item, time_item, hash_item};
+ghost use Rattle.coswid_res.specs.Schema.{a_text, a_boolean, an_integer, an_unsigned, a_uri, a_time, a_hash};
+ghost use Rattle.coswid_res.specs.Words.{Text as IsText, Boolean, Integer, Unsigned, Uri, Time, Hash};
+ghost use Rattle.std.specs.Prelude.{◌≡◌, ◌<◌, ◌^◌, map};
+ghost use Rattle.cbor_det.specs.Term.{text, integer, boolean, octets, term, no_terms};
+ghost use Rattle.cbor_det.specs.View.{view, terms_of};
+ghost use Rattle.coswid_res.specs.Fault.{under, unless_wrong, is_integer, is_octets, hash_fault};
+ghost use Rattle.coswid_res.specs.Reading.{Gives};
+
+use crate::fault::{FormRefused, WRONG_FORM};
+use crate::resources::hash::HashEntry;
+use crate::tables::form::Form;
+use cbor_det::{Item, Items};
+use std::alloc::Global;
+use wire_base::{Boxed, List, Memory, Octets, Text, TryCopy};
+
+/// A text.
+pub struct TextForm;
+
+impl Form for TextForm {
+    type Value = Text;
+
+    ghost form = { a_text };
+
+    ghost is = { IsText };
+
+    ghost written = { text };
+
+    ghost fits = { λ v. Unit {0} };
+
+    fn read(alloc: Global, item: &Item) -> Result<Text, FormRefused> {
+        match item {
+            Item::Text(text) => Ok(text.copy()?),
+            _ => Err(FormRefused::here(alloc, WRONG_FORM)),
+        }
+    }
+
+    fn write(_alloc: Global, value: &Text) -> Result<Item, Memory> {
+        Ok(Item::Text(value.copy()?))
+    }
+}
+
+/// False or true.
+pub struct BoolForm;
+
+impl Form for BoolForm {
+    type Value = bool;
+
+    ghost form = { a_boolean };
+
+    ghost is = { Boolean };
+
+    ghost written = { boolean };
+
+    ghost fits = { λ v. Unit {0} };
+
+    fn read(alloc: Global, item: &Item) -> Result<bool, FormRefused> {
+        match item {
+            Item::Bool(value) => Ok(*value),
+            _ => Err(FormRefused::here(alloc, WRONG_FORM)),
+        }
+    }
+
+    fn write(_alloc: Global, value: &bool) -> Result<Item, Memory> {
+        Ok(Item::Bool(*value))
+    }
+}
+
+/// An integer.
+pub struct IntForm;
+
+impl Form for IntForm {
+    type Value = i64;
+
+    ghost form = { an_integer };
+
+    ghost is = { Integer };
+
+    ghost written = { integer };
+
+    ghost fits = { λ v. Unit {0} };
+
+    fn read(alloc: Global, item: &Item) -> Result<i64, FormRefused> {
+        match item {
+            Item::Int(number) => Ok(*number),
+            _ => Err(FormRefused::here(alloc, WRONG_FORM)),
+        }
+    }
+
+    fn write(_alloc: Global, value: &i64) -> Result<Item, Memory> {
+        Ok(Item::Int(*value))
+    }
+}
+
+/// An integer that is not below 0. An item holds those below 2^63.
+pub struct UintForm;
+
+impl Form for UintForm {
+    type Value = u64;
+
+    ghost form = { an_unsigned };
+
+    ghost is = { Unsigned };
+
+    ghost written = { unsigned_item };
+
+    ghost fits = { λ n. n < 2 ^ 63 };
+
+    fn read(alloc: Global, item: &Item) -> Result<u64, FormRefused> {
+        match item {
+            Item::Int(number) if *number >= 0 => Ok(*number as u64),
+            _ => Err(FormRefused::here(alloc, WRONG_FORM)),
+        }
+    }
+
+    fn write(_alloc: Global, value: &u64) -> Result<Item, Memory> {
+        Ok(Item::Int(*value as i64))
+    }
+}
+
+/// The tag of a URI (RFC 8949, section 3.4.5.3).
+const URI_TAG: u64 = 32;
+
+/// A URI: a text, under its tag or alone; it is written under its tag. That it is a URI is not
+/// looked at.
+pub struct UriForm;
+
+impl Form for UriForm {
+    type Value = Text;
+
+    ghost form = { a_uri };
+
+    ghost is = { Uri };
+
+    ghost written = { uri_item };
+
+    ghost fits = { λ v. Unit {0} };
+
+    fn read(alloc: Global, item: &Item) -> Result<Text, FormRefused> {
+        match item {
+            Item::Text(_) => TextForm::read(alloc, item),
+            Item::Tag(URI_TAG, content) => TextForm::read(alloc, content.get()),
+            _ => Err(FormRefused::here(alloc, WRONG_FORM)),
+        }
+    }
+
+    fn write(alloc: Global, value: &Text) -> Result<Item, Memory> {
+        let text = Item::Text(value.copy()?);
+        Ok(Item::Tag(URI_TAG, Boxed::new(alloc, text)?))
+    }
+}
+
+/// The tag of a time (RFC 8949, section 3.4.2).
+const TIME_TAG: u64 = 1;
+
+/// A time in seconds since 1970 began: an integer, under its tag or alone; it is written under its
+/// tag.
+pub struct TimeForm;
+
+impl Form for TimeForm {
+    type Value = i64;
+
+    ghost form = { a_time };
+
+    ghost is = { Time };
+
+    ghost written = { time_item };
+
+    ghost fits = { λ v. Unit {0} };
+
+    fn read(alloc: Global, item: &Item) -> Result<i64, FormRefused> {
+        match item {
+            Item::Int(number) => Ok(*number),
+            Item::Tag(TIME_TAG, content) => IntForm::read(alloc, content.get()),
+            _ => Err(FormRefused::here(alloc, WRONG_FORM)),
+        }
+    }
+
+    fn write(alloc: Global, value: &i64) -> Result<Item, Memory> {
+        Ok(Item::Tag(TIME_TAG, Boxed::new(alloc, Item::Int(*value))?))
+    }
+}
+
+/// A hash: an array of its algorithm and its value (RFC 9393, section 2.9.1).
+pub struct HashForm;
+
+impl Form for HashForm {
+    type Value = HashEntry;
+
+    ghost form = { a_hash };
+
+    ghost is = { Hash };
+
+    ghost written = { hash_item };
+
+    ghost fits = { λ v. Unit {0} };
+
+    fn read(alloc: Global, item: &Item) -> Result<HashEntry, FormRefused> {
+        match item {
+            Item::Array(parts) => read_hash(alloc, parts),
+            _ => Err(FormRefused::here(alloc, WRONG_FORM)),
+        }
+    }
+
+    fn write(alloc: Global, value: &HashEntry) -> Result<Item, Memory> {
+        let mut parts = List::new(alloc);
+        parts.push(Item::Int(value.algorithm))?;
+        parts.push(Item::Bytes(value.value.copy()?))?;
+        Ok(Item::Array(parts))
+    }
+}
+
+fn read_hash(alloc: Global, parts: &Items) -> Result<HashEntry, FormRefused>
+    ensures told { Gives (λ h. terms_of (map view parts.now) ≡ term (integer h.algorithm) (term (octets h.value) no_terms)) (hash_fault (terms_of (map view parts.now))) result }
+{
+    if parts.len() != 2 {
+        return Err(FormRefused::here(alloc, WRONG_FORM));
+    }
+    let slice = parts.as_slice();
+    let (first, second) = (&slice[0], &slice[1]);
+    let algorithm = algorithm(alloc, first)?;
+    let value = hash_value(alloc, second)?;
+    Ok(HashEntry { algorithm, value })
+}
+
+fn algorithm(alloc: Global, item: &Item) -> Result<i64, FormRefused>
+    ensures told { Gives (λ z. view item.now ≡ integer z) (under 0 (unless_wrong (is_integer (view item.now)))) result }
+{
+    match item {
+        Item::Int(number) => Ok(*number),
+        _ => Err(FormRefused::at(alloc, WRONG_FORM, 0)),
+    }
+}
+
+fn hash_value(alloc: Global, item: &Item) -> Result<Octets, FormRefused>
+    ensures told { Gives (λ s. view item.now ≡ octets s) (under 1 (unless_wrong (is_octets (view item.now)))) result }
+{
+    match item {
+        Item::Bytes(octets) => Ok(octets.copy()?),
+        _ => Err(FormRefused::at(alloc, WRONG_FORM, 1)),
+    }
+}

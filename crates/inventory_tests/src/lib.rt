@@ -1,0 +1,14 @@
+//! Tests of inventories at both ends: books and mirrors as large as they may be, a book through the
+//! calls of a desk, and what may go to another thread.
+#![tactic(auto)]
+
+#[cfg(test)]
+mod book_limit_tests;
+#[cfg(test)]
+mod books;
+#[cfg(test)]
+mod desk_tests;
+#[cfg(test)]
+mod mirror_limit_tests;
+#[cfg(test)]
+mod thread_tests;

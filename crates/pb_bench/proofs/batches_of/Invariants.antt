@@ -1,6 +1,0 @@
--- Each batch takes octets of the piece.
-use Rattle.std.proofs.Common.{length}
-use Rattle.pb_bench.proofs.batches_of.Given as goal
-
-abbrev pub decreases-loop-rest : goal.decreases-loop-rest
-decreases-loop-rest l = length l.rest

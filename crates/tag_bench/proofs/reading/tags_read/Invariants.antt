@@ -1,6 +1,0 @@
--- Each tag takes octets.
-use Rattle.std.proofs.Common.{length}
-use Rattle.tag_bench.proofs.reading.tags_read.Given as goal
-
-abbrev pub decreases-loop-rest : goal.decreases-loop-rest
-decreases-loop-rest l = length l.rest
