@@ -64,6 +64,9 @@ CHANGED = {
     ]
 }
 
+# A tag of a file that can be no file: the folder that the program runs in.
+FOLDER = Verified(tag("a-folder", {PAYLOAD: {FILE: hashed(".", b"")}}), {})
+
 CASES = {
     "installed": Verified(tag("editor-files", {PAYLOAD: INSTALLED}), FILES),
     "changed": Verified(tag("editor-files", {PAYLOAD: CHANGED}), FILES),

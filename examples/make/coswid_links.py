@@ -1,4 +1,4 @@
-"""What `swid links` prints of tags one after another, by the rules of docs/tags.md and docs/commands.md. Tags are told as values."""
+"""What `swid links` prints of tags one after another, by the rules of docs/rules/tags.md and docs/rules/commands.md. Tags are told as values."""
 
 import uuid
 from dataclasses import dataclass

@@ -1,8 +1,8 @@
 #!/usr/bin/env python3
-"""Writes the example files of this folder, tags/, files/ and links/, each with the words, the output and the status that belong to it.
+"""Writes the example files of ../mirror, ../tags, ../files and ../links, each with the words, the output and the status that belong to it.
 
-Each example of this folder is a kind of mirror and a list of values. `formats.py` says what octets and what output belong
-to them. NAME.patnc has the octets, NAME.args the words after `swid`, NAME.out the output, and NAME.status the status
+Each example of mirror/ is a kind of mirror and a list of values. `formats.py` says what octets and what output belong
+to them. mirror/NAME.patnc has the octets, NAME.args the words after `swid`, NAME.out the output, and NAME.status the status
 where it is not 0. The examples of tags/ are the values of `tag_values.py`, and `coswid.py` says the same of them:
 tags/NAME.coswid has the octets, and tags/NAME.diag says them in words. Those of files/ are the values of `file_values.py`, by
 `coswid_files.py`, and those of links/ the values of `list_values.py`, by `coswid_links.py`. The program is not run.
@@ -21,7 +21,7 @@ import file_values
 import list_values
 import tag_values
 
-HERE = os.path.dirname(os.path.abspath(__file__))
+EXAMPLES_FOLDER = os.path.join(os.path.dirname(os.path.abspath(__file__)), os.pardir)
 
 EXAMPLE_PEN = 32473  # the enterprise number that RFC 5612 keeps for documentation
 
@@ -184,7 +184,7 @@ TAG_EXAMPLES = {
 
 
 def write(name, octets):
-    with open(os.path.join(HERE, name), "wb") as it:
+    with open(os.path.join(EXAMPLES_FOLDER, name), "wb") as it:
         it.write(octets)
 
 
@@ -198,11 +198,12 @@ def write_answer(name, words, output, status):
 def main():
     for name, (kind, parts) in EXAMPLES.items():
         octets, output, status = run(kind, parts)
-        write(f"{name}.patnc", octets)
-        write_answer(name, f"mirror {kind}", output, status)
+        write(f"mirror/{name}.patnc", octets)
+        write_answer(f"mirror/{name}", f"mirror {kind}", output, status)
     for path, content in file_values.FILES.items():
-        os.makedirs(os.path.join(HERE, "files", os.path.dirname(path)), exist_ok=True)
+        os.makedirs(os.path.join(EXAMPLES_FOLDER, "files", os.path.dirname(path)), exist_ok=True)
         write(f"files/{path}", content)
+    write("messages/folder.coswid", coswid.run(file_values.FOLDER)[0])
     for folder, (words, cases) in TAG_EXAMPLES.items():
         for name, case in cases.items():
             octets, notation, output, status = coswid.run(case)

@@ -1,4 +1,4 @@
-"""CoSWID tags (RFC 9393) as items, and what `swid tag` prints of them, by the rules of docs/tags.md and docs/commands.md.
+"""CoSWID tags (RFC 9393) as items, and what `swid tag` prints of them, by the rules of docs/rules/tags.md and docs/rules/commands.md.
 
 A tag is an item of `cbor.py`, a map with the keys below, alone or under their tag. All of it is told from values:
 nothing here runs the program or reads octets back.

@@ -1,0 +1,1 @@
+"$swid" tag verify <folder.coswid

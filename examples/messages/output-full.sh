@@ -1,0 +1,1 @@
+"$swid" mirror ids <../mirror/inventory.patnc >/dev/full
