@@ -1,7 +1,6 @@
 //! Items one after another, read whole, written again, and fed in pieces.
 
-ghost use Rattle.std.specs.Prelude.{◌<◌, ◌≤◌, ℕ, List, IfOk, length};
-ghost use Rattle.cbor_det.specs.Feeding.{HasTaken};
+ghost use Rattle.std.specs.Prelude.{◌<◌, ◌≤◌, IfOk, length};
 ghost use Rattle.cbor_det.specs.Term.{depth};
 ghost use Rattle.cbor_det.specs.View.{view};
 
@@ -82,10 +81,7 @@ fn items_fed(alloc: Global, octets: &[u8], size: usize) -> Result<u64, Trouble>
 }
 
 /// How many items end in the piece.
-fn items_of(feed: &mut CborFeed, piece: &[u8]) -> Result<u64, Trouble>
-    requires taken { (before : List ℕ) × HasTaken feed.old before }
-    ensures taken { IfOk result (λ items. (before : List ℕ) × HasTaken feed.new before) }
-{
+fn items_of(feed: &mut CborFeed, piece: &[u8]) -> Result<u64, Trouble> {
     let mut rest = piece;
     let mut items: u64 = 0;
     while !rest.is_empty() {

@@ -4,7 +4,9 @@ pub mod Order
 pub mod Lengths
 pub mod Completes
 pub mod Told
+pub mod Classes
 pub mod Shown
+pub mod LongHeads
 pub mod Sound
 pub mod Steps
 pub mod Outcome
@@ -21,6 +23,7 @@ pub mod Runs
 pub mod Refusals
 pub mod Standing
 pub mod Fed
+pub mod Feeds
 pub mod Outcomes
 pub mod Adds
 pub mod Under

@@ -40,12 +40,15 @@ module _ (limits : Limits) (input : List ℕ) where
   used_is : (used : ℕ) → used ≤ length front → length front - length (drop used front) ≡ used
   used_is used within = let l = length-drop used front in omega (arith, l)
 
+  pub read_whole : (t : Term) (rest : List ℕ) → AreOctets input → run limits 0 (due top) front ≡ (whole t, rest) → Begins limits input t (length front - length rest)
+  read_whole t rest are e =
+      let P : List ℕ → Type 0 = λ x. Begins limits x t (length front - length rest) in
+      subst P whole_input (whole_begins limits front (drop limits.octets input) rest t (AreOctets-take limits.octets input are) front_short e)
+
   pub read_found : (t : Term) (used : ℕ) → AreOctets input → used ≤ length front → run limits 0 (due top) front ≡ (whole t, drop used front) → Begins limits input t used
   read_found t used are within e =
-      let P : List ℕ → Type 0 = λ x. Begins limits x t (length front - length (drop used front)) in
       let Q : ℕ → Type 0 = λ n. Begins limits input t n in
-      subst Q (used_is used within) (subst P whole_input
-      (whole_begins limits front (drop limits.octets input) (drop used front) t (AreOctets-take limits.octets input are) front_short e))
+      subst Q (used_is used within) (read_whole t (drop used front) are e)
 
   pub read_fault : (k a : ℕ) (rest : List ℕ) → AreOctets input → run limits 0 (due top) front ≡ (faulty k a, rest) → IsFault limits input k a
   read_fault k a rest are e =

@@ -1,13 +1,10 @@
 -- What each state of the machine says of the octets so far.
-use Rattle.std.proofs.Common.{◌≡◌, ◌≢◌, ℕ, zero, suc, ◌+◌, ◌*◌, ◌^◌, ◌<◌, ◌≤◌, ◌⊎◌, List, [], ◌∷◌, ◌++◌, length, refl, sym, ap, ◌∙◌, arith, subst, true, false, Option, Some, None, append_assoc, inl, inr, pos, negsuc}
+use Rattle.std.proofs.Common.{◌≡◌, ℕ, zero, suc, ◌+◌, ◌*◌, ◌^◌, ◌<◌, ◌≤◌, ◌⊎◌, List, [], ◌∷◌, ◌++◌, length, refl, sym, ap, ◌∙◌, arith, subst, true, false, Option, Some, None, append_assoc, inl, inr, pos, negsuc}
 use Rattle.std.specs.Prelude.{nat_lt}
 use Rattle.std.specs.Option.{IfSome}
 use Rattle.std.proofs.lemmas.Str.{IsUtf8-from_is_utf8, is_utf8-from_IsUtf8}
 use Rattle.std.proofs.lemmas.List.{append-nil}
 use Rattle.std.proofs.lemmas.Bool.{cond_both, ltb-true, ltb-false, eqb-true, eqb-false, both_ways}
-use Rattle.wire_base.specs.Numbers.{number_of}
-use Rattle.wire_base.specs.Layout.{AreOctets}
-use Rattle.wire_base.proofs.Spelled.{octets_of-number_of, number_of-below}
 use Rattle.cbor_det.specs.declared.string_kind.StringKind.{StringKind}
 use Rattle.cbor_det.specs.declared.string_kind.StringKind.TheVariants.{ByteString, TextString}
 use Rattle.cbor_det.specs.declared.limits.Limits.{Limits}
@@ -19,51 +16,16 @@ use Rattle.cbor_det.specs.declared.initial.Initial.{Initial}
 use Rattle.cbor_det.specs.declared.initial.Initial.TheVariants.{Item, Break, Float, Simple, Malformed}
 use Rattle.cbor_det.specs.Initial.{number_of_major}
 use Rattle.cbor_det.specs.Term.{Term, Terms, Pairs, integer, array, map, tagged, boolean, no_terms, no_pairs, count, pair_count, plus, depth, terms_depth, pairs_depth}
-use Rattle.cbor_det.specs.Canonical.{canon, direct, one, two, four, eight}
+use Rattle.cbor_det.specs.Canonical.{canon, direct}
 use Rattle.cbor_det.specs.Spelling.{IsHead, stop, opening, major_of, IsPart, string, no_chunks, chunk, Rises, PutsIn, Spelling, Series, PairSeries, unsigned, negative, definite_string, definite_array, indefinite_array, definite_map, indefinite_map, under_tag, is_false, is_true, no_items, item, no_members, member}
 use Rattle.cbor_det.specs.Faults.{Place, top, at_chunk, at_element, at_key, at_value, at_content, height, IsChunkPlace, Admits, AdmitsString, Opens, counted, until_break, MoreAreDue, Upto, start, chunk_due, element_due, key_due, value_due, content_due, IsReserved, IsNeverOpen, TakesBreak, IsMalformed, Shows, malformed, float, simple, range, too_deep, not_utf8, doubled, long_string}
 use Rattle.cbor_det.specs.Machine.{State, due, argument, content, whole, faulty, item_ended, is_full, is_held, insert, filled_array, filled_map, is_part, string_given, string_ended, string_begun, argued, opened, broken, item_begun}
-use Rattle.cbor_det.specs.Standing.{AdmitsHead, InArgument, InContent, BeginsHead, one_more, two_more, four_more, eight_more}
+use Rattle.cbor_det.specs.Standing.{AdmitsHead, InArgument, InContent, BeginsHead}
 use Rattle.cbor_det.proofs.Told.{Tells}
 use Rattle.cbor_det.proofs.Order.{insert_puts, rises_insert, count_puts, depth_puts, held_is, held_not, free_of}
 use Rattle.cbor_det.proofs.Lengths.{count_plus, depth_plus}
 use Rattle.cbor_det.proofs.Completes.{string_depth, string_item, admits_head}
-use Rattle.cbor_det.proofs.Shown.{small_major, long_tells}
-
--- a list of octets, and one more
-pub are_push : (xs : List ℕ) (b : ℕ) → AreOctets xs → b < 256 → AreOctets (xs ++ b ∷ [])
-are_push [] b are small zero = small
-are_push [] b are small (suc i) = omega arith
-are_push (x ∷ xs) b are small zero = are 0
-are_push (x ∷ xs) b are small (suc i) = are_push xs b (λ j. are (suc j)) small i
-
--- the head that some octets of argument make
-pub long_head : (m : Major) (size lead : ℕ) (bs : List ℕ) → BeginsHead m size lead → length bs ≡ size → AreOctets bs → IsHead (number_of_major m) (number_of bs) (lead ∷ bs)
-long_head m size lead bs one_more len are =
-    record { form = one; fits = number_of-below 1 bs len are; is = ap (λ (o : List ℕ). (32 * number_of_major m + 24) ∷ o) (sym (octets_of-number_of 1 bs len are)) }
-long_head m size lead bs two_more len are =
-    record { form = two; fits = number_of-below 2 bs len are; is = ap (λ (o : List ℕ). (32 * number_of_major m + 25) ∷ o) (sym (octets_of-number_of 2 bs len are)) }
-long_head m size lead bs four_more len are =
-    record { form = four; fits = number_of-below 4 bs len are; is = ap (λ (o : List ℕ). (32 * number_of_major m + 26) ∷ o) (sym (octets_of-number_of 4 bs len are)) }
-long_head m size lead bs eight_more len are =
-    record { form = eight; fits = number_of-below 8 bs len are; is = ap (λ (o : List ℕ). (32 * number_of_major m + 27) ∷ o) (sym (octets_of-number_of 8 bs len are)) }
-
--- A head is no break.
-pub no_stop : (b : ℕ) (x : Beginning) → Tells b (Item x) → b ≢ stop
-no_stop b (beginning.Argued m n) t e = let k = small_major m in let lt = t.1 in omega (arith, t.0, lt, e, k)
-no_stop b (beginning.Argument m left) t e = let k = small_major m in let w = long_tells m left b t in omega (arith, w.1, w.2, e, k)
-no_stop b (beginning.Chunks ByteString) t e = omega (arith, t, e)
-no_stop b (beginning.Chunks TextString) t e = omega (arith, t, e)
-no_stop b beginning.Elements t e = omega (arith, t, e)
-no_stop b beginning.Members t e = omega (arith, t, e)
-no_stop b (beginning.Bool false) t e = omega (arith, t, e)
-no_stop b (beginning.Bool true) t e = omega (arith, t, e)
-
-long_some : (m : Major) (left b : ℕ) → BeginsHead m left b → 1 ≤ left
-long_some m left b one_more = omega arith
-long_some m left b two_more = omega arith
-long_some m left b four_more = omega arith
-long_some m left b eight_more = omega arith
+use Rattle.cbor_det.proofs.LongHeads.{no_stop, long_some}
 
 module _ (limits : Limits) where
   abbrev pub Holds : List ℕ → State → Type 0

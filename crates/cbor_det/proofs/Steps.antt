@@ -18,10 +18,11 @@ use Rattle.cbor_det.specs.Spelling.{IsHead, stop, opening, major_of, string, ind
 use Rattle.cbor_det.specs.Faults.{Place, top, at_chunk, at_element, at_key, at_value, at_content, IsNoChunk, Upto, chunk_due, Shows, malformed, IsReserved, IsNeverOpen, major}
 use Rattle.cbor_det.specs.Machine.{State, due, argument, content, whole, faulty, item_ended, string_ended, argued, opened, begun, chunk_begun, string_head, same_kind, step, run, is_over}
 use Rattle.cbor_det.proofs.Told.{Tells, tells}
-use Rattle.cbor_det.proofs.Shown.{long_tells}
+use Rattle.cbor_det.proofs.Classes.{long_tells}
 use Rattle.cbor_det.proofs.Completes.{string_depth, chunks_part, string_item, string_ends}
 use Rattle.cbor_det.specs.Standing.{InArgument, InContent}
-use Rattle.cbor_det.proofs.Sound.{are_push, long_head, no_stop, Holds, moved, item_ended_holds, argued_holds, ended_holds, direct_head, starts_argument, item_holds}
+use Rattle.cbor_det.proofs.LongHeads.{are_push, long_head, no_stop}
+use Rattle.cbor_det.proofs.Sound.{Holds, moved, item_ended_holds, argued_holds, ended_holds, direct_head, starts_argument, item_holds}
 
 same_is : (kind other : StringKind) → same_kind kind other ≡ true → other ≡ kind
 same_is ByteString ByteString e = refl

@@ -1,7 +1,7 @@
 -- Items, and what they are without where they lie in memory.
 use Rattle.std.proofs.Common.{◌≡◌, ℕ, ◌+◌, List, [], ◌∷◌, length, map, refl, sym, ap, ◌∙◌, add-one, rules}
 use Rattle.std.proofs.lemmas.List.{length-map}
-use Rattle.std.proofs.Common.{zero, suc, Some}
+use Rattle.std.proofs.Common.{zero, suc, Option, Some}
 use Rattle.std.specs.Option.{option_map}
 use Rattle.std.specs.Prelude.{slice_get}
 use Rattle.cbor_det.specs.Lookup.{key_at, value_at}
@@ -52,3 +52,12 @@ pub value_found : (xs : List Pair) (place : ℕ) → option_map (λ (p : Pair). 
 value_found [] place = refl
 value_found (x ∷ xs) zero = ap (λ (p : Term × Term). Some p.1) (sym (view_pair x))
 value_found (x ∷ xs) (suc place) = value_found xs place
+
+-- the same of the pair that code found at the place
+pub key_there : {o : Option Pair} (p : pairs.Pairs) (place : ℕ) → o ≡ slice_get (out-Pairs p).pairs place → option_map (λ (q : Pair). view (out-Pair q).key) o ≡ key_at (pairs_view p) place
+key_there p place e =
+    ap (λ (o : Option Pair). option_map (λ (q : Pair). view (out-Pair q).key) o) e ∙ key_found (out-Pairs p).pairs place ∙ ap (λ (ps : Pairs). key_at ps place) (sym (view_pairs p))
+
+pub value_there : {o : Option Pair} (p : pairs.Pairs) (place : ℕ) → o ≡ slice_get (out-Pairs p).pairs place → option_map (λ (q : Pair). view (out-Pair q).value) o ≡ value_at (pairs_view p) place
+value_there p place e =
+    ap (λ (o : Option Pair). option_map (λ (q : Pair). view (out-Pair q).value) o) e ∙ value_found (out-Pairs p).pairs place ∙ ap (λ (ps : Pairs). value_at ps place) (sym (view_pairs p))

@@ -12,6 +12,7 @@ use crate::item::Item;
 use crate::limits::Limits;
 use crate::piece::{PieceOutcome, read_on};
 use std::alloc::Global;
+use std::marker::Model;
 use std::mem;
 
 /// What a feed answers for a piece.
@@ -54,20 +55,30 @@ pub struct CborFeed {
     taken: u64,
     stack: Vec<Frame>,
     progress: Progress,
-    ghost small: { limits.octets ≤ 2 ^ 24 },
-    ghost room: { taken ≤ limits.octets },
+}
+
+impl Model for CborFeed {
+    ghost use Rattle.cbor_det.specs.Feeding.{Feed, IsKept, feed_coded};
+
+    ghost Value = { Feed };
+
+    ghost coded = { feed_coded };
+
+    ghost view = { λ feed. record { limits = feed.limits; taken = feed.taken; frames = feed.stack.items; progress = feed.progress } };
+
+    ghost invariant = { λ feed. IsKept (record { limits = feed.limits; taken = feed.taken; frames = feed.stack.items; progress = feed.progress }) };
 }
 
 impl CborFeed {
     ghost use Rattle.cbor_det.specs.Standing.{Stands};
-    ghost use Rattle.cbor_det.specs.Feeding.{HasFailed, HasTaken, IsFed, IsMemory, IsReleased, IsSpent, limits_of};
+    ghost use Rattle.cbor_det.specs.Feeding.{HasFailed, HasSome, HasTaken, IsFed, IsMemory, IsReleased, IsReleasedAt, IsSpent, TakesSome};
 
     /// A feed of items within the limits. It takes no memory.
     pub fn new(alloc: Global, limits: Limits) -> Self
         requires octets { limits.octets ≤ 2 ^ 24 }
         requires depth { limits.depth ≤ 64 }
         ensures taken { HasTaken result [] }
-        ensures limits { limits_of result ≡ limits }
+        ensures limits { result.limits ≡ limits }
         ensures released { IsReleased result }
     {
         CborFeed {
@@ -82,16 +93,26 @@ impl CborFeed {
     /// item, whatever the pieces were. After a fault or running out of memory it holds nothing of
     /// the item.
     pub fn feed(&mut self, piece: &[u8]) -> CborFed
-        ensures fed { (before : List ℕ) → HasTaken self.old before → IsFed (limits_of self.old) before piece.now result self.new }
+        ensures fed { (before : List ℕ) → HasTaken self.old before → IsFed self.old.limits before piece.now result self.new }
+        ensures within { TakesSome result piece.now }
         ensures stays { (f : CborFault) → HasFailed self.old f → (result ≡ fed.Fault f) × HasFailed self.new f }
         ensures spent { IsSpent self.old → IsMemory result × IsSpent self.new }
-        ensures released { IsReleased self.old → IsReleased self.new }
-        ensures limits { limits_of self.new ≡ limits_of self.old }
+        ensures some { HasSome self.new }
+        ensures released { IsReleased self.new }
+        ensures limits { self.new.limits ≡ self.old.limits }
     {
         match mem::replace(&mut self.progress, Progress::OutOfMemory) {
             Progress::Reading(reading) => {
                 let Reading { phase } = reading;
-                self.read(phase, piece)
+                let (progress, answer) = Self::read_next(
+                    self.limits,
+                    &mut self.taken,
+                    &mut self.stack,
+                    phase,
+                    piece,
+                );
+                self.progress = progress;
+                answer
             }
             Progress::Failed(fault) => {
                 self.progress = Progress::Failed(fault);
@@ -101,45 +122,47 @@ impl CborFeed {
         }
     }
 
-    /// Takes the next piece, where `phase` is what is read. The feed stands as one that is out of
-    /// memory.
-    fn read(&mut self, phase: Phase, piece: &[u8]) -> CborFed
+    /// Reads a piece after `taken` octets of the item, where `phase` is what is read: how far the
+    /// feed is then, and what it answers.
+    fn read_next(
+        limits: Limits,
+        taken: &mut u64,
+        stack: &mut Vec<Frame>,
+        phase: Phase,
+        piece: &[u8],
+    ) -> (Progress, CborFed)
+        requires small { limits.octets ≤ 2 ^ 24 }
+        requires room { taken.old ≤ limits.octets }
         requires fits { Fits phase }
-        requires spent { IsSpent self.old }
-        ensures fed { (before : List ℕ) → Stands self.old.limits self.old.stack.items phase self.old.taken before → IsFed (limits_of self.old) before piece.now result self.new }
-        ensures released { IsReleased self.new }
-        ensures limits { limits_of self.new ≡ limits_of self.old }
+        ensures fed { (before : List ℕ) → Stands limits stack.old.items phase taken.old before
+            → IsFed limits before piece.now result.1 (record { limits = limits; taken = taken.new; frames = stack.new.items; progress = result.0 }) }
+        ensures room { taken.new ≤ limits.octets }
+        ensures released { IsReleasedAt result.0 stack.new.items }
     {
-        let alloc = *self.stack.allocator();
-        let read = read_on(
-            alloc,
-            self.limits,
-            self.taken,
-            &mut self.stack,
-            phase,
-            piece,
-        );
+        let alloc = *stack.allocator();
+        let read = read_on(alloc, limits, *taken, stack, phase, piece);
         match read {
             Err(_) => {
-                self.stack.clear();
-                CborFed::Memory
+                stack.clear();
+                (Progress::OutOfMemory, CborFed::Memory)
             }
             Ok(came) => match came {
-                PieceOutcome::More(phase, taken) => {
-                    self.taken = taken;
-                    self.progress = Progress::Reading(Reading { phase });
-                    CborFed::More
+                PieceOutcome::More(phase, count) => {
+                    *taken = count;
+                    (Progress::Reading(Reading { phase }), CborFed::More)
                 }
                 PieceOutcome::Done(item, used) => {
-                    self.taken = 0;
-                    self.stack.clear();
-                    self.progress = Progress::Reading(Reading { phase: Phase::Due });
-                    CborFed::Done(item, used)
+                    *taken = 0;
+                    stack.clear();
+                    let phase = Phase::Due;
+                    (
+                        Progress::Reading(Reading { phase }),
+                        CborFed::Done(item, used),
+                    )
                 }
                 PieceOutcome::Fault(found) => {
-                    self.stack.clear();
-                    self.progress = Progress::Failed(found);
-                    CborFed::Fault(found)
+                    stack.clear();
+                    (Progress::Failed(found), CborFed::Fault(found))
                 }
             },
         }

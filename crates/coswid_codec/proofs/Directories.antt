@@ -29,7 +29,8 @@ use Rattle.coswid_codec.proofs.Lawful.{Told, Lawful, MapTold, MapLawful, under_n
 use Rattle.coswid_codec.proofs.Lines.{lines_of, required_again, required_same, required_some, optional_again, optional_same, optional_some, again_by, pairs_told, map_law}
 use Rattle.coswid_codec.proofs.Plain.{boolean_law, text_law}
 use Rattle.coswid_codec.proofs.Several.{array_told, one_told, filled, several_law}
-use Rattle.coswid_codec.proofs.Tables.{Entry, fills, Facts, made, required_entry, optional_entry, required_fact, optional_fact, told_fact, under_within}
+use Rattle.coswid_codec.proofs.Facts.{Entry, fills, Facts, required_entry, optional_entry, required_fact, optional_fact, told_fact, under_within}
+use Rattle.coswid_codec.proofs.Tables.{made}
 
 -- What is known of a directory in an item, of what one holds, and of several.
 

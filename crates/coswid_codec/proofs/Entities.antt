@@ -16,7 +16,8 @@ use Rattle.coswid_codec.proofs.Lawful.{Lawful, MapTold, MapLawful}
 use Rattle.coswid_codec.proofs.Lines.{lines_of, required_again, required_same, required_some, optional_again, optional_same, optional_some, map_law}
 use Rattle.coswid_codec.proofs.Plain.{hash_law, text_law, uri_law}
 use Rattle.coswid_codec.proofs.Codes.{codes_law}
-use Rattle.coswid_codec.proofs.Tables.{Entry, Facts, made, required_entry, optional_entry, required_fact, optional_fact}
+use Rattle.coswid_codec.proofs.Facts.{Entry, Facts, required_entry, optional_entry, required_fact, optional_fact}
+use Rattle.coswid_codec.proofs.Tables.{made}
 use Rattle.coswid_codec.proofs.Several.{several_law}
 
 abbrev entries : Entity → List Entry

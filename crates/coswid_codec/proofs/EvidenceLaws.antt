@@ -20,7 +20,8 @@ use Rattle.coswid_codec.proofs.Resources.{resources_law}
 use Rattle.coswid_codec.proofs.Extras.{extras_some, extras_same}
 use Rattle.coswid_codec.proofs.Lawful.{Lawful, MapTold, MapLawful}
 use Rattle.coswid_codec.proofs.Lines.{lines_of, optional_again, optional_same, optional_some, map_law}
-use Rattle.coswid_codec.proofs.Tables.{Entry, Facts, made, optional_entry, optional_fact}
+use Rattle.coswid_codec.proofs.Facts.{Entry, Facts, optional_entry, optional_fact}
+use Rattle.coswid_codec.proofs.Tables.{made}
 
 abbrev entries : Evidence → List Entry
 entries e =

@@ -5,6 +5,7 @@ pub mod Directories
 pub mod Entities
 pub mod EvidenceLaws
 pub mod Extras
+pub mod Facts
 pub mod Fields
 pub mod Files
 pub mod Later
@@ -15,6 +16,7 @@ pub mod Links
 pub mod Metas
 pub mod Outcomes
 pub mod Payloads
+pub mod Placed
 pub mod Plain
 pub mod Processes
 pub mod Resources

@@ -10,7 +10,7 @@ use Rattle.coswid_res.specs.Schema.{Name, table, Line, Field, one, a_map, requir
 use Rattle.coswid_res.specs.Words.{Agree, RequiredAt, OptionalAt, IsMap}
 use Rattle.coswid_res.proofs.Maps.{or_none, map_told}
 use Rattle.coswid_codec.proofs.Lawful.{Told, Lawful, MapTold, MapLawful, next, next_less, under_none, wrong}
-use Rattle.coswid_codec.proofs.Tables.{there, agree_told}
+use Rattle.coswid_codec.proofs.Facts.{there, agree_told}
 
 -- read again from what is written
 

@@ -15,7 +15,8 @@ use Rattle.coswid_codec.proofs.Several.{several_law}
 use Rattle.coswid_codec.proofs.Extras.{extras_some, extras_same}
 use Rattle.coswid_codec.proofs.Lawful.{Lawful, MapTold, MapLawful}
 use Rattle.coswid_codec.proofs.Lines.{lines_of, required_again, required_same, required_some, optional_again, optional_same, optional_some, map_law}
-use Rattle.coswid_codec.proofs.Tables.{Entry, Facts, made, required_entry, required_fact, optional_entry, optional_fact}
+use Rattle.coswid_codec.proofs.Facts.{Entry, Facts, required_entry, required_fact, optional_entry, optional_fact}
+use Rattle.coswid_codec.proofs.Tables.{made}
 
 abbrev entries : ProcessEntry → List Entry
 entries p =

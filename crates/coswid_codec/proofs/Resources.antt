@@ -15,7 +15,8 @@ use Rattle.coswid_codec.proofs.Several.{several_law}
 use Rattle.coswid_codec.proofs.Extras.{extras_some, extras_same}
 use Rattle.coswid_codec.proofs.Lawful.{Lawful, MapTold, MapLawful}
 use Rattle.coswid_codec.proofs.Lines.{lines_of, required_again, required_same, required_some, map_law}
-use Rattle.coswid_codec.proofs.Tables.{Entry, Facts, made, required_entry, required_fact}
+use Rattle.coswid_codec.proofs.Facts.{Entry, Facts, required_entry, required_fact}
+use Rattle.coswid_codec.proofs.Tables.{made}
 
 abbrev entries : ResourceEntry → List Entry
 entries r =

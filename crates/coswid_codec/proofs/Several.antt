@@ -1,5 +1,5 @@
 -- One or more values of a form, an array of them or one alone.
-use Rattle.std.proofs.Common.{◌≡◌, ◌≢◌, ◌≤◌, ℕ, ◌+◌, ◌-◌, List, [], ◌∷◌, map as map_list, Option, None, refl, sym, ap, ◌∙◌, arith}
+use Rattle.std.proofs.Common.{◌≡◌, ◌≢◌, ◌≤◌, ℕ, ◌+◌, ◌-◌, List, [], ◌∷◌, map as map_list, Option, None, refl, sym, ap, ◌∙◌, subst, arith}
 use Rattle.cbor_det.specs.Term.{Term, Terms, integer, octets, text, array, map, tagged, boolean, no_terms, term, count, depth, terms_depth}
 use Rattle.cbor_det.specs.View.{terms_of}
 use Rattle.cbor_det.specs.Proper.{AreProper}
@@ -153,75 +153,54 @@ module _ {A : Type 0} (form : Form) (Is : A → Term → Type 0) (item : A → T
       let rest = each_some ts (i + 1) both.1 in
       (first.0 ∷ rest.0, (first.1, rest.1))
 
-  several_told : (vs : List A) (t : Term) → OneOrMore Is vs t → Told (one_or_more form) (OneOrMore Is) (λ us. row_item (items_of us)) (next least) vs t
-  several_told vs (array ts) is = array_told form Is item least plain vs ts is.0 (each_told vs ts is.1)
-  several_told (v ∷ []) (integer z) is = lone v (integer z) refl is
-  several_told (v ∷ []) (octets s) is = lone v (octets s) refl is
-  several_told (v ∷ []) (text s) is = lone v (text s) refl is
-  several_told (v ∷ []) (map ps) is = lone v (map ps) refl is
-  several_told (v ∷ []) (tagged n t) is = lone v (tagged n t) refl is
-  several_told (v ∷ []) (boolean b) is = lone v (boolean b) refl is
-  several_told [] (integer z) is = absurd is
-  several_told [] (octets s) is = absurd is
-  several_told [] (text s) is = absurd is
-  several_told [] (map ps) is = absurd is
-  several_told [] (tagged n t) is = absurd is
-  several_told [] (boolean b) is = absurd is
-  several_told (v ∷ w ∷ vs) (integer z) is = absurd is
-  several_told (v ∷ w ∷ vs) (octets s) is = absurd is
-  several_told (v ∷ w ∷ vs) (text s) is = absurd is
-  several_told (v ∷ w ∷ vs) (map ps) is = absurd is
-  several_told (v ∷ w ∷ vs) (tagged n t) is = absurd is
-  several_told (v ∷ w ∷ vs) (boolean b) is = absurd is
-
   -- What is no array is read as one value alone.
   abbrev Single : Term → Type 0
   Single t = (vs : List A) → OneOrMore Is vs t → (v : A) × (vs ≡ v ∷ []) × Is v t
 
-  single_same : (t : Term) → Single t → (vs ws : List A) → OneOrMore Is vs t → OneOrMore Is ws t → vs ≡ ws
-  single_same t single vs ws first second =
-      let a = single vs first in
-      let b = single ws second in
+  by_length : (t : Term) → (OneOrMore Is [] t → ⊥) → ((v : A) → OneOrMore Is (v ∷ []) t → Is v t) → ((v w : A) (vs : List A) → OneOrMore Is (v ∷ w ∷ vs) t → ⊥) → Single t
+  by_length t none only more [] is = absurd (none is)
+  by_length t none only more (v ∷ []) is = (v, refl, only v is)
+  by_length t none only more (v ∷ w ∷ vs) is = absurd (more v w vs is)
+
+  single : (t : Term) → IsAlone t → Single t
+  single (array ts) no_array = absurd no_array
+  single (integer z) no_array = by_length (integer z) (λ e. e) (λ v is. is) (λ v w vs e. e)
+  single (octets s) no_array = by_length (octets s) (λ e. e) (λ v is. is) (λ v w vs e. e)
+  single (text s) no_array = by_length (text s) (λ e. e) (λ v is. is) (λ v w vs e. e)
+  single (map ps) no_array = by_length (map ps) (λ e. e) (λ v is. is) (λ v w vs e. e)
+  single (tagged n t) no_array = by_length (tagged n t) (λ e. e) (λ v is. is) (λ v w vs e. e)
+  single (boolean b) no_array = by_length (boolean b) (λ e. e) (λ v is. is) (λ v w vs e. e)
+
+  single_told : (vs : List A) (t : Term) → IsAlone t → field_fault (one_or_more form) t ≡ field_fault (one form) t → OneOrMore Is vs t
+      → Told (one_or_more form) (OneOrMore Is) (λ us. row_item (items_of us)) (next least) vs t
+  single_told vs t no_array alike is =
+      let found = single t no_array vs is in
+      let P : List A → Type 0 = λ us. Told (one_or_more form) (OneOrMore Is) (λ ws. row_item (items_of ws)) (next least) us t in
+      subst P (sym found.1) (lone found.0 t alike found.2)
+
+  several_told : (vs : List A) (t : Term) → OneOrMore Is vs t → Told (one_or_more form) (OneOrMore Is) (λ us. row_item (items_of us)) (next least) vs t
+  several_told vs (array ts) is = array_told form Is item least plain vs ts is.0 (each_told vs ts is.1)
+  several_told vs (integer z) is = single_told vs (integer z) tt refl is
+  several_told vs (octets s) is = single_told vs (octets s) tt refl is
+  several_told vs (text s) is = single_told vs (text s) tt refl is
+  several_told vs (map ps) is = single_told vs (map ps) tt refl is
+  several_told vs (tagged n t) is = single_told vs (tagged n t) tt refl is
+  several_told vs (boolean b) is = single_told vs (boolean b) tt refl is
+
+  single_same : (vs ws : List A) (t : Term) → IsAlone t → OneOrMore Is vs t → OneOrMore Is ws t → vs ≡ ws
+  single_same vs ws t no_array first second =
+      let a = single t no_array vs first in
+      let b = single t no_array ws second in
       a.1 ∙ ap (λ (u : A). u ∷ []) (law.same a.0 b.0 t a.2 b.2) ∙ sym b.1
-
-  single_integer : (z : _) → Single (integer z)
-  single_integer z (v ∷ []) is = (v, refl, is)
-  single_integer z [] is = absurd is
-  single_integer z (v ∷ w ∷ vs) is = absurd is
-
-  single_octets : (s : List ℕ) → Single (octets s)
-  single_octets s (v ∷ []) is = (v, refl, is)
-  single_octets s [] is = absurd is
-  single_octets s (v ∷ w ∷ vs) is = absurd is
-
-  single_text : (s : List ℕ) → Single (text s)
-  single_text s (v ∷ []) is = (v, refl, is)
-  single_text s [] is = absurd is
-  single_text s (v ∷ w ∷ vs) is = absurd is
-
-  single_map : (ps : _) → Single (map ps)
-  single_map ps (v ∷ []) is = (v, refl, is)
-  single_map ps [] is = absurd is
-  single_map ps (v ∷ w ∷ vs) is = absurd is
-
-  single_tagged : (n : ℕ) (t : Term) → Single (tagged n t)
-  single_tagged n t (v ∷ []) is = (v, refl, is)
-  single_tagged n t [] is = absurd is
-  single_tagged n t (v ∷ w ∷ vs) is = absurd is
-
-  single_boolean : (b : _) → Single (boolean b)
-  single_boolean b (v ∷ []) is = (v, refl, is)
-  single_boolean b [] is = absurd is
-  single_boolean b (v ∷ w ∷ vs) is = absurd is
 
   several_same : (vs ws : List A) (t : Term) → OneOrMore Is vs t → OneOrMore Is ws t → vs ≡ ws
   several_same vs ws (array ts) first second = each_same vs ws ts first.1 second.1
-  several_same vs ws (integer z) first second = single_same (integer z) (single_integer z) vs ws first second
-  several_same vs ws (octets s) first second = single_same (octets s) (single_octets s) vs ws first second
-  several_same vs ws (text s) first second = single_same (text s) (single_text s) vs ws first second
-  several_same vs ws (map ps) first second = single_same (map ps) (single_map ps) vs ws first second
-  several_same vs ws (tagged n t) first second = single_same (tagged n t) (single_tagged n t) vs ws first second
-  several_same vs ws (boolean b) first second = single_same (boolean b) (single_boolean b) vs ws first second
+  several_same vs ws (integer z) first second = single_same vs ws (integer z) tt first second
+  several_same vs ws (octets s) first second = single_same vs ws (octets s) tt first second
+  several_same vs ws (text s) first second = single_same vs ws (text s) tt first second
+  several_same vs ws (map ps) first second = single_same vs ws (map ps) tt first second
+  several_same vs ws (tagged n t) first second = single_same vs ws (tagged n t) tt first second
+  several_same vs ws (boolean b) first second = single_same vs ws (boolean b) tt first second
 
   elements_some : (ts : Terms) → field_fault (one_or_more form) (array ts) ≡ None → (vs : List A) × OneOrMore Is vs (array ts)
   elements_some no_terms none = wrong none

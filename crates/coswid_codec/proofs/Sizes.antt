@@ -21,7 +21,7 @@ use Rattle.coswid_res.proofs.Sizes.{directory_fits, path_fits}
 use Rattle.coswid_tag.specs.declared.tag.Tag.{Tag}
 use Rattle.coswid_codec.specs.Forms.{TagKeys}
 use Rattle.coswid_codec.specs.SizesFit as whole
-use Rattle.coswid_codec.proofs.Tables.{there, under_proper}
+use Rattle.coswid_codec.proofs.Facts.{there, under_proper}
 
 -- Values that fit wherever they are read of a proper item.
 module _ {A : Type 0} (Is : A → Term → Type 0) (Fits : A → Type 0) (one : (v : A) (t : Term) → Is v t → IsProper t → Fits v) where
