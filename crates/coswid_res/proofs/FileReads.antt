@@ -1,4 +1,4 @@
--- The reads that are made for the verdicts on several files, one file after another.
+-- The reads that are made for the verdicts on files, of some files after those of others.
 use Rattle.std.proofs.Common.{◌≡◌, ℕ, Bool, true, false, IsTrue, List, [], ◌∷◌, ◌++◌, map as map_list, Option, Some, None, Result, Ok, Err, if◌then◌else◌, refl, sym, ap, subst, ◌∙◌}
 use Rattle.std.specs.Bool.{OnTrue}
 use Rattle.std.specs.List.{filter}
@@ -7,7 +7,7 @@ use Rattle.std.proofs.lemmas.List.{append-nil, append_assoc, map-append}
 use Rattle.std.proofs.lemmas.List.Elements.{filter-append}
 use Rattle.coswid_res.specs.declared.verification.verify.VerifyRefused.{VerifyRefused}
 use Rattle.coswid_res.specs.declared.verification.verify.VerifyRefused.TheVariants as refused
-use Rattle.coswid_res.specs.declared.verification.listing.ListedFile.{ListedFile}
+use Rattle.coswid_res.specs.Listing.{ListedFile}
 use Rattle.coswid_res.specs.declared.verification.verdict.Verdict.{Verdict}
 use Rattle.coswid_res.specs.Verify.{Reads, answered, is_read, paths_read, read_for}
 use Rattle.wire_base.specs.declared.outside.fill_and_write.Stopped.{Stopped}
@@ -15,7 +15,7 @@ use Rattle.wire_base.specs.declared.outside.fill_and_write.Stopped.TheVariants a
 use Rattle.wire_base.specs.NamedFile.{Read, with_reads}
 use Rattle.wire_base.specs.Passing.{is_fault}
 
-pub with_none : (before : Option (List Read)) → with_reads [] before ≡ before
+with_none : (before : Option (List Read)) → with_reads [] before ≡ before
 with_none None = refl
 with_none (Some reads) = ap (λ (rs : List Read). Some rs) (append-nil reads)
 
@@ -43,67 +43,88 @@ module _ (A : Type 0) (file : ListedFile) (before after : Option (List Read)) (r
   pub one_failed : OnTrue (is_fault result) (IsTrue (is_read file.hash)) → result ≡ Err stopped.Fault → Reads {A = A} (file ∷ []) (Err (refused.FileFault file.path)) before after
   one_failed reads is = ((file.path, true) ∷ [], ([], [], path_by (is_read file.hash) file (subst (λ (r : Result Verdict Stopped). OnTrue (is_fault r) (IsTrue (is_read file.hash))) is reads), refl), read_by (Err stopped.Fault) is)
 
--- Files in order: the paths that were read of those that are gone, and those that are left.
-abbrev pub Gone : List ListedFile → List ListedFile → Option (List Read) → Option (List Read) → Type 0
-Gone files left before now = (gone : List (List ℕ)) × (paths_read files ≡ gone ++ paths_read left) × (now ≡ with_reads (answered gone) before)
+-- The reads for all of these files were made, and none failed.
+abbrev pub AllRead : List ListedFile → Option (List Read) → Option (List Read) → Type 0
+AllRead files before now = now ≡ with_reads (answered (paths_read files)) before
 
-first_left : (file : ListedFile) (fewer : List ListedFile) → paths_read (file ∷ fewer) ≡ paths_read (file ∷ []) ++ paths_read fewer
-first_left file fewer =
-    ap (λ (fs : List ListedFile). map_list (λ (f : ListedFile). f.path) fs) (filter-append (λ (f : ListedFile). is_read f.hash) (file ∷ []) fewer)
-    ∙ map-append (λ (f : ListedFile). f.path) (filter (λ (f : ListedFile). is_read f.hash) (file ∷ [])) (filter (λ (f : ListedFile). is_read f.hash) fewer)
-
-module _ (files left fewer : List ListedFile) (file : ListedFile) (before now after : Option (List Read)) (is : left ≡ file ∷ fewer) where
-  -- the paths of all files, where those of the file are in two parts
-  parted : (gone front behind : List (List ℕ)) → paths_read files ≡ gone ++ paths_read left → paths_read (file ∷ []) ≡ front ++ behind → paths_read files ≡ (gone ++ front) ++ (behind ++ paths_read fewer)
-  parted gone front behind all one =
-      all ∙ ap (λ (fs : List ListedFile). gone ++ paths_read fs) is
-      ∙ ap (λ (ps : List (List ℕ)). gone ++ ps) (first_left file fewer ∙ ap (λ (ps : List (List ℕ)). ps ++ paths_read fewer) one ∙ append_assoc front behind (paths_read fewer))
-      ∙ sym (append_assoc gone front (behind ++ paths_read fewer))
-
-  -- the reads after those of the files that are gone
-  behind_gone : (gone : List (List ℕ)) (reads : List Read) → now ≡ with_reads (answered gone) before → after ≡ with_reads reads now → after ≡ with_reads (answered gone ++ reads) before
-  behind_gone gone reads was more = more ∙ ap (λ (o : Option (List Read)). with_reads reads o) was ∙ with_more (answered gone) reads before
-
-  both_answered : (gone front : List (List ℕ)) → answered (gone ++ front) ≡ answered gone ++ answered front
-  both_answered gone front = map-append (λ (path : List ℕ). (path, false)) gone front
-
-  pub one_more : {A : Type 0} (value : A) → Gone files left before now → Reads (file ∷ []) (Ok value) now after → Gone files fewer before after
-  one_more value was reads =
-      let paths = paths_read (file ∷ []) in (
-        was.0 ++ paths,
-        parted was.0 paths [] was.1 (sym (append-nil paths)),
-        behind_gone was.0 reads.0 was.2 reads.2 ∙ ap (λ (rs : List Read). with_reads (answered was.0 ++ rs) before) reads.1 ∙ ap (λ (rs : List Read). with_reads rs before) (sym (both_answered was.0 paths)),
-      )
-
-  pub one_stopped : (A B : Type 0) (refusal : VerifyRefused) → Gone files left before now → Reads {A = A} (file ∷ []) (Err refusal) now after → Reads {A = B} files (Err refusal) before after
-  one_stopped A B (refused.FileFault path) was reads =
-      let front = reads.1.0 in let behind = reads.1.1 in (
-        answered was.0 ++ reads.0,
-        (
-          was.0 ++ front,
-          behind ++ paths_read fewer,
-          parted was.0 front (path ∷ behind) was.1 reads.1.2,
-          ap (λ (rs : List Read). answered was.0 ++ rs) reads.1.3 ∙ sym (append_assoc (answered was.0) (answered front) ((path, true) ∷ [])) ∙ ap (λ (rs : List Read). rs ++ (path, true) ∷ []) (sym (both_answered was.0 front)),
-        ),
-        behind_gone was.0 reads.0 was.2 reads.2,
-      )
-  one_stopped A B refused.Memory was reads =
-      let front = reads.1.0 in let behind = reads.1.1 in (
-        answered was.0 ++ reads.0,
-        (
-          was.0 ++ front,
-          behind ++ paths_read fewer,
-          parted was.0 front behind was.1 reads.1.2,
-          ap (λ (rs : List Read). answered was.0 ++ rs) reads.1.3 ∙ sym (both_answered was.0 front),
-        ),
-        behind_gone was.0 reads.0 was.2 reads.2,
-      )
+pub none_read : (before : Option (List Read)) → AllRead [] before before
+none_read before = sym (with_none before)
 
 module _ (A : Type 0) (files : List ListedFile) (before now : Option (List Read)) where
-  pub no_memory : (left : List ListedFile) → Gone files left before now → Reads {A = A} files (Err refused.Memory) before now
-  no_memory left was = (answered was.0, (was.0, paths_read left, was.1, refl), was.2)
+  pub all_read : (value : A) → Reads files (Ok value) before now → AllRead files before now
+  all_read value reads = reads.2 ∙ ap (λ (rs : List Read). with_reads rs before) reads.1
+
+  pub reads_of_all : (value : A) → AllRead files before now → Reads files (Ok value) before now
+  reads_of_all value all = (answered (paths_read files), refl, all)
 
   -- what a refusal that is handed on says
   pub handed_on : (refusal : VerifyRefused) (result : Result A VerifyRefused) → IsErrAnd result (λ (e : VerifyRefused). e ≡ refusal) → Reads {A = A} files (Err refusal) before now → Reads files result before now
   handed_on refusal (Ok value) is reads = absurd is
   handed_on refusal (Err e) is reads = subst (λ (x : VerifyRefused). Reads {A = A} files (Err x) before now) (sym is) reads
+
+-- Memory ran out at the first of these files.
+pub no_memory : (A : Type 0) (files : List ListedFile) (before : Option (List Read)) → Reads {A = A} files (Err refused.Memory) before before
+no_memory A files before = ([], ([], paths_read files, refl, refl), sym (with_none before))
+
+-- Some files, and others after them.
+module _ (first more : List ListedFile) (before now : Option (List Read)) where
+  both_paths : paths_read (first ++ more) ≡ paths_read first ++ paths_read more
+  both_paths =
+      ap (λ (fs : List ListedFile). map_list (λ (f : ListedFile). f.path) fs) (filter-append (λ (f : ListedFile). is_read f.hash) first more)
+      ∙ map-append (λ (f : ListedFile). f.path) (filter (λ (f : ListedFile). is_read f.hash) first) (filter (λ (f : ListedFile). is_read f.hash) more)
+
+  -- the paths of all, where those of the others are in two parts
+  parted : (front behind : List (List ℕ)) → paths_read more ≡ front ++ behind → paths_read (first ++ more) ≡ (paths_read first ++ front) ++ behind
+  parted front behind parts = both_paths ∙ ap (λ (ps : List (List ℕ)). paths_read first ++ ps) parts ∙ sym (append_assoc (paths_read first) front behind)
+
+  both_answered : (front : List (List ℕ)) → answered (paths_read first ++ front) ≡ answered (paths_read first) ++ answered front
+  both_answered front = map-append (λ (path : List ℕ). (path, false)) (paths_read first) front
+
+  -- a refusal at the first files is one at all
+  pub stopped_before : (A B : Type 0) (refusal : VerifyRefused) → Reads {A = A} first (Err refusal) before now → Reads {A = B} (first ++ more) (Err refusal) before now
+  stopped_before A B (refused.FileFault path) reads =
+      let front = reads.1.0 in let behind = reads.1.1 in (
+        reads.0,
+        (front, behind ++ paths_read more, both_paths ∙ ap (λ (ps : List (List ℕ)). ps ++ paths_read more) reads.1.2 ∙ append_assoc front (path ∷ behind) (paths_read more), reads.1.3),
+        reads.2,
+      )
+  stopped_before A B refused.Memory reads =
+      let front = reads.1.0 in let behind = reads.1.1 in (
+        reads.0,
+        (front, behind ++ paths_read more, both_paths ∙ ap (λ (ps : List (List ℕ)). ps ++ paths_read more) reads.1.2 ∙ append_assoc front behind (paths_read more), reads.1.3),
+        reads.2,
+      )
+
+  module _ (A : Type 0) (after : Option (List Read)) (was : AllRead first before now) where
+    both_read : (reads : List Read) → after ≡ with_reads reads now → after ≡ with_reads (answered (paths_read first) ++ reads) before
+    both_read reads rest = rest ∙ ap (λ (o : Option (List Read)). with_reads reads o) was ∙ with_more (answered (paths_read first)) reads before
+
+    -- an answer on the others, after all of the first were read, is one on all
+    pub then_read : (result : Result A VerifyRefused) → Reads more result now after → Reads (first ++ more) result before after
+    then_read (Ok value) reads = (
+      answered (paths_read first) ++ reads.0,
+      ap (λ (rs : List Read). answered (paths_read first) ++ rs) reads.1 ∙ sym (both_answered (paths_read more)) ∙ ap (λ (ps : List (List ℕ)). answered ps) (sym both_paths),
+      both_read reads.0 reads.2,
+    )
+    then_read (Err (refused.FileFault path)) reads =
+        let front = reads.1.0 in let behind = reads.1.1 in let last = (path, true) ∷ [] in (
+          answered (paths_read first) ++ reads.0,
+          (
+            paths_read first ++ front,
+            behind,
+            parted front (path ∷ behind) reads.1.2,
+            ap (λ (rs : List Read). answered (paths_read first) ++ rs) reads.1.3 ∙ sym (append_assoc (answered (paths_read first)) (answered front) last) ∙ ap (λ (rs : List Read). rs ++ last) (sym (both_answered front)),
+          ),
+          both_read reads.0 reads.2,
+        )
+    then_read (Err refused.Memory) reads =
+        let front = reads.1.0 in let behind = reads.1.1 in (
+          answered (paths_read first) ++ reads.0,
+          (
+            paths_read first ++ front,
+            behind,
+            parted front behind reads.1.2,
+            ap (λ (rs : List Read). answered (paths_read first) ++ rs) reads.1.3 ∙ sym (both_answered front),
+          ),
+          both_read reads.0 reads.2,
+        )

@@ -3,11 +3,11 @@ use Rattle.std.proofs.Common.{◌≡◌, ◌<◌, ℕ, ℤ, List, [], ◌∷◌,
 use Rattle.std.proofs.lemmas.List.{append-nil, append_assoc, length-replicate}
 use Rattle.std.specs.Option.{IfSome}
 use Rattle.coswid_res.specs.declared.resources.hash.HashEntry.{HashEntry}
-use Rattle.coswid_res.specs.declared.verification.listing.ListedFile.{ListedFile}
+use Rattle.coswid_res.specs.Listing.{ListedFile}
 use Rattle.coswid_res.specs.declared.verification.verdict.Algorithm.{Algorithm}
 use Rattle.coswid_res.specs.declared.verification.verdict.Verdict.{Verdict}
 use Rattle.coswid_res.specs.declared.verification.verdict.Verdict.TheVariants as verdict
-use Rattle.coswid_res.specs.Verify.{FILE_OCTETS, IsLine, IsVerdict, IsVerdicts, algorithm_of, hashed_verdict, read_verdict, verdict_on, verdicts_of}
+use Rattle.coswid_res.specs.Verify.{AddsVerdicts, FILE_OCTETS, IsLine, IsVerdict, IsVerdicts, algorithm_of, hashed_verdict, read_verdict, verdict_on, verdicts_of}
 use Rattle.wire_base.specs.declared.outside.files.NamedFile.{NamedFile}
 use Rattle.wire_base.specs.NamedFile.{content_of}
 
@@ -30,13 +30,9 @@ pub unknown : (told : Option (List NamedFile)) (file : ListedFile) (h : HashEntr
 unknown told file h number some same is = subst (λ (n : ℤ). algorithm_of n ≡ None → IsVerdict told file (verdict.UnknownAlgorithm n)) (sym same)
     (λ (none : algorithm_of h.algorithm ≡ None). unread told file (verdict.UnknownAlgorithm h.algorithm) (λ (held : Option (List ℕ)). hashed file h None held some none)) is
 
--- What is reported of the name that was asked for is reported of the path.
-by_path : (told : Option (List NamedFile)) (file : ListedFile) (name : List ℕ) (P : Option (List ℕ) → Type 0) → name ≡ file.path → IfSome told (λ (all : List NamedFile). P (content_of all name)) → IfSome told (λ (all : List NamedFile). P (content_of all file.path))
-by_path told file name P same is = subst (λ (asked : List ℕ). IfSome told (λ (all : List NamedFile). P (content_of all asked))) same is
-
--- A file that was read, by its hash, the number of its algorithm and the name that was asked for.
-module _ (told : Option (List NamedFile)) (file : ListedFile) (h : HashEntry) (known : Algorithm) (number : ℤ) (name : List ℕ)
-    (some : file.hash ≡ Some h) (same : number ≡ h.algorithm) (is : algorithm_of number ≡ Some known) (asked : name ≡ file.path) where
+-- A file that was read, by its hash and the number of its algorithm.
+module _ (told : Option (List NamedFile)) (file : ListedFile) (h : HashEntry) (known : Algorithm) (number : ℤ)
+    (some : file.hash ≡ Some h) (same : number ≡ h.algorithm) (is : algorithm_of number ≡ Some known) where
   known_hash : algorithm_of h.algorithm ≡ Some known
   known_hash = ap (λ (n : ℤ). algorithm_of n) (sym same) ∙ is
 
@@ -44,29 +40,35 @@ module _ (told : Option (List NamedFile)) (file : ListedFile) (h : HashEntry) (k
   on_held : (v : Verdict) (held : Option (List ℕ)) → v ≡ read_verdict known h.value file.size held → IfSome told (λ (all : List NamedFile). content_of all file.path ≡ held) → IsVerdict told file v
   on_held v held gives content = (held, gives ∙ hashed file h (Some known) held some known_hash, content)
 
-  pub on_content : (v : Verdict) (octets content : List ℕ) → content ≡ octets → v ≡ read_verdict known h.value file.size (Some content) → IfSome told (λ (all : List NamedFile). content_of all name ≡ Some octets) → IsVerdict told file v
-  on_content v octets content is gives tells = on_held v (Some octets) (gives ∙ ap (λ (o : List ℕ). read_verdict known h.value file.size (Some o)) is) (by_path told file name (λ (held : Option (List ℕ)). held ≡ Some octets) asked tells)
+  pub on_content : (v : Verdict) (octets content : List ℕ) → content ≡ octets → v ≡ read_verdict known h.value file.size (Some content) → IfSome told (λ (all : List NamedFile). content_of all file.path ≡ Some octets) → IsVerdict told file v
+  on_content v octets content is gives tells = on_held v (Some octets) (gives ∙ ap (λ (o : List ℕ). read_verdict known h.value file.size (Some o)) is) tells
 
 long : (known : Algorithm) (value : List ℕ) (size : Option ℕ) (content : List ℕ) (len : ℕ) → FILE_OCTETS < len → length content ≡ len → verdict.LongFile len ≡ read_verdict known value size (Some content)
 long known value size content len more same = search rules
 
-module _ (file : ListedFile) (h : HashEntry) (known : Algorithm) (number : ℤ) (name : List ℕ) (len : ℕ)
-    (some : file.hash ≡ Some h) (same : number ≡ h.algorithm) (is : algorithm_of number ≡ Some known) (asked : name ≡ file.path) (more : FILE_OCTETS < len) where
-  pub on_long : (told : Option (List NamedFile)) → IfSome told (λ (all : List NamedFile). (content : List ℕ) × (content_of all name ≡ Some content) × (length content ≡ len)) → IsVerdict told file (verdict.LongFile len)
-  on_long None tells = on_content None file h known number name some same is asked (verdict.LongFile len) (replicate len 0) (replicate len 0) refl (long known h.value file.size (replicate len 0) len more (length-replicate len 0)) (tt {0})
-  on_long (Some all) tells = on_content (Some all) file h known number name some same is asked (verdict.LongFile len) tells.0 tells.0 refl (long known h.value file.size tells.0 len more tells.2) tells.1
+module _ (file : ListedFile) (h : HashEntry) (known : Algorithm) (number : ℤ) (len : ℕ)
+    (some : file.hash ≡ Some h) (same : number ≡ h.algorithm) (is : algorithm_of number ≡ Some known) (more : FILE_OCTETS < len) where
+  pub on_long : (told : Option (List NamedFile)) → IfSome told (λ (all : List NamedFile). (content : List ℕ) × (content_of all file.path ≡ Some content) × (length content ≡ len)) → IsVerdict told file (verdict.LongFile len)
+  on_long None tells = on_content None file h known number some same is (verdict.LongFile len) (replicate len 0) (replicate len 0) refl (long known h.value file.size (replicate len 0) len more (length-replicate len 0)) (tt {0})
+  on_long (Some all) tells = on_content (Some all) file h known number some same is (verdict.LongFile len) tells.0 tells.0 refl (long known h.value file.size tells.0 len more tells.2) tells.1
 
--- A verdict more is put after those that there are.
-pub line_pushed : (told : Option (List NamedFile)) (files left fewer : List ListedFile) (file : ListedFile) (lines : List Line) (line : Line) → left ≡ file ∷ fewer → IsLine told file line
-    → ((rest : List Line) → IsVerdicts told left rest → IsVerdicts told files (lines ++ rest)) → (rest : List Line) → IsVerdicts told fewer rest → IsVerdicts told files ((lines ++ line ∷ []) ++ rest)
-line_pushed told files left fewer file lines line is new all rest more =
-    subst (λ (ls : List Line). IsVerdicts told files ls) (sym (append_assoc lines (line ∷ []) rest))
-    (all (line ∷ rest) (subst (λ (fs : List ListedFile). IsVerdicts told fs (line ∷ rest)) (sym is) (new, more)))
+-- Verdicts on some files, and on others after them.
+zipped : (told : Option (List NamedFile)) (first more : List ListedFile) (lines others : List Line) → IsVerdicts told first lines → IsVerdicts told more others → IsVerdicts told (first ++ more) (lines ++ others)
+zipped told [] more [] others is are = are
+zipped told [] more (line ∷ lines) others is are = elim is [ ]
+zipped told (file ∷ first) more [] others is are = elim is [ ]
+zipped told (file ∷ first) more (line ∷ lines) others is are = (is.0, zipped told first more lines others is.1 are)
 
--- Where no file is left, there are verdicts on all.
-pub line_last : (told : Option (List NamedFile)) (files left : List ListedFile) (lines : List Line) → left ≡ [] → ((rest : List Line) → IsVerdicts told left rest → IsVerdicts told files (lines ++ rest)) → IsVerdicts told files lines
-line_last told files left lines is all =
-    subst (λ (ls : List Line). IsVerdicts told files ls) (append-nil lines) (all [] (subst (λ (fs : List ListedFile). IsVerdicts told fs []) (sym is) (tt {0})))
+pub none_added : (told : Option (List NamedFile)) (before : List Line) → AddsVerdicts told [] before before
+none_added told before = ([], sym (append-nil before), tt {0})
+
+pub one_added : (told : Option (List NamedFile)) (file : ListedFile) (before after : List Line) (line : Line) → IsLine told file line → after ≡ before ++ line ∷ [] → AddsVerdicts told (file ∷ []) before after
+one_added told file before after line is pushed = (line ∷ [], pushed, (is, tt {0}))
+
+pub both_added : (told here : Option (List NamedFile)) (first more : List ListedFile) (before now after : List Line) → here ≡ told → AddsVerdicts told first before now → AddsVerdicts here more now after → AddsVerdicts told (first ++ more) before after
+both_added told here first more before now after same was adds =
+    let others : IsVerdicts told more adds.0 = subst (λ (t : Option (List NamedFile)). IsVerdicts t more adds.0) same adds.2 in
+    (was.0 ++ adds.0, adds.1 ∙ ap (λ (ls : List Line). ls ++ adds.0) was.1 ∙ append_assoc before was.0 adds.0, zipped told first more was.0 adds.0 was.2 others)
 
 -- Where all files are exposed, the verdicts are these.
 pub told_verdicts : (all : List NamedFile) (files : List ListedFile) (lines : List Line) → IsVerdicts (Some all) files lines → lines ≡ verdicts_of all files

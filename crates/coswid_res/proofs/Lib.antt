@@ -11,3 +11,6 @@ pub mod Sizes
 pub mod Listings
 pub mod FileVerdicts
 pub mod FileReads
+pub mod FileParts
+pub mod PathParts
+pub mod Entered

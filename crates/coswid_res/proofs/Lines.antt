@@ -21,7 +21,7 @@ abbrev pub values_fault : List Line → Pairs → Option FormFault
 values_fault [] ps = None
 values_fault (line ∷ lines) ps = or_else (value_fault (key_of line) (field_of line) (value_under (key_of line) ps)) (values_fault lines ps)
 
-none_first : (first later : Option FormFault) → first ≡ None → or_else first later ≡ later
+pub none_first : (first later : Option FormFault) → first ≡ None → or_else first later ≡ later
 none_first first later is = ap (λ (o : Option FormFault). or_else o later) is
 
 -- Where no key is missing, the lines report the faults of their values.
@@ -47,7 +47,7 @@ under_any : (place : ℕ) (t : Term) → under place (field_fault (one anything)
 under_any place t = ap (λ (o : Option FormFault). under place o) (any_none t)
 
 -- The keys of these lines rise from a number on, and are below 256.
-abbrev Rising : ℕ → List Line → Type 0
+abbrev pub Rising : ℕ → List Line → Type 0
 Rising low [] = Unit {0}
 Rising low (line ∷ lines) = (low ≤ key_of line) × (key_of line < 256) × Rising (key_of line + 1) lines
 
@@ -62,7 +62,7 @@ rises low (line ∷ lines) is =
     let more = and_parts (nat_lt (key_of line) 256) (rising (key_of line + 1) lines) parts.1 in
     (leb-true low (key_of line) parts.0, ltb-true (key_of line) 256 more.0, rises (key_of line + 1) lines more.1)
 
-table_rises : (name : Name) → Rising 0 (table name)
+pub table_rises : (name : Name) → Rising 0 (table name)
 table_rises tag = rises 0 (table tag) refl
 table_rises entity = rises 0 (table entity) refl
 table_rises link = rises 0 (table link) refl

@@ -1,12 +1,12 @@
 -- The listing of a directory and of what it holds, by their fields.
 use Rattle.std.proofs.Common.{◌≡◌, ◌++◌, ℕ, List, [], ◌∷◌, map as map_list, Option, Some, None, refl, sym, ap, ◌∙◌, rules}
-use Rattle.std.proofs.lemmas.List.{append_assoc}
+use Rattle.std.proofs.lemmas.List.Concat.{flat_map_single}
 use Rattle.std.specs.List.{flat_map}
 use Rattle.std.specs.Option.{option_map, unwrap_or}
 use Rattle.coswid_res.specs.declared.resources.directory.DirEntry.{DirEntry, out-DirEntry, the_lemmas}
 use Rattle.coswid_res.specs.declared.resources.directory.PathElements.{PathElements, out-PathElements}
-use Rattle.coswid_res.specs.declared.verification.listing.ListedFile.{ListedFile}
-use Rattle.coswid_res.specs.Listing.{Listing, directory_listing, path_listing, directories_listing, directory_path, each_listing, files_listing}
+use Rattle.coswid_res.specs.declared.resources.file.FileEntry.{FileEntry}
+use Rattle.coswid_res.specs.Listing.{ListedFile, Listing, directory_listing, path_listing, directories_listing, directory_path, each_listing, files_listing, listed_file}
 
 -- What is listed of each may be listed of the listings of all.
 each : (ds : List DirEntry) (around : List ℕ) → flat_map (λ (listing : Listing). listing around) (map_list directory_listing ds) ≡ flat_map (λ (d : DirEntry). directory_listing d around) ds
@@ -36,12 +36,8 @@ path_folded p around = search (rules, the_lemmas)
 pub path_listed : (p : PathElements) (around : List ℕ) → path_listing p around ≡ files_listing (out-PathElements p).file around ++ directories_listing (out-PathElements p).directory around
 path_listed p around = path_folded p around ∙ ap (λ (files : List ListedFile). files_listing (out-PathElements p).file around ++ files) (some_each (out-PathElements p).directory around)
 
--- What a directory holds is listed after the files in it.
-pub path_pushed : (p : PathElements) (around : List ℕ) (ds : List DirEntry) (before middle after : List ListedFile) → (out-PathElements p).directory ≡ Some ds
-    → middle ≡ before ++ files_listing (out-PathElements p).file around → after ≡ middle ++ flat_map (λ (d : DirEntry). directory_listing d around) ds → after ≡ before ++ path_listing p around
-path_pushed p around ds before middle after some files directories =
-    directories
-    ∙ ap (λ (front : List ListedFile). front ++ flat_map (λ (d : DirEntry). directory_listing d around) ds) files
-    ∙ append_assoc before (files_listing (out-PathElements p).file around) (flat_map (λ (d : DirEntry). directory_listing d around) ds)
-    ∙ ap (λ (x : Option (List DirEntry)). before ++ (files_listing (out-PathElements p).file around ++ directories_listing x around)) (sym some)
-    ∙ ap (λ (all : List ListedFile). before ++ all) (sym (path_listed p around))
+-- The files of entries are those of each of them.
+pub files_of_each : (around : List ℕ) (entries : Option (List FileEntry)) (some items : List FileEntry) → entries ≡ Some some → items ≡ some
+    → flat_map (λ (f : FileEntry). listed_file around f ∷ []) items ≡ files_listing entries around
+files_of_each around entries some items is are =
+    flat_map_single (listed_file around) items ∙ ap (λ (fs : List FileEntry). map_list (listed_file around) fs) are ∙ ap (λ (fs : Option (List FileEntry)). files_listing fs around) (sym is)

@@ -7,7 +7,7 @@ use Rattle.coswid_res.specs.declared.resources.directory.DirEntry.{DirEntry, fol
 use Rattle.coswid_res.specs.declared.resources.directory.PathElements.{PathElements, fold-PathElements}
 use Rattle.coswid_res.specs.declared.resources.directory.DirEntry.TheOpen as layer
 use Rattle.coswid_res.specs.declared.resources.file.FileEntry.{FileEntry}
-use Rattle.coswid_res.specs.declared.verification.listing.ListedFile.{ListedFile}
+use Rattle.coswid_res.specs.declared.resources.hash.HashEntry.{HashEntry}
 use Rattle.coswid_res.specs.declared.resources.payload.Payload.{Payload}
 
 -- A path and what it leads on to, with '/' between; what is empty is left out.
@@ -32,8 +32,18 @@ directory_path around location name = joined (around ∷ unwrap_or location [] �
 abbrev pub file_path : List ℕ → FileEntry → List ℕ
 file_path around f = joined (unwrap_or f.root [] ∷ around ∷ unwrap_or f.location [] ∷ f.fs_name ∷ [])
 
+-- What a payload states of one file: its path, how many octets it has, and their hash.
+pub record ListedFile : Type 0 where
+  pub path : List ℕ
+  pub size : Option ℕ
+  pub hash : Option HashEntry
+
+-- What an entry states of the file of this path.
+abbrev pub stated_file : List ℕ → FileEntry → ListedFile
+stated_file path f = record { path = path; size = f.size; hash = f.hash }
+
 abbrev pub listed_file : List ℕ → FileEntry → ListedFile
-listed_file around f = record { path = file_path around f; size = f.size; hash = f.hash }
+listed_file around f = stated_file (file_path around f) f
 
 -- The files of something that stands in directories of a path.
 abbrev pub Listing : Type 0

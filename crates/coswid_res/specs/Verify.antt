@@ -4,7 +4,7 @@ use Rattle.std.specs.List.{AllZip, filter}
 use Rattle.std.specs.Ordering.{int_eq}
 use Rattle.std.specs.Str.{bytes_eq}
 use Rattle.coswid_res.specs.declared.resources.hash.HashEntry.{HashEntry}
-use Rattle.coswid_res.specs.declared.verification.listing.ListedFile.{ListedFile}
+use Rattle.coswid_res.specs.Listing.{ListedFile}
 use Rattle.coswid_res.specs.declared.verification.verdict.Algorithm.{Algorithm}
 use Rattle.coswid_res.specs.declared.verification.verdict.Algorithm.TheVariants as algorithm
 use Rattle.coswid_res.specs.declared.verification.verdict.Verdict.{Verdict}
@@ -75,6 +75,10 @@ IsLine told file line = (line.0 ≡ file.path) × IsVerdict told file line.1
 -- All files in order, each with its verdict.
 abbrev pub IsVerdicts : Option (List NamedFile) → List ListedFile → List (List ℕ × Verdict) → Type 0
 IsVerdicts told = AllZip (IsLine told)
+
+-- After the verdicts that there were before, there are those on these files.
+abbrev pub AddsVerdicts : Option (List NamedFile) → List ListedFile → List (List ℕ × Verdict) → List (List ℕ × Verdict) → Type 0
+AddsVerdicts told files before after = (more : List (List ℕ × Verdict)) × (after ≡ before ++ more) × IsVerdicts told files more
 
 -- All verdicts where the contents of all files are exposed.
 abbrev pub verdicts_of : List NamedFile → List ListedFile → List (List ℕ × Verdict)

@@ -15,7 +15,7 @@ use Rattle.cbor_det.proofs.Outcomes.{some_outcome}
 use Rattle.coswid_res.specs.declared.fault.FormFault.{FormFault}
 use Rattle.coswid_res.specs.Listing.{listed}
 use Rattle.coswid_res.specs.Verify.{IsLine, IsVerdicts, verdict_of, verdict_on, verdicts_of}
-use Rattle.coswid_res.specs.declared.verification.listing.ListedFile.{ListedFile}
+use Rattle.coswid_res.specs.Listing.{ListedFile}
 use Rattle.coswid_res.specs.declared.resources.payload.Payload.{Payload}
 use Rattle.coswid_res.specs.declared.verification.verdict.Verdict.{Verdict}
 use Rattle.coswid_tag.specs.Findings.{findings}

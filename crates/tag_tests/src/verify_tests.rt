@@ -3,7 +3,7 @@
 ghost use Rattle.std.specs.Prelude.{None};
 
 use crate::payload::{SHA_256, are, files, is_fault, payload};
-use coswid_res::{Payload, Verdict, verify};
+use coswid_res::{Payload, Verdict, VerifyRefused, verify};
 use std::alloc::Global;
 use std::test::Fail;
 use wire_base::{FileAnswer, Files, List, MemFiles};
@@ -113,24 +113,41 @@ fn a_file_may_be_too_long(rt: HostRuntime) -> Result<(), Fail> {
     Ok(())
 }
 
-/// 16: {24: a name of 1048576 octets, 26: {17: that many times {24: ""}}}.
-fn long_paths(alloc: Global, count: u8) -> Result<Payload, Fail> {
-    let name = vec![in alloc; b'a'; 1_048_576]?;
-    let mut named = Vec::new(alloc);
-    for _ in 0..count {
-        named.extend_from_slice(b"\xa1\x18\x18\x60")?;
-    }
-    let head = b"\xa1\x10\xa2\x18\x18\x7a\x00\x10\x00\x00".as_slice();
-    let after = b"\x18\x1a\xa1\x11\x98".as_slice();
+/// 16: {24: "d", 26: {16: {24: "e", 26: {17: {24: "x"}}}, 17: {24: "y"}}} and
+/// {24: "g", 26: {17: {24: "z"}}}; 17: {24: "w"}.
+const NESTED: &[u8] =
+    b"\xa2\x10\x82\xa2\x18\x18\x61d\x18\x1a\xa2\x10\xa2\x18\x18\x61e\x18\x1a\xa1\x11\xa1\x18\x18\x61x\x11\xa1\x18\x18\x61y\xa2\x18\x18\x61g\x18\x1a\xa1\x11\xa1\x18\x18\x61z\x11\xa1\x18\x18\x61w";
+
+#[test]
+fn files_have_verdicts_before_directories(rt: HostRuntime) -> Result<(), Fail> {
+    let wanted = [
+        ("w", Verdict::Unhashed),
+        ("d/y", Verdict::Unhashed),
+        ("d/e/x", Verdict::Unhashed),
+        ("g/z", Verdict::Unhashed),
+    ];
+    assert!(rt; answers(rt.alloc(), NESTED, 1, &wanted)?);
+    Ok(())
+}
+
+/// 16: {24: a name of `len` octets, 26: {17: `files`}}.
+fn long_directory(alloc: Global, len: u32, files: &[u8]) -> Result<Payload, Fail> {
+    let name = vec![in alloc; b'a'; len as usize]?;
+    let head = b"\xa1\x10\xa2\x18\x18\x7a".as_slice();
+    let after = b"\x18\x1a\xa1\x11".as_slice();
     payload(
         alloc,
-        &[head, name.as_slice(), after, &[count], named.as_slice()],
+        &[head, &len.to_be_bytes(), name.as_slice(), after, files],
     )
 }
 
-/// How many verdicts there are on the files of long paths.
-fn long_verdicts(alloc: Global, count: u8) -> Result<usize, Fail> {
-    let payload = long_paths(alloc, count)?;
+/// How many verdicts there are on 64 files {24: ""} in a directory of a long name.
+fn long_verdicts(alloc: Global) -> Result<usize, Fail> {
+    let mut named = Vec::from_slice(alloc, b"\x98\x40")?;
+    for _ in 0..64 {
+        named.extend_from_slice(b"\xa1\x18\x18\x60")?;
+    }
+    let payload = long_directory(alloc, 1_048_576, named.as_slice())?;
     let verdicts = verify(alloc, &payload, &mut MemFiles::empty(alloc))?;
     Ok(verdicts.len())
 }
@@ -138,6 +155,27 @@ fn long_verdicts(alloc: Global, count: u8) -> Result<usize, Fail> {
 /// The path of the directory, and that of each file in it, have 1048576 octets: 68157440 together.
 #[test]
 fn paths_may_be_far_longer_than_the_payload(rt: HostRuntime) -> Result<(), Fail> {
-    assert!(rt; long_verdicts(rt.alloc(), 64)? == 64);
+    assert!(rt; long_verdicts(rt.alloc())? == 64);
+    Ok(())
+}
+
+/// How many octets the path has that is answered where the first read fails, of 16384 files
+/// {7: [1, 00], 24: "a"} in a directory of a long name; 0 at another answer.
+fn len_of_the_first(alloc: Global) -> Result<usize, Fail> {
+    let mut named = Vec::from_slice(alloc, b"\x99\x40\x00")?;
+    for _ in 0..16_384 {
+        named.extend_from_slice(b"\xa2\x07\x82\x01\x41\x00\x18\x18\x61a")?;
+    }
+    let payload = long_directory(alloc, 4_194_304, named.as_slice())?;
+    match verify(alloc, &payload, &mut files(alloc, &[], &[1])?) {
+        Err(VerifyRefused::FileFault { path }) => Ok(path.as_str().len()),
+        _ => Ok(0),
+    }
+}
+
+/// All paths together have more than 2^36 octets.
+#[test]
+fn no_path_is_made_after_a_fault(rt: HostRuntime) -> Result<(), Fail> {
+    assert!(rt; len_of_the_first(rt.alloc())? == 4_194_306);
     Ok(())
 }

@@ -1,6 +1,7 @@
 //! The verdict on one file of a payload.
 
 ghost use Rattle.std.specs.Prelude.{◌≡◌, ◌≤◌, IfOk, IsTrue, Some, length};
+ghost use Rattle.coswid_res.specs.Listing.{stated_file};
 ghost use Rattle.coswid_res.specs.Verify.{FILE_OCTETS, IsVerdict, algorithm_of, digest, is_read, read_for, read_verdict};
 ghost use Rattle.std.specs.Bool.{OnTrue};
 ghost use Rattle.std.specs.Str.{bytes_eq};
@@ -8,8 +9,8 @@ ghost use Rattle.wire_base.specs.NamedFile.{with_reads};
 ghost use Rattle.wire_base.specs.Outside.{HasCause};
 ghost use Rattle.wire_base.specs.Passing.{is_fault};
 
+use crate::resources::file::FileEntry;
 use crate::resources::hash::HashEntry;
-use crate::verification::listing::ListedFile;
 use sha2::{Digest, Sha256, Sha384, Sha512};
 use wire_base::{FileAnswer, Files, Memory, Stopped, TryCopy};
 
@@ -76,13 +77,13 @@ impl Algorithm {
     }
 }
 
-/// The verdict on a file. It is read where its hash is by a known algorithm, and in no other case.
-/// A fault exactly where that read failed.
-pub fn verdict_on<F: Files>(files: &mut F, file: &ListedFile) -> Result<Verdict, Stopped>
-    ensures verdict { IfOk result (λ verdict. IsVerdict (F.contents files.old) file.now verdict) }
+/// The verdict on the file of an entry, whose path this is. It is read where its hash is by a known
+/// algorithm, and in no other case. A fault exactly where that read failed.
+pub fn verdict_on<F: Files>(files: &mut F, path: &str, file: &FileEntry) -> Result<Verdict, Stopped>
+    ensures verdict { IfOk result (λ verdict. IsVerdict (F.contents files.old) (stated_file path.now file.now) verdict) }
     ensures contents { F.contents files.new ≡ F.contents files.old }
     ensures cause { HasCause (F.faults files.old) (F.faults files.new) (is_fault result) }
-    ensures reads { F.reads files.new ≡ with_reads (read_for file.now result) (F.reads files.old) }
+    ensures reads { F.reads files.new ≡ with_reads (read_for (stated_file path.now file.now) result) (F.reads files.old) }
     ensures read { OnTrue (is_fault result) (IsTrue (is_read file.now.hash)) }
 {
     let Some(hash) = &file.hash else {
@@ -91,7 +92,7 @@ pub fn verdict_on<F: Files>(files: &mut F, file: &ListedFile) -> Result<Verdict,
     let Some(algorithm) = Algorithm::from_number(hash.algorithm) else {
         return Ok(Verdict::UnknownAlgorithm(hash.algorithm));
     };
-    match files.read(file.path.as_str(), MOST_FILE_OCTETS) {
+    match files.read(path, MOST_FILE_OCTETS) {
         FileAnswer::Content(octets) => {
             Ok(compared(algorithm, hash, file.size, octets.as_slice()))
         }
