@@ -19,7 +19,8 @@ use Rattle.collector_core.specs.Chronicle.{Start, identified_from, first_epoch}
 use Rattle.collector_core.specs.Legal.{IsStart}
 use Rattle.collector_core.specs.Standing.{Stands, book_of}
 use Rattle.collector_core.proofs.Changing.{not_large}
-use Rattle.collector_core.proofs.Places.{Climbs, climbed, climbs_left, octets_append}
+use Rattle.swima_model.proofs.Places.{Climbs, climbed, climbs_left}
+use Rattle.collector_core.proofs.Places.{octets_append}
 
 identified_append : (id : ℕ) (xs ys : List Content) → identified_from id (xs ++ ys) ≡ identified_from id xs ++ identified_from (id + length xs) ys
 identified_append id [] ys =

@@ -17,10 +17,12 @@ use Rattle.collector_core.specs.declared.chronicle.Entry.{Entry}
 use Rattle.collector_core.specs.declared.chronicle.Entry.TheVariants as entry
 use Rattle.collector_core.specs.declared.error.BookError.{BookError}
 use Rattle.collector_core.specs.declared.error.BookError.TheVariants as refused
-use Rattle.collector_core.specs.Book.{IsBook, IsPlaceOf, IsExchange}
+use Rattle.swima_model.specs.Places.{IsPlaceOf}
+use Rattle.collector_core.specs.Book.{IsBook, IsExchange}
 use Rattle.collector_core.specs.Refusals.{LAST, create_refusal, alter_refusal, delete_refusal, others_than}
 use Rattle.collector_core.specs.Standing.{BookView, book_after, creation, alteration, deletion, IsDeletion}
-use Rattle.collector_core.proofs.Places.{Climbs, climbs, climbed, climbs_push, climbs_exchanged, climbs_removed, live_created, live_altered, live_deleted, none_before, at_place, found_here, others_are, octets_append, octets_seam}
+use Rattle.swima_model.proofs.Places.{Climbs, climbs, climbed, climbs_push, none_before, at_place}
+use Rattle.collector_core.proofs.Places.{climbs_exchanged, climbs_removed, live_created, live_altered, live_deleted, found_here, others_are, octets_append, octets_seam}
 
 -- ---- what is not refused
 
@@ -181,19 +183,18 @@ remove_invariant next octets given place rs new taken is lt takes counted =
       fits = not_large new (omega (arith, long, (large_parts rs is.fits).0)) (omega (arith, enough, is.counted, (large_parts rs is.fits).1));
     }
 
-pub remove_after : (book : BookView) (octets place : ℕ) (new : List Record) (stamp : List ℕ) (taken : Record) (body : List ℕ) (log : Log) (eid id : ℕ) → IsBook book.next octets book.records
-    → IsPlaceOf book.records id (Some place) → Takes book.records place taken new → body ≡ [] → eid ≡ book.log.last + 1
-    → log ≡ pushed book.log (record { eid = eid; stamp = stamp; action = Deletion; subject = record taken { content = record taken.content { body = body } } })
+pub remove_after : (book : BookView) (octets place : ℕ) (new : List Record) (stamp : List ℕ) (taken : Record) (log : Log) (eid id : ℕ) → IsBook book.next octets book.records
+    → IsPlaceOf book.records id (Some place) → Takes book.records place taken new → eid ≡ book.log.last + 1
+    → log ≡ pushed book.log (record { eid = eid; stamp = stamp; action = Deletion; subject = taken })
     → (made : Entry) × IsDeletion book.log.last book.records stamp id made × (record { epoch = book.epoch; next = book.next; records = new; log = log } ≡ book_after book made)
-remove_after book octets place new stamp taken body log eid id is at takes empty next logged =
+remove_after book octets place new stamp taken log eid id is at takes next logged =
     let parts = takes at.0 at.1 at.2 at.3 at.4 in
     let up : Climbs (ids (at.0 ++ at.1 ∷ at.2) ++ book.next ∷ []) = climbs (ids (at.0 ++ at.1 ∷ at.2) ++ book.next ∷ []) (subst (λ (l : List Record). IsStrictlyIncreasing (ids l ++ book.next ∷ [])) at.3 is.rising) in
     let live_is : live book.records (deletion book.log.last stamp at.1 ∷ []) ≡ at.0 ++ at.2 =
     ap (λ (l : List Record). live l (deletion book.log.last stamp at.1 ∷ [])) at.3 ∙ live_deleted at.0 at.1 at.2 book.next up (deletion book.log.last stamp at.1) refl refl in
     let log_is : log ≡ pushed book.log (deletion book.log.last stamp at.1) =
     logged
-    ∙ ap (λ (n : ℕ). pushed book.log (record { eid = n; stamp = stamp; action = Deletion; subject = record taken { content = record taken.content { body = body } } })) next
-    ∙ ap (λ (b : List ℕ). pushed book.log (record { eid = book.log.last + 1; stamp = stamp; action = Deletion; subject = record taken { content = record taken.content { body = b } } })) empty
+    ∙ ap (λ (n : ℕ). pushed book.log (record { eid = n; stamp = stamp; action = Deletion; subject = taken })) next
     ∙ ap (λ (r : Record). pushed book.log (deletion book.log.last stamp r)) parts.0 in
     let found : record_of id book.records ≡ Some at.1 =
     ap (record_of id) at.3 ∙ ap (λ (n : ℕ). record_of n (at.0 ++ at.1 ∷ at.2)) (sym at.5) ∙ found_here at.0 at.1 at.2 book.next up in (
@@ -204,12 +205,6 @@ remove_after book octets place new stamp taken body log eid id is at takes empty
     )
 
 -- ---- what a book finds
-
-pub found_is : (next octets id place : ℕ) (rs : List Record) (item : Record) → IsBook next octets rs → IsPlaceOf rs id (Some place) → item ≡ get_or rs place item → Some item ≡ record_of id rs
-found_is next octets id place rs item is at got =
-    let up : Climbs (ids (at.0 ++ at.1 ∷ at.2) ++ next ∷ []) = climbs (ids (at.0 ++ at.1 ∷ at.2) ++ next ∷ []) (subst (λ (l : List Record). IsStrictlyIncreasing (ids l ++ next ∷ [])) at.3 is.rising) in
-    ap (λ (r : Record). Some r) (item_at rs place item at.0 at.1 at.2 at.3 at.4 got)
-    ∙ sym (found_here at.0 at.1 at.2 next up) ∙ ap (λ (n : ℕ). record_of n (at.0 ++ at.1 ∷ at.2)) at.5 ∙ ap (record_of id) (sym at.3)
 
 pub held_is : (next octets id place : ℕ) (rs : List Record) → IsBook next octets rs → (at : IsPlaceOf rs id (Some place)) → record_of id rs ≡ Some at.1
 held_is next octets id place rs is at =
@@ -239,12 +234,7 @@ beside next octets id place rs item is at got =
     let same : content_octets item.content ≡ content_octets at.1.content = ap (λ (r : Record). content_octets r.content) (item_at rs place item at.0 at.1 at.2 at.3 at.4 got) in
     omega (arith, is.counted, whole, same, ap records_octets others)
 
--- What a deletion or an alteration asks of the record.
-pub unknown_false : (last id : ℕ) (rs : List Record) → delete_refusal last rs id ≡ None → not (is_some (record_of id rs)) ≡ false
-unknown_false last id rs none =
-    let one = passes (eqb last LAST) (refused.EidsSpent last) _ none in
-    (passes (not (is_some (record_of id rs))) (refused.UnknownRecord id) None one.1).0
-
+-- There is a further event identifier.
 pub more_eids : (last id : ℕ) (rs : List Record) → delete_refusal last rs id ≡ None → last ≡ LAST → ⊥
 more_eids last id rs none = eqb-false last LAST (passes (eqb last LAST) (refused.EidsSpent last) _ none).0
 

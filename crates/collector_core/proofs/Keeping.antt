@@ -11,7 +11,8 @@ use Rattle.event_log.specs.Log.{IsLog}
 use Rattle.collector_core.specs.declared.chronicle.Entry.{Entry}
 use Rattle.collector_core.specs.declared.chronicle.Entry.TheVariants as entry
 use Rattle.collector_core.specs.declared.error.BookError.{BookError}
-use Rattle.collector_core.specs.Book.{IsBook, IsExchange, IsPlaceOf}
+use Rattle.swima_model.specs.Places.{IsPlaceOf}
+use Rattle.collector_core.specs.Book.{IsBook, IsExchange}
 use Rattle.collector_core.specs.Chronicle.{Chronicle, extended}
 use Rattle.collector_core.specs.Legal.{IsContent}
 use Rattle.collector_core.specs.Refusals.{alter_refusal, create_refusal, delete_refusal, others_than}

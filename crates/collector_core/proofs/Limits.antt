@@ -1,6 +1,6 @@
 -- Records and events of the current epoch of a legal chronicle are within the limits of the fields
 -- that carry them.
-use Rattle.std.proofs.Common.{◌≡◌, ◌||◌, ◌+◌, ◌<◌, ◌≤◌, ◌^◌, ℕ, Bool, true, false, not, eqb, cond, eqb-true, List, [], ◌∷◌, ◌++◌, length, Option, Some, refl, sym, subst, append_assoc, arith}
+use Rattle.std.proofs.Common.{◌≡◌, ◌||◌, ◌+◌, ◌<◌, ◌≤◌, ◌^◌, ℕ, Bool, true, false, not, eqb, cond, eqb-true, List, [], ◌∷◌, ◌++◌, length, Option, Some, refl, sym, ap, subst, append_assoc, arith}
 use Rattle.std.specs.Prelude.{All, is_some}
 use Rattle.std.proofs.lemmas.List.{append-nil}
 use Rattle.std.proofs.lemmas.List.Elements.{All-append, All-cons, All-filter, All-head, All-nil, All-push, All-tail}
@@ -90,9 +90,10 @@ first_within start legal =
 
 -- The record of an event is a new one, or one that is live.
 subject_within : (chronicle : Chronicle) (action : Action) (subject : Record) → All IsWithin (live_now chronicle) → IsSubject chronicle action subject
-    → is_contradiction action (is_some (record_of subject.id (live_now chronicle))) ≡ false → subject.id < 2 ^ 32
+    → is_contradiction action (record_of subject.id (live_now chronicle)) subject.content ≡ false → subject.id < 2 ^ 32
 subject_within chronicle Creation subject all is agrees = omega (arith, is.1)
-subject_within chronicle Deletion subject all is agrees = found_within subject.id (live_now chronicle) all agrees
+subject_within chronicle Deletion subject all is agrees =
+    found_within subject.id (live_now chronicle) all (ap (λ (o : Option Record). not (is_some o)) is)
 subject_within chronicle Alteration subject all is agrees = found_within subject.id (live_now chronicle) all agrees
 
 within_step : (chronicle : Chronicle) (x : Entry) → EpochIsWithin (current chronicle) → IsLegal (at chronicle.start (chronicle.entries ++ x ∷ [])) → EpochIsWithin (epoch_after (current chronicle) x)

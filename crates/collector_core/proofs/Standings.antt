@@ -9,6 +9,7 @@ use Rattle.swima_model.specs.declared.record.Record.{Record}
 use Rattle.swima_model.specs.History.{Epoch, contradicts}
 use Rattle.swima_model.specs.Live.{live, record_of}
 use Rattle.swima_model.specs.Size.{are_large}
+use Rattle.swima_model.proofs.Carrying.{deletion_agrees}
 use Rattle.swima_model.proofs.Living.{live_rises, live_more, live_none}
 use Rattle.event_log.specs.Log.{IsLog, events_from}
 use Rattle.event_log.proofs.Keeping.{from_from, pushed_events}
@@ -21,10 +22,8 @@ use Rattle.collector_core.specs.Refusals.{LAST, create_refusal, alter_refusal, d
 use Rattle.collector_core.specs.declared.error.BookError.{BookError}
 use Rattle.collector_core.specs.declared.error.BookError.TheVariants as refused
 use Rattle.swima_model.specs.declared.record.Content.{Content}
-use Rattle.swima_model.specs.declared.report.Kind.TheVariants.{Ids}
-use Rattle.swima_model.specs.Kinds.{record_of_kind}
 use Rattle.wire_base.specs.Stamp.{IsStamp}
-use Rattle.collector_core.proofs.Changing.{passes, create_allowed, unknown_false, more_eids}
+use Rattle.collector_core.proofs.Changing.{passes, create_allowed, more_eids}
 use Rattle.collector_core.proofs.Chronicles.{current_more, trims_more, next_more, current_honest, legal_event, legal_epoch, legal_trim}
 
 -- ---- events
@@ -236,10 +235,6 @@ alter_enters T old new chronicle stamp id content (Ok told) stands log stamped w
     done.0 done.1.0 (done.1.1 ∙ ap (λ (n : ℕ). entry.Event (alteration n stamp id content)) stands.last) done.1.2
     (subst (λ (x : Entry). Stands (book_after old x) (extended chronicle (x ∷ []))) (sym done.1.1) behind)
 
--- The parts of a content without its body are within their limits.
-no_body : (held : Record) → IsContent held.content → IsContent (record_of_kind Ids held).content
-no_body held is = record { pen = is.pen; kind = is.kind; source = is.source; ident = is.ident; locator = is.locator; body = omega arith; octets = (is.octets.0, is.octets.1, λ i. omega arith) }
-
 pub delete_enters : (T : Type 0) (old new : BookView) (chronicle : Chronicle) (stamp : List ℕ) (id : ℕ) (result : Result T BookError) → Stands old chronicle → IsLog old.log → IsStamp stamp
     → OnOk result ((held : Record) → record_of id old.records ≡ Some held → IsContent held.content) → OnOk result (are_large new.records ≡ false)
     → ChangesExactly (IsDeletion old.log.last old.records stamp id) (delete_refusal old.log.last old.records id) old result new
@@ -253,9 +248,9 @@ delete_enters T old new chronicle stamp id (Ok told) stands log stamped within f
     let live_found : record_of id (live_now chronicle) ≡ Some done.1.1.0 = ap (record_of id) (sym stands.records) ∙ done.1.1.1 in
     let more = more_eids old.log.last id old.records done.0 in
     let behind = stands_event old chronicle (deletion old.log.last stamp done.1.1.0) stands log
-    (record { stamp = stamped; content = no_body done.1.1.0 (within done.1.1.0 found); subject = (done.1.1.0, ap (λ (n : ℕ). record_of n (live_now chronicle)) named ∙ live_found, refl) })
+    (record { stamp = stamped; content = within done.1.1.0 found; subject = ap (λ (n : ℕ). record_of n (live_now chronicle)) named ∙ live_found })
     refl (omega (arith, more, log.room.1)) (λ is. absurd cc)
-    (ap (λ (n : ℕ). not (is_some (record_of n old.records))) named ∙ unknown_false old.log.last id old.records done.0)
+    (deletion_agrees done.1.1.0 (record_of done.1.1.0.id old.records) (ap (λ (n : ℕ). record_of n old.records) named ∙ found))
     (fits_made old new done.1.0 (deletion old.log.last stamp done.1.1.0) done.1.1.2 done.1.2 fits) in
     enters_ok (Unit {0}) (IsDeletion old.log.last old.records stamp id) (IsDeletion (last_eid chronicle) (live_now chronicle) stamp id) _ _ old new chronicle (delete_same old chronicle id stands) stands
     done.0 done.1.0 (done.1.1.0, live_found, done.1.1.2 ∙ ap (λ (n : ℕ). entry.Event (deletion n stamp done.1.1.0)) stands.last) done.1.2

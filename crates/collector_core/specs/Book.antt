@@ -1,10 +1,9 @@
 -- What is true of each book.
-use Rattle.std.specs.Prelude.{◌≡◌, ◌≤◌, ◌+◌, ℕ, false, List, [], ◌∷◌, ◌++◌, Option, Some, None, length}
+use Rattle.std.specs.Prelude.{◌≡◌, ◌≤◌, ◌+◌, ℕ, false, List, [], ◌∷◌, ◌++◌, length}
 use Rattle.std.specs.List.Sorted.{IsStrictlyIncreasing}
 use Rattle.swima_model.specs.declared.record.Content.{Content}
 use Rattle.swima_model.specs.declared.record.Record.{Record}
 use Rattle.swima_model.specs.InOrder.{ids}
-use Rattle.swima_model.specs.Live.{record_of}
 use Rattle.swima_model.specs.Size.{MOST_RECORDS_OCTETS, are_large, content_octets, records_octets}
 
 -- The identifiers of its records rise, and the next is above them; the octets are counted, and the
@@ -13,14 +12,6 @@ pub record IsBook (next octets : ℕ) (records : List Record) : Type 0 where
   pub rising : IsStrictlyIncreasing (ids records ++ next ∷ [])
   pub counted : octets ≡ records_octets records
   pub fits : are_large records ≡ false
-
--- The place at which the record of an identifier stands among the records, or `None` where there is
--- none.
-abbrev pub IsPlaceOf : List Record → ℕ → Option ℕ → Type 0
-IsPlaceOf records id None = record_of id records ≡ None
-IsPlaceOf records id (Some place) =
-    (before : List Record) × (held : Record) × (after : List Record) × (records ≡ before ++ held ∷ after) × (place ≡ length before)
-    × (held.id ≡ id)
 
 -- With this content in place of that of the record at the place, the records have that many octets,
 -- and not too many.

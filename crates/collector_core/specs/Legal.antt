@@ -7,9 +7,7 @@ use Rattle.swima_model.specs.declared.event.Action.TheVariants.{Creation, Deleti
 use Rattle.swima_model.specs.declared.event.Event.{Event}
 use Rattle.swima_model.specs.declared.record.Content.{Content}
 use Rattle.swima_model.specs.declared.record.Record.{Record}
-use Rattle.swima_model.specs.declared.report.Kind.TheVariants.{Ids}
 use Rattle.swima_model.specs.History.{IsHonest}
-use Rattle.swima_model.specs.Kinds.{record_of_kind}
 use Rattle.swima_model.specs.Live.{record_of}
 use Rattle.collector_core.specs.declared.chronicle.Entry.{Entry}
 use Rattle.collector_core.specs.declared.chronicle.Entry.TheVariants as entry
@@ -32,11 +30,10 @@ pub record IsStart (start : Start) : Type 0 where
   pub contents : All IsContent start.contents
 
 -- The record of an event is the next one where it was created, below the last number of four
--- octets; and where it was deleted the one that was live, without its body.
+-- octets; and where it was deleted the one that was live, whole.
 abbrev pub IsSubject : Chronicle → Action → Record → Type 0
 IsSubject chronicle Creation subject = (subject.id ≡ next_id chronicle) × (subject.id < 2 ^ 32 - 1)
-IsSubject chronicle Deletion subject = (held : Record) × (record_of subject.id (live_now chronicle) ≡ Some held)
-    × (subject ≡ record_of_kind Ids held)
+IsSubject chronicle Deletion subject = record_of subject.id (live_now chronicle) ≡ Some subject
 IsSubject chronicle Alteration subject = Unit {0}
 
 -- The event may follow on the chronicle, if it agrees with what is live.

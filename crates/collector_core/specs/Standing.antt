@@ -6,8 +6,6 @@ use Rattle.swima_model.specs.declared.event.Action.TheVariants.{Creation, Deleti
 use Rattle.swima_model.specs.declared.event.Event.{Event}
 use Rattle.swima_model.specs.declared.record.Content.{Content}
 use Rattle.swima_model.specs.declared.record.Record.{Record}
-use Rattle.swima_model.specs.declared.report.Kind.TheVariants.{Ids}
-use Rattle.swima_model.specs.Kinds.{record_of_kind}
 use Rattle.swima_model.specs.Live.{live, record_of}
 use Rattle.event_log.specs.Log.{Log, empty_log, events_from, kept_from, pushed}
 use Rattle.collector_core.specs.declared.chronicle.Entry.{Entry}
@@ -50,9 +48,9 @@ creation last next stamp content = record { eid = last + 1; stamp = stamp; actio
 abbrev pub alteration : ℕ → List ℕ → ℕ → Content → Event
 alteration last stamp id content = record { eid = last + 1; stamp = stamp; action = Alteration; subject = record { id = id; content = content } }
 
--- The event that deletes a record: it keeps the record that was live, without its body.
+-- The event that deletes a record: it carries the record that was live, whole.
 abbrev pub deletion : ℕ → List ℕ → Record → Event
-deletion last stamp held = record { eid = last + 1; stamp = stamp; action = Deletion; subject = record_of_kind Ids held }
+deletion last stamp held = record { eid = last + 1; stamp = stamp; action = Deletion; subject = held }
 
 -- The entry is one of these.
 abbrev pub IsCreation : ℕ → ℕ → List ℕ → Content → Entry → Type 0

@@ -25,11 +25,11 @@ pub(crate) mod edit;
 
 use crate::answer::Answer;
 use crate::error::BookError;
-use crate::records::{identified, octets_of, place_of};
+use crate::records::{identified, octets_of};
 use event_log::EventLog;
 use std::alloc::Global;
 use std::marker::Model;
-use swima_model::{Content, MOST_RECORDS, MOST_RECORDS_OCTETS, Point, Record};
+use swima_model::{Content, MOST_RECORDS, MOST_RECORDS_OCTETS, Point, Record, record_of};
 use swima_request::{Idents, Request};
 use wire_base::Memory;
 
@@ -124,8 +124,7 @@ impl Book {
         ensures live { option_copied result ≡ record_of id self.now.records }
         ensures stands { (chronicle : Chronicle) → Stands self.now chronicle → option_copied result ≡ record_of id (live_now chronicle) }
     {
-        let place = place_of(self.records.as_slice(), id)?;
-        Some(&self.records[place])
+        record_of(self.records.as_slice(), id)
     }
 
     /// Whether the epoch of the point is not the current one, or an event after the point is no
@@ -181,7 +180,7 @@ impl Book {
         self.try_alter(stamp, id, content)
     }
 
-    /// Deletes a live record. Its event keeps all but the body. Refusals: `EidsSpent`,
+    /// Deletes a live record, which moves to its event whole. Refusals: `EidsSpent`,
     /// `UnknownRecord`. It takes no memory.
     pub fn delete(&mut self, stamp: &[u8; 20], id: u32) -> Result<(), BookError>
         requires stamp { IsStamp stamp.now }

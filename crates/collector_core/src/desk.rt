@@ -48,7 +48,7 @@ pub trait Desk {
         requires stamp { IsStamp stamp.now }
         ensures edits { Edits stands went (Alters stamp.now id content.now) (alters_not id content.now) self.old self.new result };
 
-    /// Deletes a live record. Its event keeps all but the body. Refusals: `EidsSpent`,
+    /// Deletes a live record, which moves to its event whole. Refusals: `EidsSpent`,
     /// `UnknownRecord`. It takes no memory.
     fn delete(&mut self, stamp: &[u8; 20], id: u32) -> Result<(), BookError>
         requires takes { takes self.old ≡ true }

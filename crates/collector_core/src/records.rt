@@ -2,26 +2,15 @@
 
 ghost use Rattle.std.specs.Prelude.{◌≡◌, ◌<◌, ◌≤◌, ◌+◌, ◌++◌, ◌∷◌, [], All, IfOk, List, OnErr, OnOk, length};
 ghost use Rattle.std.specs.List.{sum_by};
-ghost use Rattle.std.specs.List.Sorted.{IsStrictlyIncreasing};
 ghost use Rattle.wire_base.specs.Layout.{AreOctets};
 ghost use Rattle.swima_model.specs.declared.record.Record.{Record};
-ghost use Rattle.swima_model.specs.InOrder.{ids};
 ghost use Rattle.swima_model.specs.Size.{content_octets};
-ghost use Rattle.collector_core.specs.Book.{IsPlaceOf};
 ghost use Rattle.collector_core.specs.Chronicle.{identified_from};
 ghost use Rattle.collector_core.specs.Legal.{IsContent};
 
 use std::alloc::Global;
 use swima_model::{Content, Record};
 use wire_base::{Memory, TryCopy};
-
-/// Where the record of an identifier stands, among records of rising identifiers.
-pub(crate) fn place_of(records: &[Record], id: u32) -> Option<usize>
-    requires rising { IsStrictlyIncreasing (ids records.now) }
-    ensures place { IsPlaceOf records.now id result }
-{
-    records.binary_search_by_key(&id, |record| record.id).ok()
-}
 
 /// How many octets the contents have together.
 pub(crate) fn octets_of(contents: &[Content]) -> u64

@@ -24,6 +24,7 @@ mod payload;
 mod report;
 mod request;
 mod row;
+mod status;
 mod stream;
 mod tag;
 mod text;
@@ -85,6 +86,9 @@ pub(crate) fn answer(alloc: Global, held: &mut Held, call: &str, words: &str) ->
         "fault_batch" => batches::fault_of(alloc, words),
         "request" => request::request(alloc, words),
         "request_written" => request::request_written(alloc, words),
+        "status" => status::status(alloc, words),
+        "status_written" => status::status_written(alloc, words),
+        "status_fits" => status::fits(alloc, words),
         "report" => report::report(alloc, words),
         "report_written" => report::report_written(alloc, words),
         "tag" => tag::tag(alloc, words),

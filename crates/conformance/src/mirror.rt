@@ -1,10 +1,10 @@
 //! A mirror and the reports that it takes, one after another.
 
 use crate::report::{action_of, kind_of, kind_word};
-use crate::words::{number_list, word_list};
+use crate::words::word_list;
 use std::alloc::Global;
 use swima_model::{
-    Body, Content, Event, Events, Ident, Locator, Model, Point, Record, Records, Report,
+    Action, Body, Content, Event, Events, Ident, Locator, Model, Point, Record, Records, Report,
 };
 use validator_core::{Mirror, Taken, Want};
 use wire_base::List;
@@ -12,9 +12,13 @@ use wire_base::List;
 /// The most records and events of a report in a row.
 const MOST: usize = 100;
 
-/// `mirror new KIND`, `mirror inventory KIND EPOCH EVENT IDS` or
-/// `mirror events KIND EPOCH EVENT CONSULTED EVENTS`, each event `EVENT:ACTION:ID`: the answer to
-/// the report, and the mirror then. `mirror source PLACE`: the source of a record.
+/// `mirror new KIND`, `mirror inventory KIND EPOCH EVENT RECORDS` or
+/// `mirror events KIND EPOCH EVENT CONSULTED EVENTS`, each event `EVENT:ACTION:RECORD`: the answer
+/// to the report, and the mirror then. `mirror source PLACE`: the source of a record.
+///
+/// A record is its identifier, then what it has of these: `+sN` the source, `+pN` and `+mN` the two
+/// numbers of the data model, `+iTEXT` the software identifier, `+lTEXT` the locator, `+bTEXT` the
+/// body.
 pub(crate) fn step(alloc: Global, mirror: &mut Mirror, words: &str) -> Option<String> {
     let (word, rest) = words.split_once(' ')?;
     match word {
@@ -31,7 +35,7 @@ pub(crate) fn step(alloc: Global, mirror: &mut Mirror, words: &str) -> Option<St
     }
 }
 
-/// Takes an inventory of records of the identifiers.
+/// Takes an inventory of records.
 fn inventory(alloc: Global, mirror: &mut Mirror, words: &str) -> Option<String> {
     let mut words = words.split(' ');
     let kind = kind_of(words.next()?)?;
@@ -73,7 +77,8 @@ fn events(alloc: Global, mirror: &mut Mirror, words: &str) -> Option<String> {
     answer_text(alloc, taken, mirror)
 }
 
-/// The source of the record at the place: the event identifier of the event that carried it, or 0.
+/// The source of the record at the place: unless a row says another, the event identifier of the
+/// creation or alteration that carried it, or 0.
 fn source(alloc: Global, mirror: &Mirror, place: u32) -> Option<String> {
     let source = mirror.record_at(place)?.content.source;
     format!(in alloc; "{source}").ok()
@@ -86,11 +91,11 @@ fn point_of(epoch: &str, eid: &str) -> Option<Point> {
     })
 }
 
-/// Records of the identifiers, from the source 0.
-fn records_of(alloc: Global, ids: &str) -> Option<Records> {
+/// Records, from the source 0 unless they say another.
+fn records_of(alloc: Global, list: &str) -> Option<Records> {
     let mut records = List::new(alloc);
-    for id in number_list(alloc, ids)?.as_slice() {
-        records.push(record_of(alloc, *id, 0)).ok()?;
+    for word in word_list(alloc, list)?.as_slice() {
+        records.push(record_of(alloc, word, 0)?).ok()?;
     }
     Some(records)
 }
@@ -103,31 +108,64 @@ fn events_of(alloc: Global, list: &str) -> Option<Events> {
     Some(events)
 }
 
-/// The event of a word, whose record has the event identifier as its source.
+/// The event of a word. Its record has the event identifier as its source, and that of a deletion
+/// 0, unless the word says another.
 fn event_of(alloc: Global, word: &str) -> Option<Event> {
     let (eid, rest) = word.split_once(':')?;
-    let (action, id) = rest.split_once(':')?;
+    let (action, record) = rest.split_once(':')?;
     let eid: u32 = eid.parse().ok()?;
     let action = action_of(action)?;
+    let source = match action {
+        Action::Deletion => 0,
+        Action::Creation | Action::Alteration => (eid % 256) as u8,
+    };
     Some(Event {
         eid,
         stamp: *b"2026-02-03T04:05:06Z",
         action,
-        subject: record_of(alloc, id.parse().ok()?, (eid % 256) as u8),
+        subject: record_of(alloc, record, source)?,
     })
 }
 
-fn record_of(alloc: Global, id: u32, source: u8) -> Record {
-    Record {
-        id,
-        content: Content {
-            model: Model { pen: 9, kind: 1 },
-            source,
-            ident: Ident::empty(alloc),
-            locator: Locator::empty(alloc),
-            body: Body::empty(alloc),
-        },
+/// The record of a word, from this source unless the word says another.
+fn record_of(alloc: Global, word: &str, source: u8) -> Option<Record> {
+    let mut parts = word.split('+');
+    let id: u32 = parts.next()?.parse().ok()?;
+    let mut content = Content {
+        model: Model { pen: 9, kind: 1 },
+        source,
+        ident: Ident::empty(alloc),
+        locator: Locator::empty(alloc),
+        body: Body::empty(alloc),
+    };
+    for part in parts {
+        content = with_part(alloc, content, part)?;
     }
+    Some(Record { id, content })
+}
+
+/// The content with what a part of a word says.
+fn with_part(alloc: Global, content: Content, part: &str) -> Option<Content> {
+    let (field, text) = part.split_at_checked(1)?;
+    let mut content = content;
+    match field {
+        "s" => content.source = text.parse().ok()?,
+        "p" => content.model = model_of(text.parse().ok()?, content.model.kind)?,
+        "m" => content.model = model_of(content.model.pen, text.parse().ok()?)?,
+        "i" => content.ident = Ident::new(alloc, text.as_bytes()).ok()?,
+        "l" => content.locator = Locator::new(alloc, text.as_bytes()).ok()?,
+        "b" => content.body = Body::new(alloc, text.as_bytes()).ok()?,
+        _ => return None,
+    }
+    Some(content)
+}
+
+/// The data model of two numbers, where the first is below 2^24.
+fn model_of(pen: u32, kind: u8) -> Option<Model> {
+    if pen > 0xff_ffff {
+        return None;
+    }
+    Some(Model { pen, kind })
 }
 
 /// The answer, and the mirror then.

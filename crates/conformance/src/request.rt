@@ -46,7 +46,7 @@ fn written_again(alloc: Global, value: &[u8]) -> Result<Octets, FieldRefused>
 
 /// Both flags, the kind, the identifier, the earliest event and the targets; `all` where there is
 /// none.
-fn request_text(alloc: Global, request: &Request) -> Option<String> {
+pub(crate) fn request_text(alloc: Global, request: &Request) -> Option<String> {
     let clear = if request.clear { "clear" } else { "-" };
     let subscribe = if request.subscribe { "subscribe" } else { "-" };
     let kind = kind_word(request.kind);

@@ -1,6 +1,6 @@
 -- Events that are numbered one by one, and the log with one more.
 use Rattle.std.proofs.Common.{◌≡◌, inl, inr, ℕ, zero, suc, ◌+◌, ◌-◌, ◌<◌, ◌≤◌, ◌^◌, leb, ltb, cond, List, [], ◌∷◌, ◌++◌, length, drop, Option, None, refl, sym, ap, ◌∙◌, subst, arith}
-use Rattle.std.specs.Prelude.{max, slice_get, option_to_list}
+use Rattle.std.specs.Prelude.{max, slice_get}
 use Rattle.std.proofs.lemmas.Bool.{cases_lt, cond-true, cond-false, lt-ltb, le-ltb, le-leb, lt-leb}
 use Rattle.std.proofs.lemmas.List.{length-append, length-drop, drop-append-le}
 use Rattle.swima_model.specs.declared.event.Event.{Event}
@@ -43,30 +43,30 @@ from_is_drop first n (x ∷ xs) h = elim (cases_lt n first) [
 
 -- ---- the log with one more
 
-behind : (zs ys : List Event) → 1 ≤ length zs → zs ≡ option_to_list (slice_get zs 0) ++ ys → ys ≡ drop 1 zs
-behind [] ys few parts = absurd (omega (arith, few))
-behind (z ∷ zs) ys few parts = let same : zs ≡ ys = cc in sym same
+-- What a ring of that many events keeps of some and one more.
+pub kept_last : (cap : ℕ) (xs : List Event) (e : Event) → 1 ≤ cap
+    → drop (length (xs ++ e ∷ []) - cap) (xs ++ e ∷ []) ≡ drop (length xs + 1 - cap) xs ++ e ∷ []
+kept_last cap xs e some =
+    let count : length (xs ++ e ∷ []) - cap ≡ length xs + 1 - cap = omega (arith, length-append xs (e ∷ [])) in
+    ap (λ (n : ℕ). drop n (xs ++ e ∷ [])) count ∙ drop-append-le (length xs + 1 - cap) xs (e ∷ []) (omega (arith, some))
 
--- Where a log of `cap` events is full, the first was taken out.
-taken_out : (cap : ℕ) (oldest : Option Event) (xs ys : List Event) → 1 ≤ cap → length xs ≤ cap
-    → oldest ≡ cond (ltb (length xs) cap) None (slice_get xs 0) → xs ≡ option_to_list oldest ++ ys → ys ≡ drop (length xs + 1 - cap) xs
-taken_out cap oldest xs ys some few is parts = elim (cases_lt (length xs) cap) [
+-- Where it is full, the oldest of all is the first that was there.
+first_of : (xs : List Event) (e : Event) → 1 ≤ length xs → slice_get (xs ++ e ∷ []) 0 ≡ slice_get xs 0
+first_of [] e some = absurd (omega (arith, some))
+first_of (x ∷ xs) e some = refl
+
+pub first_out : (cap : ℕ) (xs : List Event) (e : Event) → 1 ≤ cap
+    → cond (ltb (length xs) cap) None (slice_get (xs ++ e ∷ []) 0) ≡ cond (ltb (length xs) cap) None (slice_get xs 0)
+first_out cap xs e some = elim (cases_lt (length xs) cap) [
   | inl room ↦
-      let none : oldest ≡ None = is ∙ cond-true (ltb (length xs) cap) None (slice_get xs 0) (lt-ltb (length xs) cap room) in
-      let k : length xs + 1 - cap ≡ 0 = omega (arith, room) in
-      sym (parts ∙ ap (λ (o : Option Event). option_to_list o ++ ys) none) ∙ ap (λ (m : ℕ). drop m xs) (sym k)
-  | inr full ↦
-      let first : oldest ≡ slice_get xs 0 = is ∙ cond-false (ltb (length xs) cap) None (slice_get xs 0) (le-ltb (length xs) cap full) in
-      let k : length xs + 1 - cap ≡ 1 = omega (arith, full, few) in
-      behind xs ys (omega (arith, some, full)) (parts ∙ ap (λ (o : Option Event). option_to_list o ++ ys) first) ∙ ap (λ (m : ℕ). drop m xs) (sym k)
+      cond-true (ltb (length xs) cap) None (slice_get (xs ++ e ∷ []) 0) (lt-ltb (length xs) cap room)
+      ∙ sym (cond-true (ltb (length xs) cap) None (slice_get xs 0) (lt-ltb (length xs) cap room))
+  | inr full ↦ ap (λ (o : Option Event). cond (ltb (length xs) cap) None o) (first_of xs e (omega (arith, some, full)))
 ]
 
 -- What the log holds then is what the clause says, and is a log.
-module _ (cap last : ℕ) (oldest : Option Event) (xs ys : List Event) (e : Event) (log : IsLog (log_of cap last xs)) (next : e.eid ≡ last + 1)
-    (is : oldest ≡ cond (ltb (length xs) cap) None (slice_get xs 0)) (parts : xs ≡ option_to_list oldest ++ ys) where
-  left : ys ≡ drop (length xs + 1 - cap) xs
-  left = taken_out cap oldest xs ys log.caps.0 log.few is parts
-
+module _ (cap last : ℕ) (xs ys : List Event) (e : Event) (log : IsLog (log_of cap last xs)) (next : e.eid ≡ last + 1)
+    (left : ys ≡ drop (length xs + 1 - cap) xs) where
   left_length : length ys ≡ length xs - (length xs + 1 - cap)
   left_length = ap length left ∙ length-drop (length xs + 1 - cap) xs
 

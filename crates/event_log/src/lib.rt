@@ -1,7 +1,8 @@
 //! The latest events of an epoch, which a collector keeps to report what changed (RFC 8412,
 //! section 3.7).
 //!
-//! It stands on `swima_model` and `wire_base`. The crates above rest on:
+//! It stands on `swima_model` and `wire_base`, and on `circular_buffer` for the ring that keeps the
+//! events. The crates above rest on:
 //!
 //! - `pushed`, `trimmed` and `cleared`: what the log keeps after each change, in the words of
 //!   `specs/Log.antt`.

@@ -1,33 +1,34 @@
 //! The log of the latest events.
 
-ghost use Rattle.std.specs.Prelude.{◌≡◌, ◌<◌, ◌≤◌, ◌+◌, ◌-◌, ◌↔◌, ◌++◌, ◌∷◌, [], None, IfOk, IsSome, drop, length, nat_lt, option_to_list, slice_get, if◌then◌else◌};
+ghost use Rattle.std.specs.Prelude.{◌≡◌, ◌≤◌, ◌+◌, ◌-◌, ◌↔◌, ◌++◌, ◌∷◌, [], None, IfOk, IsSome, drop, length, nat_lt, slice_get, if◌then◌else◌};
 ghost use Rattle.std.specs.Option.{option_copied};
-ghost use Rattle.std.specs.Vec.{vec_len, vec_capacity};
+ghost use Rattle.circular_buffer.specs.Buffer.{buffer, keep_last};
 ghost use Rattle.event_log.specs.Log.{IsLog, Log, empty_log, event_at, kept_from, pushed};
 
+use circular_buffer::HeapCircularBuffer;
 use std::alloc::Global;
 use std::marker::Model;
 use swima_model::Event;
 use wire_base::Memory;
 
-/// The latest events of an epoch, by their event identifiers.
+/// The latest events of an epoch, by their event identifiers: a ring, so that the oldest goes when
+/// a newer one comes and no other event moves.
 #[derive(Debug, Drop)]
 pub struct EventLog {
     cap: usize,
     last: u32,
-    events: Vec<Event>,
+    events: HeapCircularBuffer<Event>,
 }
 
 impl Model for EventLog {
-    ghost use Rattle.std.specs.Prelude.{◌≤◌};
-    ghost use Rattle.std.specs.Vec.{vec_capacity};
+    ghost use Rattle.std.specs.Prelude.{◌≡◌};
     ghost use Rattle.event_log.specs.Log.{IsLog, Log, log_of};
 
     ghost Value = { Log };
 
     ghost view = { λ log. log_of log.cap log.last log.events.items };
 
-    ghost invariant = { λ log. (log.cap ≤ vec_capacity log.events) × IsLog (log_of log.cap log.last log.events.items) };
+    ghost invariant = { λ log. (log.events.capacity ≡ log.cap) × IsLog (log_of log.cap log.last log.events.items) };
 }
 
 impl EventLog {
@@ -40,7 +41,7 @@ impl EventLog {
         Ok(EventLog {
             cap,
             last: 0,
-            events: Vec::with_capacity(alloc, cap)?,
+            events: HeapCircularBuffer::with_capacity(alloc, cap)?,
         })
     }
 
@@ -51,10 +52,8 @@ impl EventLog {
         ensures pushed { self.new ≡ pushed self.old event }
         ensures oldest { result ≡ (if nat_lt (length self.old.events) self.old.cap then None else slice_get self.old.events 0) }
     {
-        let oldest = make_room(&mut self.events, self.cap);
         self.last = event.eid;
-        put_last(&mut self.events, event);
-        oldest
+        put_last(&mut self.events, event)
     }
 
     /// The event identifier of the first event that is kept; 1 above the last where none is. It
@@ -103,33 +102,20 @@ impl EventLog {
     }
 }
 
-/// Where `cap` events are held, takes the first out.
-fn make_room(events: &mut Vec<Event>, cap: usize) -> Option<Event>
-    requires some { 1 ≤ cap }
-    ensures oldest { result ≡ (if nat_lt (length events.old.items) cap then None else slice_get events.old.items 0) }
-    ensures others { events.old.items ≡ option_to_list result ++ events.new.items }
-    ensures room { vec_capacity events.new ≡ vec_capacity events.old }
+/// Puts an event at the end, and takes the first out where there was no room.
+fn put_last(events: &mut HeapCircularBuffer<Event>, event: Event) -> Option<Event>
+    ensures oldest { result ≡ (if nat_lt (length events.old.items) events.old.capacity then None
+        else slice_get (events.old.items ++ event ∷ []) 0) }
+    ensures kept { events.new ≡ buffer (keep_last events.old.capacity (events.old.items ++ event ∷ [])) events.old.capacity }
 {
-    if events.len() < cap {
-        return None;
-    }
-    Some(events.remove(0))
-}
-
-/// Puts an event at the end, for which there is room.
-fn put_last(events: &mut Vec<Event>, event: Event)
-    requires room { vec_len events.old < vec_capacity events.old }
-    ensures items { events.new.items ≡ events.old.items ++ event ∷ [] }
-    ensures room { vec_capacity events.old ≤ vec_capacity events.new }
-{
-    events.push(event).unwrap();
+    events.push_back(event)
 }
 
 /// Drops that many events from the start, all at once.
-fn drop_front(events: &mut Vec<Event>, count: usize)
-    requires within { count ≤ vec_len events.old }
+fn drop_front(events: &mut HeapCircularBuffer<Event>, count: usize)
+    requires within { count ≤ length events.old.items }
     ensures rest { events.new.items ≡ drop count events.old.items }
-    ensures room { vec_capacity events.new ≡ vec_capacity events.old }
+    ensures room { events.new.capacity ≡ events.old.capacity }
 {
-    drop(events.drain(..count));
+    events.truncate_front(events.len() - count);
 }

@@ -1,5 +1,5 @@
-//! Tests of inventories at both ends: books and mirrors as large as they may be, a book through the
-//! calls of a desk, and what may go to another thread.
+//! Tests of inventories at both ends: books and mirrors as large as they may be, the events of a
+//! book, a book through the calls of a desk, and what may go to another thread.
 #![tactic(auto)]
 
 #[cfg(test)]
@@ -8,6 +8,8 @@ mod book_limit_tests;
 mod books;
 #[cfg(test)]
 mod desk_tests;
+#[cfg(test)]
+mod event_tests;
 #[cfg(test)]
 mod mirror_limit_tests;
 #[cfg(test)]

@@ -17,4 +17,6 @@ mod report_tests;
 #[cfg(test)]
 mod request_tests;
 #[cfg(test)]
+mod status_tests;
+#[cfg(test)]
 mod written_tests;

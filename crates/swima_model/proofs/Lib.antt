@@ -3,5 +3,8 @@ pub mod Rises
 pub mod Placing
 pub mod Living
 pub mod OfKind
+pub mod Carrying
 pub mod Honest
+pub mod Weighing
+pub mod Places
 pub mod Fulfils

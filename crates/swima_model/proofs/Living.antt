@@ -71,7 +71,7 @@ only_step : (here : Bool) (r : Record) (found : Option Record) (rest : List Reco
 only_step true r found rest e none = ap (λ (rs : List Record). r ∷ rs) (none refl)
 only_step false r found rest e none = e
 
-strict_of_id : (id : ℕ) (rs : List Record) → IsStrictlyIncreasing (ids rs) → of_id id rs ≡ option_to_list (record_of id rs)
+pub strict_of_id : (id : ℕ) (rs : List Record) → IsStrictlyIncreasing (ids rs) → of_id id rs ≡ option_to_list (record_of id rs)
 strict_of_id id [] up = refl
 strict_of_id id (r ∷ rs) up =
     only_step (eqb r.id id) r (record_of id rs) (of_id id rs) (strict_of_id id rs (strict_rest r.id (ids rs) up))

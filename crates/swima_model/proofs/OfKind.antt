@@ -1,6 +1,6 @@
 -- What is live, as reports of a kind carry it.
 use Rattle.std.proofs.Common.{◌≡◌, ℕ, suc, ◌≤◌, eqb, cond, ltb, Bool, true, false, List, [], ◌∷◌, length, Option, Some, None, refl, sym, ap, ◌∙◌, subst, arith, ltb-false}
-use Rattle.std.specs.Prelude.{is_some, option_map}
+use Rattle.std.specs.Prelude.{option_map}
 use Rattle.std.specs.List.Sorted.{IsStrictlyIncreasing}
 use Rattle.std.proofs.lemmas.Bool.{le-ltb, or_parts}
 use Rattle.std.proofs.lemmas.List.Sums.{sum_by-cons}
@@ -68,14 +68,6 @@ live_of_kind kind base events up =
           ∙ ap (λ (b : Option Record). by_mention b (option_map (event_of_kind kind) (last_mention id events))) (sym (record_of_map kind id base))
           ∙ ap (by_mention (record_of id (records_of_kind kind base))) (sym (last_mention_map kind id events));
     })
-
--- Whether there is a record does not hang on the kind.
-some_map : {A B : Type 0} (f : A → B) (o : Option A) → is_some (option_map f o) ≡ is_some o
-some_map f None = refl
-some_map f (Some x) = refl
-
-pub some_of_kind : (kind : Kind) (id : ℕ) (rs : List Record) → is_some (record_of id (records_of_kind kind rs)) ≡ is_some (record_of id rs)
-some_of_kind kind id rs = ap is_some (record_of_map kind id rs) ∙ some_map (record_of_kind kind) (record_of id rs)
 
 -- Records of a kind are not larger.
 body_octets : (kind : Kind) (body : List ℕ) → length (body_of_kind kind body) ≤ length body

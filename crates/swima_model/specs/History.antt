@@ -1,15 +1,17 @@
 -- The history of an endpoint's inventory: epochs, and in each epoch events (RFC 8412,
 -- section 3.7.1). Which histories are honest, and which reports answer from one.
-use Rattle.std.specs.Prelude.{◌≡◌, ◌≢◌, ◌<◌, ◌≤◌, ◌+◌, ◌^◌, ◌&&◌, ℕ, Bool, false, not, is_some, List, [], ◌∷◌, ◌++◌, All, AllPairs, Contains, length, take, filter, nat_le}
+use Rattle.std.specs.Prelude.{◌≡◌, ◌≢◌, ◌<◌, ◌≤◌, ◌+◌, ◌^◌, ◌&&◌, ℕ, Bool, false, not, is_some, List, [], ◌∷◌, ◌++◌, Option, Some, None, All, AllPairs, Contains, length, take, filter, nat_le}
 use Rattle.std.specs.List.Sorted.{IsStrictlyIncreasing}
 use Rattle.swima_model.specs.declared.event.Action.{Action}
 use Rattle.swima_model.specs.declared.event.Action.TheVariants.{Creation, Deletion, Alteration}
 use Rattle.swima_model.specs.declared.event.Event.{Event}
+use Rattle.swima_model.specs.declared.record.Content.{Content}
 use Rattle.swima_model.specs.declared.record.Record.{Record}
 use Rattle.swima_model.specs.declared.report.Kind.{Kind}
 use Rattle.swima_model.specs.declared.report.Point.{Point}
 use Rattle.swima_model.specs.declared.report.Report.{Report}
 use Rattle.swima_model.specs.declared.report.Report.TheVariants.{Inventory, Events}
+use Rattle.swima_model.specs.Carried.{carries}
 use Rattle.swima_model.specs.InOrder.{ids}
 use Rattle.swima_model.specs.Kinds.{records_of_kind, events_of_kind}
 use Rattle.swima_model.specs.Live.{live, record_of}
@@ -31,16 +33,22 @@ live_at epoch count kind = records_of_kind kind (live epoch.base (take count epo
 
 -- ---- honest histories
 
--- The action contradicts that its record is live, or that it is not.
-abbrev pub is_contradiction : Action → Bool → Bool
-is_contradiction Creation is_live = is_live
-is_contradiction Deletion is_live = not is_live
-is_contradiction Alteration is_live = not is_live
+-- The content is carried by the event of a deletion, where this is live of its record.
+abbrev pub is_carried : Option Record → Content → Bool
+is_carried None content = false
+is_carried (Some held) content = carries held.content content
 
--- The event contradicts what is live before it: it creates a record that is live, or alters or
--- deletes one that is not.
+-- The action, with this content, contradicts what is live of its record.
+abbrev pub is_contradiction : Action → Option Record → Content → Bool
+is_contradiction Creation held content = is_some held
+is_contradiction Deletion held content = not (is_carried held content)
+is_contradiction Alteration held content = not (is_some held)
+
+-- The event contradicts what is live before it: it creates a record that is live, alters or deletes
+-- one that is not, or deletes one with another content than the live one, where an empty body
+-- counts as equal.
 abbrev pub contradicts : List Record → Event → Bool
-contradicts records event = is_contradiction event.action (is_some (record_of event.subject.id records))
+contradicts records event = is_contradiction event.action (record_of event.subject.id records) event.subject.content
 
 -- The event identifiers are this number and those after it, one by one.
 abbrev pub AreNumberedFrom : ℕ → List Event → Type 0

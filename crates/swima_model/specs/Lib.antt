@@ -1,4 +1,5 @@
 pub mod Bounded
+pub mod Carried
 pub mod DataModel
 pub mod Doubled
 pub mod Fulfilling
@@ -6,6 +7,7 @@ pub mod History
 pub mod InOrder
 pub mod Kinds
 pub mod Live
+pub mod Places
 pub mod Repeated
 pub mod Reports
 pub mod Rising

@@ -33,7 +33,8 @@ pub struct Event {
     pub stamp: [u8; 20],
     /// What was done.
     pub action: Action,
-    /// The record as the change left it; of a deletion, the record that went.
+    /// The record as the change left it; of a deletion, the record that went, or the same with an
+    /// empty body.
     pub subject: Record,
 }
 

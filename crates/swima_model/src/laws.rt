@@ -1,5 +1,6 @@
 //! What the definitions mean, proved of every value: the calls do nothing.
 
+ghost use Rattle.swima_model.specs.Carried.{CarriesIsTested};
 ghost use Rattle.swima_model.specs.Fulfilling.{FulfillingIsAlike};
 ghost use Rattle.swima_model.specs.Live.{LiveIsLastMention};
 ghost use Rattle.swima_model.specs.Repeated.{DoubledIsLeastRepeated};
@@ -30,4 +31,10 @@ pub fn live_is_last_mention()
 /// does.
 pub fn fulfilling_is_alike()
     ensures law { FulfillingIsAlike }
+{}
+
+/// The test that a deletion's content is the one that is held tells exactly that they are one, or
+/// differ in that the body is left out.
+pub fn carries_is_tested()
+    ensures law { CarriesIsTested }
 {}

@@ -1,6 +1,7 @@
 //! Software inventory evidence records.
 
 ghost use Rattle.std.specs.Prelude.{◌≡◌, ◌≤◌, ◌+◌};
+ghost use Rattle.swima_model.specs.Carried.{carries};
 ghost use Rattle.swima_model.specs.Size.{MOST_CONTENT_OCTETS, body_size, content_octets, record_size};
 
 use crate::bounded::{Body, Ident, Locator};
@@ -62,6 +63,20 @@ impl Content {
         let locator = self.locator.bytes().len();
         let body = self.body.bytes().len();
         ident as u64 + locator as u64 + body as u64
+    }
+
+    /// Whether the event of a deletion may carry `carried` where this is the content that is live:
+    /// it is the same, or the same with an empty body. It takes no memory.
+    pub fn carries(&self, carried: &Content) -> bool
+        ensures carries { result ≡ carries self.now carried.now }
+    {
+        let model = carried.model;
+        model.pen == self.model.pen
+            && model.kind == self.model.kind
+            && carried.source == self.source
+            && carried.ident == self.ident
+            && carried.locator == self.locator
+            && (carried.body.bytes().is_empty() || carried.body == self.body)
     }
 }
 

@@ -1,3 +1,6 @@
+pub mod Each
+pub mod Writing
 pub mod RequestLaws
 pub mod FaultLaws
-pub mod Writing
+pub mod StatusLaws
+pub mod StatusWriting

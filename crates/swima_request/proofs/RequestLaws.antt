@@ -1,16 +1,15 @@
 -- A request's layout, and the reader of it, say the same.
-use Rattle.std.proofs.Common.{◌≡◌, ℕ, ◌<◌, ◌^◌, Bool, true, false, List, [], ◌∷◌, length, refl, subst}
-use Rattle.std.specs.List.{flat_map, AllByRecursion}
-use Rattle.wire_base.specs.Layout.{Form, AreFlags, is_set}
-use Rattle.wire_base.specs.Written.{Fit, flags_octet}
-use Rattle.wire_base.proofs.Exact.{Exact, Nothing, counted_exact}
-use Rattle.wire_base.proofs.Blocks.{then_number, then_flags, last_several, all_any, ends, whole_forth, whole_back}
+use Rattle.std.proofs.Common.{◌≡◌, Bool, true, false, refl, subst}
+use Rattle.wire_base.specs.Layout.{Form, is_set}
+use Rattle.wire_base.proofs.Exact.{Exact, Anything, Nothing, counted_exact}
+use Rattle.wire_base.proofs.Blocks.{then_number, then_flags, last_part, last_several, all_any, gives, ends, whole_forth, whole_back}
 use Rattle.wire_base.proofs.WrittenLaws.{written_form}
 use Rattle.swima_model.specs.declared.report.Kind.{Kind}
 use Rattle.swima_model.specs.declared.report.Kind.TheVariants as kind
 use Rattle.swima_request.specs.declared.request.Request.{Request}
-use Rattle.swima_request.specs.RequestForm.{CLEAR, SUBSCRIBE, IDENTIFIERS_ONLY, is_ids, kind_of, read_request, request_fields, target_fields, written_request}
+use Rattle.swima_request.specs.RequestForm.{CLEAR, SUBSCRIBE, IDENTIFIERS_ONLY, is_ids, kind_of, read_fields, read_request, request_fields, written_request}
 use Rattle.swima_request.specs.Laws.{ReadingIsForm, WrittenIsRead}
+use Rattle.swima_request.proofs.Writing.{request_fits}
 
 -- A request is made of its parts.
 pub request_is : (r : Request) → r ≡ record { clear = r.clear; subscribe = r.subscribe; kind = r.kind; id = r.id; earliest = r.earliest; targets = r.targets }
@@ -25,13 +24,18 @@ pub flag_back : (ids_only : Bool) → ids_only ≡ is_ids (kind_of ids_only)
 flag_back true = refl
 flag_back false = refl
 
+-- The fields of a request, whatever follows.
+pub fields_exact : Exact read_fields (λ r. r) request_fields (λ r. Unit {0}) Anything
+unfolding read_fields
+fields_exact = then_flags λ flags. then_number λ count. then_number λ id. then_number λ earliest.
+    last_several (λ r. r.targets) (counted_exact 2) (λ r h. assumption (h, all_any r.targets)) λ targets known.
+    gives (record { clear = is_set flags CLEAR; subscribe = is_set flags SUBSCRIBE; kind = kind_of (is_set flags IDENTIFIERS_ONLY); id = id; earliest = earliest; targets = targets }) refl
+    (assumption (refl, known, flag_back (is_set flags IDENTIFIERS_ONLY))) (λ r h. cc (request_is r, kind_back r.kind))
+
 -- A request, after which nothing is left.
 request_exact : Exact read_request (λ r. r) request_fields (λ r. Unit {0}) Nothing
 unfolding read_request
-request_exact = then_flags λ flags. then_number λ count. then_number λ id. then_number λ earliest.
-    last_several (λ r. r.targets) (counted_exact 2) (λ r h. assumption (h, all_any r.targets)) λ targets known.
-    ends (record { clear = is_set flags CLEAR; subscribe = is_set flags SUBSCRIBE; kind = kind_of (is_set flags IDENTIFIERS_ONLY); id = id; earliest = earliest; targets = targets }) refl
-    (assumption (refl, known, flag_back (is_set flags IDENTIFIERS_ONLY))) (λ r h. cc (request_is r, kind_back r.kind))
+request_exact = last_part (λ r. r) fields_exact (λ r h. tt) λ request any. ends request refl (refl, tt) (λ r h. h.0)
 
 -- A request is read of octets exactly where they have its form.
 pub reading_is_form : ReadingIsForm
@@ -40,23 +44,7 @@ reading_is_form base octets request are = (
   λ form. whole_back request_exact base octets request form tt,
 )
 
--- ---- what is written
-
-flags_fit : (clear subscribe : Bool) (k : Kind) → AreFlags (flags_octet ((128, clear) ∷ (64, subscribe) ∷ (32, is_ids k) ∷ [])) ((128, clear) ∷ (64, subscribe) ∷ (32, is_ids k) ∷ [])
-flags_fit true true kind.Ids = (refl, (refl, (refl, tt)))
-flags_fit true true kind.Full = (refl, (refl, (refl, tt)))
-flags_fit true false kind.Ids = (refl, (refl, (refl, tt)))
-flags_fit true false kind.Full = (refl, (refl, (refl, tt)))
-flags_fit false true kind.Ids = (refl, (refl, (refl, tt)))
-flags_fit false true kind.Full = (refl, (refl, (refl, tt)))
-flags_fit false false kind.Ids = (refl, (refl, (refl, tt)))
-flags_fit false false kind.Full = (refl, (refl, (refl, tt)))
-
-targets_fit : (targets : List (List ℕ)) → AllByRecursion (λ (target : List ℕ). length target < 2 ^ 16) targets → Fit (flat_map target_fields targets)
-targets_fit [] all = tt
-targets_fit (target ∷ targets) all = (all.0, targets_fit targets all.1)
-
+-- What is written of a request is read back.
 pub written_is_read : WrittenIsRead
 written_is_read base request room =
-    let fit : Fit (request_fields request) = (flags_fit request.clear request.subscribe request.kind, (room.count, (room.id, (room.earliest, targets_fit request.targets room.targets)))) in
-    whole_back request_exact base (written_request request) request (written_form (request_fields request) fit) tt
+    whole_back request_exact base (written_request request) request (written_form (request_fields request) (request_fits request room)) tt

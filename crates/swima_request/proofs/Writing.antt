@@ -1,75 +1,59 @@
--- What is written of a request, target by target.
-use Rattle.std.proofs.Common.{◌≡◌, ℕ, ◌+◌, ◌<◌, ◌^◌, List, [], ◌∷◌, ◌++◌, length, refl, sym, ap, ◌∙◌, arith, length-append}
-use Rattle.std.specs.List.{flat_map, sum_by}
-use Rattle.std.proofs.lemmas.List.Sums.{sum_by-cons}
+-- What is written of a request, and how much.
+use Rattle.std.proofs.Common.{◌≡◌, ℕ, ◌+◌, ◌*◌, ◌<◌, ◌≤◌, ◌^◌, Bool, true, false, List, [], ◌∷◌, length, refl, ◌∙◌, arith, length-append}
+use Rattle.std.specs.List.{flat_map}
+use Rattle.wire_base.specs.Layout.{AreFlags}
 use Rattle.wire_base.specs.Numbers.{octets_of}
-use Rattle.wire_base.specs.Layout.{Counted}
-use Rattle.wire_base.specs.Written.{flags_octet, written, written_field}
-use Rattle.wire_base.proofs.Spelled.{length-octets_of}
+use Rattle.wire_base.specs.Written.{Fit, flags_octet, written}
 use Rattle.wire_base.proofs.WrittenLaws.{length-form}
+use Rattle.swima_model.specs.declared.report.Kind.{Kind}
+use Rattle.swima_model.specs.declared.report.Kind.TheVariants as kind
 use Rattle.swima_request.specs.declared.request.Request.{Request}
-use Rattle.swima_request.specs.Laws.{FormIsCounted, WrittenIsCounted}
-use Rattle.swima_request.specs.RequestForm.{CLEAR, SUBSCRIBE, IDENTIFIERS_ONLY, RequestForm, is_ids, request_fields, target_fields, written_request}
+use Rattle.swima_request.specs.Laws.{FormIsCounted, HasRoom, WrittenIsCounted}
+use Rattle.swima_request.specs.RequestForm.{RequestForm, is_ids, request_fields, request_octets, target_fields}
+use Rattle.swima_request.proofs.Each.{fewest_of_each, fit_each, length-each}
 
--- What is written of a target.
-abbrev pub written_target : List ℕ → List ℕ
-written_target target = written_field (Counted 2 target)
+-- ---- room
 
--- What is written before the targets.
-abbrev pub head : Request → List ℕ
-head request =
-    (flags_octet ((CLEAR, request.clear) ∷ (SUBSCRIBE, request.subscribe) ∷ (IDENTIFIERS_ONLY, is_ids request.kind) ∷ []) ∷ [])
-    ++ octets_of 3 (length request.targets) ++ octets_of 4 request.id ++ octets_of 4 request.earliest
+-- The octet that is written of flags has them.
+flags_fit : (clear subscribe : Bool) (k : Kind) → AreFlags (flags_octet ((128, clear) ∷ (64, subscribe) ∷ (32, is_ids k) ∷ [])) ((128, clear) ∷ (64, subscribe) ∷ (32, is_ids k) ∷ [])
+flags_fit true true kind.Ids = (refl, (refl, (refl, tt)))
+flags_fit true true kind.Full = (refl, (refl, (refl, tt)))
+flags_fit true false kind.Ids = (refl, (refl, (refl, tt)))
+flags_fit true false kind.Full = (refl, (refl, (refl, tt)))
+flags_fit false true kind.Ids = (refl, (refl, (refl, tt)))
+flags_fit false true kind.Full = (refl, (refl, (refl, tt)))
+flags_fit false false kind.Ids = (refl, (refl, (refl, tt)))
+flags_fit false false kind.Full = (refl, (refl, (refl, tt)))
 
--- What is written of targets is what is written of each.
-targets_written : (targets : List (List ℕ)) → written (flat_map target_fields targets) ≡ flat_map written_target targets
-unfolding written
-targets_written [] = refl
-targets_written (target ∷ targets) = ap (λ (o : List ℕ). written_target target ++ o) (targets_written targets)
+-- Where the numbers and the targets of a request have room, its fields do.
+pub fields_fit : (r : Request) → length r.targets < 2 ^ 24 → r.id < 2 ^ 32 → r.earliest < 2 ^ 32 → Fit (flat_map target_fields r.targets) → Fit (request_fields r)
+fields_fit r count id earliest targets = (flags_fit r.clear r.subscribe r.kind, (count, (id, (earliest, targets))))
 
-pub request_written : (request : Request) → written_request request ≡ head request ++ flat_map written_target request.targets
-unfolding written octets_of
-request_written request = ap (λ (o : List ℕ). head request ++ o) (targets_written request.targets)
+pub request_fits : (request : Request) → HasRoom request → Fit (request_fields request)
+request_fits request room =
+    fields_fit request room.count room.id room.earliest (fit_each target_fields (λ (target : List ℕ). length target < 2 ^ 16) (λ target within. (within, tt)) request.targets room.targets)
+
+-- ---- how many octets are written
 
 -- A target has its length and its octets.
-length-target : (target : List ℕ) → length (written_target target) ≡ 2 + length target
-length-target target = omega (arith, length-append (octets_of 2 (length target)) target, length-octets_of 2 (length target))
+length-target : (target : List ℕ) → length (written (target_fields target)) ≡ 2 + length target
+unfolding written octets_of
+length-target target = omega (arith, length-append target [])
 
--- Targets have the octets that are counted.
-length-targets : (targets : List (List ℕ)) → length (flat_map written_target targets) ≡ sum_by (λ (target : List ℕ). 2 + length target) targets
-length-targets [] = refl
-length-targets (target ∷ targets) =
-    let octets : List ℕ → ℕ = λ t. 2 + length t in
-    let one : sum_by octets (target ∷ targets) ≡ (2 + length target) + sum_by octets targets = sum_by-cons octets target targets in
-    let others : length (flat_map written_target targets) ≡ sum_by octets targets = length-targets targets in
-    let both : length (flat_map written_target (target ∷ targets)) ≡ length (written_target target) + length (flat_map written_target targets) = length-append (written_target target) (flat_map written_target targets) in
-    let total : length (flat_map written_target (target ∷ targets)) ≡ (2 + length target) + sum_by octets targets = omega (arith, both, others, length-target target) in
-    total ∙ sym one
-
--- So does a request.
 pub written_is_counted : WrittenIsCounted
-written_is_counted request =
-    let count : List ℕ = octets_of 3 (length request.targets) in
-    let id : List ℕ = octets_of 4 request.id in
-    let earliest : List ℕ = octets_of 4 request.earliest in
-    let front : List ℕ = flags_octet ((CLEAR, request.clear) ∷ (SUBSCRIBE, request.subscribe) ∷ (IDENTIFIERS_ONLY, is_ids request.kind) ∷ []) ∷ [] in
-    ap (λ (o : List ℕ). length o) (request_written request)
-    ∙ omega (
-      arith,
-      length-append (head request) (flat_map written_target request.targets),
-      length-append (front ++ count ++ id) earliest,
-      length-append (front ++ count) id,
-      length-append front count,
-      length-octets_of 3 (length request.targets),
-      length-octets_of 4 request.id,
-      length-octets_of 4 request.earliest,
-      length-targets request.targets,
-    )
+unfolding written octets_of
+written_is_counted request = omega (arith, length-each target_fields (λ (target : List ℕ). 2 + length target) length-target request.targets)
 
 -- So has each form of it, whatever the flags without a name are.
 pub form_is_counted : FormIsCounted
 form_is_counted request octets form = length-form (request_fields request) octets form ∙ written_is_counted request
 
+-- ---- counts
+
 -- A request that octets carry has a count of targets that three octets hold.
 pub count_within : (request : Request) (octets : List ℕ) → RequestForm request octets → length request.targets < 2 ^ 24
 count_within request octets (flags, rest, is, flag, (count, others, at, number, after)) = number.0
+
+-- A request has 12 octets, and 2 for each target, at least.
+pub targets_counted : (r : Request) → 12 + 2 * length r.targets ≤ request_octets r
+targets_counted r = omega (arith, fewest_of_each (λ (target : List ℕ). 2 + length target) 2 (λ target. omega arith) r.targets)

@@ -3,7 +3,7 @@ use Rattle.std.specs.Prelude.{◌+◌, ℕ, Bool, true, false, List, [], ◌∷�
 use Rattle.std.specs.List.{flat_map}
 use Rattle.wire_base.specs.FirstFault.{FirstFault}
 use Rattle.wire_base.specs.Layout.{Field, Number, Flags, Counted, Form, is_set}
-use Rattle.wire_base.specs.Reading.{Reader, ◌>>=◌, number, counted, several, at_end}
+use Rattle.wire_base.specs.Reading.{Reader, ◌>>=◌, done, number, counted, several, at_end}
 use Rattle.wire_base.specs.Written.{written}
 use Rattle.swima_model.specs.declared.report.Kind.{Kind}
 use Rattle.swima_model.specs.declared.report.Kind.TheVariants as kind
@@ -64,11 +64,17 @@ kind_of ids_only = if ids_only then kind.Ids else kind.Full
 
 -- The same layout read field by field: the request, or the place of the first fault. Of a software
 -- identifier that does not fit that is its length.
-unfoldable pub read_request : Reader Request
-read_request = do
+unfoldable pub read_fields : Reader Request
+read_fields = do
   flags ← number 1
   count ← number 3
   id ← number 4
   earliest ← number 4
   targets ← several count (counted 2)
-  at_end (record { clear = is_set flags CLEAR; subscribe = is_set flags SUBSCRIBE; kind = kind_of (is_set flags IDENTIFIERS_ONLY); id = id; earliest = earliest; targets = targets })
+  done (record { clear = is_set flags CLEAR; subscribe = is_set flags SUBSCRIBE; kind = kind_of (is_set flags IDENTIFIERS_ONLY); id = id; earliest = earliest; targets = targets })
+
+-- A request, after which nothing is left.
+unfoldable pub read_request : Reader Request
+read_request = do
+  request ← read_fields
+  at_end request

@@ -6,6 +6,9 @@ use wire_base::{List, Memory, TryCopy};
 /// Software identifiers in order.
 pub type Idents = List<Ident>;
 
+/// Requests in order.
+pub type Requests = List<Request>;
+
 /// A request for a report of an endpoint's software (RFC 8412, section 5.6).
 #[derive(Debug, Drop)]
 pub struct Request {

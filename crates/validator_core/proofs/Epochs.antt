@@ -9,12 +9,13 @@ use Rattle.swima_model.specs.declared.record.Record.{Record}
 use Rattle.swima_model.specs.declared.report.Kind.{Kind}
 use Rattle.swima_model.specs.InOrder.{ids}
 use Rattle.swima_model.specs.Kinds.{records_of_kind, events_of_kind}
-use Rattle.swima_model.specs.History.{Epoch, History, IsHonest, IsHonestEpoch, FitsBehind, contradicts, is_contradiction, live_at}
+use Rattle.swima_model.specs.History.{Epoch, History, IsHonest, IsHonestEpoch, FitsBehind, contradicts, live_at}
 use Rattle.swima_model.specs.Live.{live}
 use Rattle.swima_model.specs.Size.{are_large}
 use Rattle.swima_model.proofs.Living.{live_rises, live_more}
 use Rattle.swima_model.proofs.Honest.{live_fits}
-use Rattle.swima_model.proofs.OfKind.{event_of_kind, ids_of_kind, live_of_kind, some_of_kind, fits_of_kind}
+use Rattle.swima_model.proofs.Carrying.{contradicts_of_kind}
+use Rattle.swima_model.proofs.OfKind.{event_of_kind, ids_of_kind, live_of_kind, fits_of_kind}
 
 -- ---- the epochs of an honest history
 
@@ -64,8 +65,7 @@ fits_on epoch count kind before event after honest split =
     record {
       agrees =
           ap (λ (rs : List Record). contradicts rs (event_of_kind kind event)) (live_on epoch count kind before honest)
-          ∙ ap (is_contradiction event.action) (some_of_kind kind event.subject.id (live epoch.base front))
-          ∙ fit.agrees;
+          ∙ contradicts_of_kind kind (live epoch.base front) event fit.agrees;
       fits =
           ap (λ (es : List Event). are_large (live (live_at epoch count kind) es)) (sym (map-append (event_of_kind kind) before (event ∷ [])))
           ∙ ap are_large (live_on epoch count kind (before ++ event ∷ []) honest)

@@ -1,204 +1,176 @@
--- Sizes of records: how they change, and what they say of the records.
-use Rattle.std.proofs.Common.{◌≡◌, inl, inr, ℕ, ◌+◌, ◌<◌, eqb, cond, not, Bool, true, false, List, [], ◌∷◌, ◌++◌, Option, Some, None, Less, refl, sym, ap, ap₂, ◌∙◌, subst, arith}
-use Rattle.std.specs.Prelude.{is_some, option_map, unwrap_or}
-use Rattle.std.specs.BTreeMap.{BTreeMap, IsFromIterResult, insert_entry, is_at}
-use Rattle.std.specs.List.Sorted.{IsStrictlyIncreasing, IsStrictlySortedBy}
-use Rattle.std.specs.Map.{keys_of, values_of, remove_entry}
-use Rattle.std.specs.Ordering.{eq_by_cmp, nat_cmp}
-use Rattle.std.specs.Option.{option_or}
-use Rattle.std.proofs.lemmas.Bool.{false≢true, cases_order, cases_eq, cond-true, cond-false}
+-- A tally after one event more.
+use Rattle.std.proofs.Common.{◌≡◌, ℕ, ◌+◌, ◌<◌, eqb, ltb, cond, Bool, true, false, List, [], ◌∷◌, ◌++◌, length, get_or, take, drop, Option, Some, None, refl, sym, ap, ap₂, ◌∙◌, subst, arith}
+use Rattle.std.specs.Prelude.{is_some, option_to_list}
+use Rattle.std.specs.BTreeMap.{get, is_at}
+use Rattle.std.specs.List.Sorted.{IsStrictlyIncreasing}
+use Rattle.std.specs.Option.{option_copied}
+use Rattle.std.specs.Ordering.{nat_cmp}
+use Rattle.std.proofs.lemmas.Bool.{cond-true, cond-false, lt-ltb}
 use Rattle.std.proofs.lemmas.Bool.Decides.{nat_tests}
-use Rattle.std.proofs.lemmas.Cmp.{nat_cmp_total, eq_by_cmp_equiv}
-use Rattle.std.proofs.lemmas.List.{length-map}
-use Rattle.std.proofs.lemmas.List.Sums.{sum_by-cons}
-use Rattle.std.proofs.lemmas.Map.{lookup-none}
-use Rattle.std.proofs.lemmas.Map.Made.{update_all_distinct}
-use Rattle.std.proofs.lemmas.Map.Entries.{lookup_head, lookup_tail, none_below_head, none_past_head, sum_by-insert_entry, sum_by-remove_entry}
-use Rattle.std.proofs.lemmas.Map.Keys.{IsDistinct-from_sorted, sorted_from_strictly_increasing, sorted_tail}
+use Rattle.std.proofs.lemmas.List.{drop_more}
+use Rattle.std.proofs.lemmas.List.Elements.{filter_more}
 use Rattle.swima_model.specs.declared.event.Event.{Event}
+use Rattle.swima_model.specs.declared.record.Content.{Content}
 use Rattle.swima_model.specs.declared.record.Record.{Record}
 use Rattle.swima_model.specs.History.{contradicts, is_contradiction}
 use Rattle.swima_model.specs.InOrder.{ids}
-use Rattle.swima_model.specs.Live.{is_deletion, later_or, last_mention, by_mention, live, record_of}
-use Rattle.swima_model.specs.Size.{content_octets, records_octets, is_large}
-use Rattle.swima_model.proofs.Living.{live_of, live_rises, mention_push}
+use Rattle.swima_model.specs.Live.{by_mention, last_mention, later_or, live, record_of}
+use Rattle.swima_model.specs.Size.{is_large, records_octets}
+use Rattle.swima_model.proofs.Living.{live_more, live_none, live_of, live_rises, mention_push}
+use Rattle.swima_model.proofs.Weighing.{but, count_after, count_of_one, octets_after, octets_of_one}
 use Rattle.validator_core.specs.declared.mirror.Taken.{Taken}
 use Rattle.validator_core.specs.declared.mirror.Taken.TheVariants as taken
-use Rattle.validator_core.specs.Following.{too_large}
-use Rattle.validator_core.specs.Tally.{AreRising, AreSetAt, Follows, Sizes, size_at, size_said, sizes_of, sizes_too_large, total}
+use Rattle.validator_core.specs.declared.tally.Tally.{Tally}
+use Rattle.validator_core.specs.Following.{events_above, first_misfit, first_misfit_after, or_later, too_large}
+use Rattle.validator_core.specs.Tally.{Follows, IsTally, too_many}
+use denote.Ref.{Bor}
 
--- ---- the octets of all together
+-- ---- mentions
 
-weight : (size : Option ℕ) → unwrap_or (option_map (λ (n : ℕ). n) size) 0 ≡ unwrap_or size 0
-weight None = refl
-weight (Some n) = refl
+at_eqb : (m n : ℕ) → is_at (nat_cmp m) n ≡ eqb m n
+at_eqb m n = grind (arith, nat_tests)
 
--- Without what is taken out.
-pub total_removed : (id was : ℕ) (size : Option ℕ) (before after : Sizes) → after ≡ remove_entry (is_at (nat_cmp id)) before → size ≡ size_at id before → was ≡ unwrap_or size 0
-    → total after + was ≡ total before
-total_removed id was size before after e is held =
-    ap₂ (λ (m n : ℕ). m + n) (ap total e) (held ∙ ap (λ (o : Option ℕ). unwrap_or o 0) is ∙ sym (weight (size_at id before)))
-    ∙ sum_by-remove_entry (λ (n : ℕ). n) (is_at (nat_cmp id)) before
+mentioned_step : (here : Bool) (event : Bor Event) (found : Option (Bor Event))
+    → option_copied (cond here (Some event) found) ≡ later_or (cond here (Some event.now) None) (option_copied found)
+mentioned_step true event found = refl
+mentioned_step false event found = refl
 
--- With what is put in place of what was there.
-pub total_put : (id octets was : ℕ) (size : Option ℕ) (before after : Sizes) → AreRising before → after ≡ insert_entry nat_cmp before id octets → size ≡ size_at id before → was ≡ unwrap_or size 0
-    → total after + was ≡ total before + octets
-total_put id octets was size before after up e is held =
-    ap₂ (λ (m n : ℕ). m + n) (ap total e) (held ∙ ap (λ (o : Option ℕ). unwrap_or o 0) is ∙ sym (weight (size_at id before)))
-    ∙ sum_by-insert_entry (λ (n : ℕ). n) nat_cmp_total before id octets up
+-- ---- what is live of a record
 
--- ---- sizes are decided by the size of each identifier
+-- Without a mention it is what stood before.
+pub held_before : (id : ℕ) (base : List Record) (before : List Event) (tally : Tally) → IsTally base before tally → get nat_cmp tally.mentions id ≡ None
+    → record_of id base ≡ record_of id (live base before)
+held_before id base before tally is none =
+    sym (live_of id base before ∙ ap (by_mention (record_of id base)) (sym (is.mentions id) ∙ ap option_copied none))
 
-at_itself : (m n : ℕ) → m ≡ n → is_at (nat_cmp m) n ≡ true
-at_itself m n e = grind (arith, nat_tests)
+-- Otherwise it is what the last mention says.
+pub held_said : (id : ℕ) (base : List Record) (before : List Event) (tally : Tally) (event : Bor Event) → IsTally base before tally → get nat_cmp tally.mentions id ≡ Some event
+    → by_mention None (Some event.now) ≡ record_of id (live base before)
+held_said id base before tally event is some =
+    sym (live_of id base before ∙ ap (by_mention (record_of id base)) (sym (is.mentions id) ∙ ap option_copied some))
 
-at_other : (m n : ℕ) → (m ≡ n → ⊥) → is_at (nat_cmp m) n ≡ false
-at_other m n ne = grind (arith, nat_tests)
+-- ---- one event more
 
-is_below : (m n : ℕ) → m < n → nat_cmp m n ≡ Less
-is_below m n lt = grind (arith, nat_tests)
+-- A tally before, and what is live of the event's record then.
+module _ (base : List Record) (before : List Event) (event : Event) (now : Tally) (held : Option Record) (is : IsTally base before now)
+    (found : held ≡ record_of event.subject.id (live base before)) where
+  rises : IsStrictlyIncreasing (ids (live base before))
+  rises = live_rises base before is.rising
 
--- Nothing stands with an identifier below the first.
-below_first : (id : ℕ) (f : ℕ × ℕ) (fs : Sizes) → AreRising (f ∷ fs) → id < f.0 → size_at id (f ∷ fs) ≡ None
-below_first id f fs up lt = lookup-none (is_at (nat_cmp id)) (f ∷ fs) (none_below_head nat_cmp_total id f fs up (is_below id f.0 lt))
+  -- What is live of the record was counted.
+  pub gone_counted : (gone : ℕ) → gone ≡ length (option_to_list held) → length (but event.subject.id (live base before)) + gone ≡ now.count
+  gone_counted gone e =
+      ap (λ (n : ℕ). length (but event.subject.id (live base before)) + n) (e ∙ ap (λ (o : Option Record). length (option_to_list o)) found)
+      ∙ count_of_one event.subject.id (live base before) rises ∙ sym is.count
 
--- Nothing stands with the first one's again.
-past_first : (id : ℕ) (f : ℕ × ℕ) (fs : Sizes) → AreRising (f ∷ fs) → id ≡ f.0 → size_at id fs ≡ None
-past_first id f fs up e =
-    lookup-none (is_at (nat_cmp id)) fs (none_past_head (eq_by_cmp_equiv nat_cmp_total) id f fs (IsDistinct-from_sorted nat_cmp (keys_of (f ∷ fs)) up) (at_itself id f.0 e))
+  pub gone_octets : (gone : ℕ) → gone ≡ records_octets (option_to_list held) → records_octets (but event.subject.id (live base before)) + gone ≡ now.octets
+  gone_octets gone e =
+      ap (λ (n : ℕ). records_octets (but event.subject.id (live base before)) + n) (e ∙ ap (λ (o : Option Record). records_octets (option_to_list o)) found)
+      ∙ octets_of_one event.subject.id (live base before) rises ∙ sym is.octets
 
-some_there : (f : ℕ × ℕ) (fs : Sizes) → size_at f.0 (f ∷ fs) ≡ Some f.1
-some_there f fs = lookup_head (is_at (nat_cmp f.0)) f fs (at_itself f.0 f.0 refl)
+  contradicts_is : contradicts (live base before) event ≡ is_contradiction event.action held event.subject.content
+  contradicts_is = ap (λ (o : Option Record). is_contradiction event.action o event.subject.content) (sym found)
 
-two_answers : {A : Type 0} (a : A) (o : Option A) → o ≡ None → o ≡ Some a → ⊥
-two_answers a o e f = absurd (cc)
+  -- An event that contradicts what is live.
+  pub unfit : (after : Tally) → true ≡ is_contradiction event.action held event.subject.content → Follows base before event (Some (taken.Contradiction event.eid)) after
+  unfit after e = (
+    sym (cond-true (contradicts (live base before) event) (Some (taken.Contradiction event.eid)) (too_large (live base (before ++ event ∷ []))) (contradicts_is ∙ sym e)),
+    λ none. absurd cc,
+  )
 
-both_same : (e f : ℕ × ℕ) (es fs : Sizes) → e.0 ≡ f.0 → Some e.1 ≡ Some f.1 → es ≡ fs → (e ∷ es) ≡ (f ∷ fs)
-both_same e f es fs ids octets rest = let same : e.1 ≡ f.1 = cc in ap₂ (λ (x : ℕ × ℕ) (xs : Sizes). x ∷ xs) (ap₂ (λ (m n : ℕ). (m, n)) ids same) rest
+  -- One that does not.
+  module _ (after : Tally) (put : Bor Event) (same : put.now ≡ event) (records : after.records ≡ now.records)
+      (mentions : (id : ℕ) → get nat_cmp after.mentions id ≡ cond (is_at (nat_cmp event.subject.id) id) (Some put) (get nat_cmp now.mentions id))
+      (come gone : ℕ × ℕ) (came : (come.0 ≡ length (option_to_list (by_mention None (Some event)))) × (come.1 ≡ records_octets (option_to_list (by_mention None (Some event)))))
+      (went : (gone.0 ≡ length (option_to_list held)) × (gone.1 ≡ records_octets (option_to_list held)))
+      (count : after.count + gone.0 ≡ now.count + come.0) (octets : after.octets + gone.1 ≡ now.octets + come.1) where
+    more : live (live base before) (event ∷ []) ≡ live base (before ++ event ∷ [])
+    more = live_more base before (event ∷ []) is.rising
 
-pub same_sizes : (es fs : Sizes) → AreRising es → AreRising fs → ((id : ℕ) → size_at id es ≡ size_at id fs) → es ≡ fs
-same_sizes [] [] up down same = refl
-same_sizes [] (f ∷ fs) up down same = absurd (two_answers f.1 (size_at f.0 (f ∷ fs)) (sym (same f.0)) (some_there f fs))
-same_sizes (e ∷ es) [] up down same = absurd (two_answers e.1 (size_at e.0 (e ∷ es)) (same e.0) (some_there e es))
-same_sizes (e ∷ es) (f ∷ fs) up down same = elim (cases_order e.0 f.0) [
-  | inl here ↦
-      both_same e f es fs here
-      (sym (some_there e es) ∙ same e.0 ∙ lookup_head (is_at (nat_cmp e.0)) f fs (at_itself e.0 f.0 here))
-      (same_sizes es fs (sorted_tail nat_cmp e.0 (keys_of es) up) (sorted_tail nat_cmp f.0 (keys_of fs) down) (λ id. elim (cases_eq id e.0) [
-        | inl is ↦ past_first id e es up is ∙ sym (past_first id f fs down (is ∙ here))
-        | inr not ↦
-            sym (lookup_tail (is_at (nat_cmp id)) e es (at_other id e.0 not)) ∙ same id ∙ lookup_tail (is_at (nat_cmp id)) f fs (at_other id f.0 (λ is. not (is ∙ sym here)))
-      ]))
-  | inr (inl lt) ↦ absurd (two_answers e.1 (size_at e.0 (e ∷ es)) (same e.0 ∙ below_first e.0 f fs down lt) (some_there e es))
-  | inr (inr gt) ↦ absurd (two_answers f.1 (size_at f.0 (f ∷ fs)) (sym (same f.0) ∙ below_first f.0 e es up gt) (some_there f fs))
-]
+    pub tally_after : IsTally base (before ++ event ∷ []) after
+    tally_after = record {
+      rising = is.rising;
+      records = ap (λ (b : Bor (List Record)). b.now) records ∙ is.records;
+      mentions = λ id.
+          ap option_copied (mentions id) ∙ mentioned_step (is_at (nat_cmp event.subject.id) id) put (get nat_cmp now.mentions id)
+          ∙ ap₂ (λ (here : Bool) (e : Event). later_or (cond here (Some e) None) (option_copied (get nat_cmp now.mentions id))) (at_eqb event.subject.id id) same
+          ∙ ap (later_or (cond (eqb event.subject.id id) (Some event) None)) (is.mentions id)
+          ∙ sym (mention_push id before event);
+      count = omega (
+        arith,
+        count,
+        came.0,
+        went.0,
+        is.count,
+        ap (λ (o : Option Record). length (option_to_list o)) found,
+        count_after (live base before) event rises,
+        ap length more,
+      );
+      octets = omega (
+        arith,
+        octets,
+        came.1,
+        went.1,
+        is.octets,
+        ap (λ (o : Option Record). records_octets (option_to_list o)) found,
+        octets_after (live base before) event rises,
+        ap records_octets more,
+      );
+    }
 
--- ---- the sizes of records
-
-abbrev pub octets_of : Record → ℕ
-octets_of r = content_octets r.content
-
-size_step : (r : Record) (there here : Bool) (size : Option ℕ) (found : Option Record) → there ≡ here → size ≡ option_map octets_of found
-    → cond there (Some (octets_of r)) size ≡ option_map octets_of (cond here (Some r) found)
-size_step r true true size found e h = refl
-size_step r true false size found e h = absurd (false≢true (sym e))
-size_step r false true size found e h = absurd (false≢true e)
-size_step r false false size found e h = h
-
-same_test : (m n : ℕ) → is_at (nat_cmp m) n ≡ eqb n m
-same_test m n = grind (arith, nat_tests)
-
-pub size_at_of : (id : ℕ) (rs : List Record) → size_at id (sizes_of rs) ≡ option_map octets_of (record_of id rs)
-size_at_of id [] = refl
-size_at_of id (r ∷ rs) = size_step r (is_at (nat_cmp id) r.id) (eqb r.id id) (size_at id (sizes_of rs)) (record_of id rs) (same_test id r.id) (size_at_of id rs)
-
-some_octets : (found : Option Record) → is_some (option_map octets_of found) ≡ is_some found
-some_octets None = refl
-some_octets (Some r) = refl
-
-keys_of_sizes : (rs : List Record) → keys_of (sizes_of rs) ≡ ids rs
-keys_of_sizes [] = refl
-keys_of_sizes (r ∷ rs) = ap (λ (ns : List ℕ). r.id ∷ ns) (keys_of_sizes rs)
-
-pub rising_sizes : (rs : List Record) → IsStrictlyIncreasing (ids rs) → AreRising (sizes_of rs)
-rising_sizes rs up = subst (IsStrictlySortedBy nat_cmp) (sym (keys_of_sizes rs)) (sorted_from_strictly_increasing (ids rs) up)
-
-pub total_of_sizes : (rs : List Record) → total (sizes_of rs) ≡ records_octets rs
-total_of_sizes [] = refl
-total_of_sizes (r ∷ rs) =
-    sum_by-cons (λ (n : ℕ). n) (octets_of r) (values_of (sizes_of rs)) ∙ ap (λ (n : ℕ). octets_of r + n) (total_of_sizes rs)
-    ∙ sym (sum_by-cons (λ (x : Record). content_octets x.content) r rs)
-
-too_large_of_sizes : (rs : List Record) → sizes_too_large (sizes_of rs) ≡ too_large rs
-too_large_of_sizes rs =
-    ap₂ (λ (count octets : ℕ). cond (is_large count octets) (Some (taken.Large count octets)) None) (length-map rs (λ (r : Record). (r.id, content_octets r.content))) (total_of_sizes rs)
-
--- ---- an event
-
-said_size : (event : Event) (gone : Bool) → cond gone None (Some (octets_of event.subject)) ≡ option_map octets_of (cond gone None (Some event.subject))
-said_size event true = refl
-said_size event false = refl
-
-event_step : (here : Bool) (event : Event) (b : Option Record) (m : Option Event)
-    → cond here (size_said event) (option_map octets_of (by_mention b m)) ≡ option_map octets_of (by_mention b (later_or (cond here (Some event) None) m))
-event_step true event b m = said_size event (is_deletion event.action)
-event_step false event b m = refl
-
-same_test_back : (m n : ℕ) → is_at (nat_cmp m) n ≡ eqb m n
-same_test_back m n = grind (arith, nat_tests)
-
--- Sizes of what is live, set as an event says, are sizes of what is live after it.
-pub sizes_behind : (base : List Record) (before : List Event) (event : Event) (now after : Sizes) → IsStrictlyIncreasing (ids base) → now ≡ sizes_of (live base before)
-    → AreRising after → AreSetAt event.subject.id (size_said event) now after → after ≡ sizes_of (live base (before ++ event ∷ []))
-sizes_behind base before event now after up is rising set =
-    let more : List Event = before ++ event ∷ [] in
-    same_sizes after (sizes_of (live base more)) rising (rising_sizes (live base more) (live_rises base more up)) (λ id.
-    let key : ℕ = event.subject.id in
-    let was : size_at id now ≡ option_map octets_of (by_mention (record_of id base) (last_mention id before)) =
-    ap (size_at id) is ∙ size_at_of id (live base before) ∙ ap (option_map octets_of) (live_of id base before) in
-    set id
-    ∙ ap₂ (λ (here : Bool) (o : Option ℕ). cond here (size_said event) o) (same_test_back key id) was
-    ∙ event_step (eqb key id) event (record_of id base) (last_mention id before)
-    ∙ ap (λ (m : Option Event). option_map octets_of (by_mention (record_of id base) m)) (sym (mention_push id before event))
-    ∙ sym (size_at_of id (live base more) ∙ ap (option_map octets_of) (live_of id base more)))
-
-contradiction_is : (base : List Record) (before : List Event) (event : Event) (is_live : Bool) (now : Sizes) → is_live ≡ is_some (size_at event.subject.id now) → now ≡ sizes_of (live base before)
-    → is_contradiction event.action is_live ≡ contradicts (live base before) event
-contradiction_is base before event is_live now e is =
-    ap (is_contradiction event.action)
-    (e ∙ ap (λ (s : Sizes). is_some (size_at event.subject.id s)) is ∙ ap is_some (size_at_of event.subject.id (live base before))
-    ∙ some_octets (record_of event.subject.id (live base before)))
-
--- What is said of an event that contradicts what is live, and of one that does not.
-pub follows_none : (base : List Record) (before : List Event) (event : Event) (is_live : Bool) (now after : Sizes) → is_live ≡ is_some (size_at event.subject.id now) → now ≡ sizes_of (live base before)
-    → true ≡ is_contradiction event.action is_live → Follows base before event (Some (taken.Contradiction event.eid)) after
-follows_none base before event is_live now after e is unfit = (
-  sym (cond-true (contradicts (live base before) event) (Some (taken.Contradiction event.eid)) (too_large (live base (before ++ event ∷ []))) (sym (unfit ∙ contradiction_is base before event is_live now e is))),
-  λ none. absurd (two_answers (taken.Contradiction event.eid) (Some (taken.Contradiction event.eid)) none refl),
-)
-
-pub follows_set : (base : List Record) (before : List Event) (event : Event) (is_live : Bool) (now after : Sizes) (said : Option Taken) → IsStrictlyIncreasing (ids base)
-    → is_live ≡ is_some (size_at event.subject.id now) → now ≡ sizes_of (live base before) → false ≡ is_contradiction event.action is_live
-    → AreRising after → AreSetAt event.subject.id (size_said event) now after → said ≡ sizes_too_large after → Follows base before event said after
-follows_set base before event is_live now after said up e is fits rising set large =
-    let behind : after ≡ sizes_of (live base (before ++ event ∷ [])) = sizes_behind base before event now after up is rising set in
-    let agrees : contradicts (live base before) event ≡ false = sym (fits ∙ contradiction_is base before event is_live now e is) in (
-      large ∙ ap sizes_too_large behind ∙ too_large_of_sizes (live base (before ++ event ∷ []))
-          ∙ sym (cond-false (contradicts (live base before) event) (Some (taken.Contradiction event.eid)) (too_large (live base (before ++ event ∷ []))) agrees),
-      λ _. behind,
+    pub fit : (said : Option Taken) → false ≡ is_contradiction event.action held event.subject.content → said ≡ too_many after.count after.octets → Follows base before event said after
+    fit said e large = (
+      large
+          ∙ ap₂ too_many tally_after.count tally_after.octets
+          ∙ sym (cond-false (contradicts (live base before) event) (Some (taken.Contradiction event.eid)) (too_large (live base (before ++ event ∷ []))) (contradicts_is ∙ sym e)),
+      λ none. tally_after,
     )
 
--- ---- all records at once
+-- ---- none yet
 
-none_else : (size : Option ℕ) → option_or size None ≡ size
-none_else None = refl
-none_else (Some octets) = refl
+pub begins : (base : List Record) (tally : Tally) → IsStrictlyIncreasing (ids base) → tally.records.now ≡ base → ((id : ℕ) → get nat_cmp tally.mentions id ≡ None)
+    → tally.count ≡ length base → tally.octets ≡ records_octets base → IsTally base [] tally
+begins base tally up is none count octets = record {
+  rising = up;
+  records = is;
+  mentions = λ id. ap option_copied (none id);
+  count = count ∙ ap length (sym (live_none base up));
+  octets = octets ∙ ap records_octets (sym (live_none base up));
+}
 
--- What is made of the sizes of records is these sizes.
-pub sizes_made : (rs : List Record) (made : BTreeMap ℕ ℕ) → IsStrictlyIncreasing (ids rs) → IsFromIterResult nat_cmp (sizes_of rs) made → made.entries ≡ sizes_of rs
-sizes_made rs made up is =
-    same_sizes made.entries (sizes_of rs) is.1 (rising_sizes rs up)
-    (λ id.
-    is.0 id
-    ∙ update_all_distinct (eq_by_cmp_equiv nat_cmp_total) (eq_by_cmp nat_cmp) (λ x y. refl) (λ _. None) (sizes_of rs) id (IsDistinct-from_sorted nat_cmp (keys_of (sizes_of rs)) (rising_sizes rs up))
-    ∙ none_else (size_at id (sizes_of rs)))
+-- ---- event by event
+
+none_where : (said : Option Taken) → is_some said ≡ false → said ≡ None
+none_where None is = refl
+none_where (Some answer) is = absurd cc
+
+-- The next event, which is above the one that is held.
+module _ (eid : ℕ) (events : List Event) (i : ℕ) (event : Event) (within : i < length events) (is : event ≡ get_or events i event) (above : eid < event.eid) where
+  gone_over : events_above eid (take (i + 1) events) ≡ events_above eid (take i events) ++ event ∷ []
+  gone_over =
+      filter_more (λ (e : Event). ltb eid e.eid) events i event within
+      ∙ ap (λ (e : Event). events_above eid (take i events) ++ cond (ltb eid e.eid) (e ∷ []) []) (sym is)
+      ∙ ap (λ (es : List Event). events_above eid (take i events) ++ es) (cond-true (ltb eid event.eid) (event ∷ []) [] (lt-ltb eid event.eid above))
+
+  left : events_above eid (drop i events) ≡ event ∷ events_above eid (drop (i + 1) events)
+  left =
+      ap (events_above eid) (drop_more events i event within)
+      ∙ ap (λ (e : Event). events_above eid (e ∷ drop (i + 1) events)) (sym is)
+      ∙ cond-true (ltb eid event.eid) (event ∷ events_above eid (drop (i + 1) events)) (events_above eid (drop (i + 1) events)) (lt-ltb eid event.eid above)
+
+  -- Where nothing is to be said of it, what is said first is what is said first after it.
+  pub goes_on : (base : List Record) (said : Option Taken) (after : Tally) → Follows base (events_above eid (take i events)) event said after → false ≡ is_some said
+      → first_misfit_after base (events_above eid (take i events)) (events_above eid (drop i events)) ≡ first_misfit base (events_above eid events)
+      → (said ≡ None)
+      × (first_misfit_after base (events_above eid (take (i + 1) events)) (events_above eid (drop (i + 1) events)) ≡ first_misfit base (events_above eid events))
+      × IsTally base (events_above eid (take (i + 1) events)) after
+  goes_on base said after follows fits rest =
+      let later : List Event = events_above eid (drop (i + 1) events) in
+      let none : said ≡ None = none_where said (sym fits) in (
+        none,
+        ap (λ (es : List Event). first_misfit_after base es later) gone_over
+            ∙ sym (ap (λ (now : Option Taken). or_later now (first_misfit_after base (events_above eid (take i events) ++ event ∷ []) later)) (sym follows.0 ∙ none))
+            ∙ sym (ap (first_misfit_after base (events_above eid (take i events))) left)
+            ∙ rest,
+        subst (λ (es : List Event). IsTally base es after) (sym gone_over) (follows.1 none),
+      )

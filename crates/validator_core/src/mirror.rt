@@ -53,7 +53,8 @@ pub enum Taken {
         /// The first event identifier that differs; 0 where the events end too early.
         got: u32,
     },
-    /// An event creates a record that is held, or alters or deletes one that is not.
+    /// An event creates a record that is held, alters or deletes one that is not, or deletes one
+    /// with another content than the one that is held, where an empty body counts as equal.
     Contradiction {
         /// The event identifier of the first such event.
         eid: u32,

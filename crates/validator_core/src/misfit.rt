@@ -14,17 +14,17 @@ use wire_base::Memory;
 
 /// What is said of the first event above the event identifier `eid` that does not fit, where the
 /// events above it follow on `records` in turn.
-pub(crate) fn first_misfit(
+pub(crate) fn first_misfit<'a>(
     alloc: Global,
-    records: &[Record],
+    records: &'a [Record],
     eid: u32,
-    events: &[Event],
+    events: &'a [Event],
 ) -> Result<Option<Taken>, Memory>
     requires rising { IsStrictlyIncreasing (ids records.now) }
     requires few { length records.now ≤ 65536 }
     ensures first { IfOk result (λ found. found ≡ first_misfit records.now (events_above eid events.now)) }
 {
-    let mut tally = Tally::from_records(alloc, records)?;
+    let mut tally = Tally::new(alloc, records);
     for event in events {
         if event.eid <= eid {
             continue;

@@ -1,148 +1,136 @@
-//! A tally of records: what it takes to judge events over them, without the records themselves.
+//! A tally of what is live after some events over records: what it takes to judge the next event.
+//! It copies no record and alters none.
 
-ghost use Rattle.std.specs.Prelude.{◌≡◌, ◌<◌, ◌≤◌, ◌+◌, ◌^◌, List, None, Some, IfOk, OnOk, is_some, length};
+ghost use Rattle.std.specs.Prelude.{◌≡◌, ◌<◌, ◌≤◌, ◌^◌, [], List, None, Some, IfOk, length, option_to_list, if◌then◌else◌};
 ghost use Rattle.std.specs.List.Sorted.{IsStrictlyIncreasing};
+ghost use Rattle.std.specs.Option.{option_copied};
 ghost use Rattle.swima_model.specs.declared.event.Event.{Event};
 ghost use Rattle.swima_model.specs.declared.record.Record.{Record};
-ghost use Rattle.swima_model.specs.History.{is_contradiction};
+ghost use Rattle.swima_model.specs.History.{is_carried, is_contradiction};
 ghost use Rattle.swima_model.specs.InOrder.{ids};
-ghost use Rattle.swima_model.specs.Live.{live};
-ghost use Rattle.swima_model.specs.Size.{MOST_CONTENT_OCTETS, content_octets};
-ghost use Rattle.validator_core.specs.Tally.{AreFew, AreRising, AreSetAt, Follows, size_at, size_said, sizes_of, sizes_too_large, total};
+ghost use Rattle.swima_model.specs.Live.{by_mention, live, record_of};
+ghost use Rattle.swima_model.specs.Size.{MOST_CONTENT_OCTETS, records_octets};
+ghost use Rattle.validator_core.specs.Tally.{AreFew, Follows, IsTally, too_many};
 
 use crate::limits::{is_large, records_octets};
 use crate::mirror::Taken;
 use std::alloc::Global;
 use std::collections::BTreeMap;
-use std::marker::Model;
-use swima_model::{Action, Event, Record};
+use swima_model::{Action, Content, Event, Record, record_of};
 use wire_base::Memory;
 
-/// The identifiers of records, each with the octets of its content, and the octets of all together.
-#[derive(Debug, Drop)]
-pub(crate) struct Tally {
-    sizes: BTreeMap<u32, u64>,
-    octet_count: u64,
+/// Records, the last mention of each by some events, and how many records are live after these,
+/// with how many octets.
+#[derive(Drop)]
+pub(crate) struct Tally<'a> {
+    records: &'a [Record],
+    mentions: BTreeMap<u32, &'a Event>,
+    count: usize,
+    octets: u64,
 }
 
-impl Model for Tally {
-    ghost use Rattle.std.specs.Prelude.{◌≡◌};
-    ghost use Rattle.validator_core.specs.Tally.{AreRising, Sizes, total};
-
-    ghost Value = { Sizes };
-
-    ghost view = { λ tally. tally.sizes.entries };
-
-    ghost invariant = { λ tally. (tally.octet_count ≡ total tally.sizes.entries) × AreRising tally.sizes.entries };
-}
-
-impl Tally {
-    /// The tally of `records`.
-    pub(crate) fn from_records(alloc: Global, records: &[Record]) -> Result<Self, Memory>
+impl<'a> Tally<'a> {
+    /// The tally of `records` before any event. It takes no memory.
+    pub(crate) fn new(alloc: Global, records: &'a [Record]) -> Self
         requires rising { IsStrictlyIncreasing (ids records.now) }
         requires few { length records.now ≤ 65536 }
-        ensures sizes { IfOk result (λ made. made ≡ sizes_of records.now) }
-        ensures few { IfOk result (λ made. AreFew made) }
+        ensures begins { IsTally records.now [] result }
+        ensures few { AreFew result }
     {
-        Ok(Tally {
-            sizes: sizes_of(alloc, records)?,
-            octet_count: records_octets(records),
-        })
+        Tally {
+            records,
+            mentions: BTreeMap::new(alloc),
+            count: records.len(),
+            octets: records_octets(records),
+        }
     }
 
     /// Follows an event that fits, or gives what is to be said of one that does not.
-    pub(crate) fn follow(&mut self, event: &Event) -> Result<Option<Taken>, Memory>
+    pub(crate) fn follow(&mut self, event: &'a Event) -> Result<Option<Taken>, Memory>
+        requires some { (base : List Record) × (before : List Event) × IsTally base before self.old }
         requires few { AreFew self.old }
-        ensures follows { (base : List Record) (before : List Event) → IsStrictlyIncreasing (ids base)
-            → self.old ≡ sizes_of (live base before)
+        ensures follows { (base : List Record) (before : List Event) → IsTally base before self.old
             → IfOk result (λ said. Follows base before event.now said self.new) }
         ensures few { IfOk result (λ said. said ≡ None → AreFew self.new) }
     {
-        let was_live = self.apply(event)?;
-        if is_contradiction(event.action, was_live) {
+        let held = self.held(event.subject.id);
+        if is_contradiction(event, held) {
             return Ok(Some(Taken::Contradiction { eid: event.eid }));
         }
+        let gone = weight(held);
+        let come = weight(said(event));
+        self.mentions.insert(event.subject.id, event)?;
+        self.count = self.count + come.0 - gone.0;
+        self.octets = self.octets + come.1 - gone.1;
         Ok(self.too_large())
     }
 
-    /// Sets the size of the event's record, or takes it out, as the event says, and answers whether
-    /// the record was there.
-    fn apply(&mut self, event: &Event) -> Result<bool, Memory>
-        requires room { total self.old + MOST_CONTENT_OCTETS < 2 ^ 64 }
-        ensures was { IfOk result (λ was. was ≡ is_some (size_at event.now.subject.id self.old)) }
-        ensures set { OnOk result (AreSetAt event.now.subject.id (size_said event.now) self.old self.new) }
-        ensures rising { AreRising self.new }
-        ensures count { OnOk result (length self.new ≤ length self.old + 1) }
-        ensures total { OnOk result (total self.new ≤ total self.old + MOST_CONTENT_OCTETS) }
+    /// What is live of the record of this identifier.
+    fn held(&self, id: u32) -> Option<&'a Record>
+        requires rising { IsStrictlyIncreasing (ids self.now.records.now) }
+        ensures held { (base : List Record) (before : List Event) → IsTally base before self.now
+            → option_copied result ≡ record_of id (live base before) }
     {
-        match event.action {
-            Action::Deletion => Ok(self.remove(event.subject.id)),
-            Action::Creation | Action::Alteration => self.put(&event.subject),
+        match self.mentions.get(&id) {
+            None => record_of(self.records, id),
+            Some(event) => said(*event),
         }
     }
 
-    /// Sets the size of a record, and answers whether the record was there.
-    fn put(&mut self, subject: &Record) -> Result<bool, Memory>
-        requires room { total self.old + MOST_CONTENT_OCTETS < 2 ^ 64 }
-        ensures was { IfOk result (λ was. was ≡ is_some (size_at subject.now.id self.old)) }
-        ensures set { OnOk result (AreSetAt subject.now.id (Some (content_octets subject.now.content)) self.old self.new) }
-        ensures rising { AreRising self.new }
-        ensures count { OnOk result (length self.new ≤ length self.old + 1) }
-        ensures total { OnOk result (total self.new ≤ total self.old + MOST_CONTENT_OCTETS) }
-    {
-        let octets = subject.content.octets();
-        let before = self.sizes.insert(subject.id, octets)?;
-        self.octet_count = self.octet_count + octets - before.unwrap_or(0);
-        Ok(before.is_some())
-    }
-
-    /// Takes out the size of the record of this identifier, and answers whether the record was
-    /// there.
-    fn remove(&mut self, id: u32) -> bool
-        ensures was { result ≡ is_some (size_at id self.old) }
-        ensures set { AreSetAt id None self.old self.new }
-        ensures rising { AreRising self.new }
-        ensures count { length self.new ≤ length self.old }
-        ensures total { total self.new ≤ total self.old }
-    {
-        let octets = self.sizes.remove(&id);
-        self.octet_count -= octets.unwrap_or(0);
-        octets.is_some()
-    }
-
-    /// What is said of the sizes where they are too many.
+    /// What is said where too much is live.
     fn too_large(&self) -> Option<Taken>
-        requires few { length self.now < 2 ^ 32 }
-        ensures large { result ≡ sizes_too_large self.now }
+        requires few { self.now.count < 2 ^ 32 }
+        ensures large { result ≡ too_many self.now.count self.now.octets }
     {
-        let count = self.sizes.len();
-        if is_large(count, self.octet_count) {
+        if is_large(self.count, self.octets) {
             return Some(Taken::Large {
-                count: count as u32,
-                octets: self.octet_count,
+                count: self.count as u32,
+                octets: self.octets,
             });
         }
         None
     }
 }
 
-/// The identifiers of the records, each with the octets of its content. Being in order, they are
-/// put in place at once.
-fn sizes_of(alloc: Global, records: &[Record]) -> Result<BTreeMap<u32, u64>, Memory>
-    requires rising { IsStrictlyIncreasing (ids records.now) }
-    ensures sizes { IfOk result (λ made. made.entries ≡ sizes_of records.now) }
+/// What the event says of its record; nothing where it says that the record is gone.
+fn said(event: &Event) -> Option<&Record>
+    ensures said { option_copied result ≡ by_mention None (Some event.now) }
 {
-    let sizes = records.iter();
-    let sizes = sizes.map(|record| (record.id, record.content.octets()));
-    Ok(sizes.collect(alloc)?)
+    match event.action {
+        Action::Deletion => None,
+        Action::Creation | Action::Alteration => Some(&event.subject),
+    }
 }
 
-/// Whether the action contradicts that its record is live, or that it is not.
-fn is_contradiction(action: Action, is_live: bool) -> bool
-    ensures unfit { result ≡ is_contradiction action is_live }
+/// How many records these are, none or one, and how many octets they have.
+fn weight(found: Option<&Record>) -> (usize, u64)
+    ensures count { result.0 ≡ length (option_to_list (option_copied found.entry)) }
+    ensures octets { result.1 ≡ records_octets (option_to_list (option_copied found.entry)) }
+    ensures within { (result.0 ≤ 1) × (result.1 ≤ MOST_CONTENT_OCTETS) }
 {
-    match action {
-        Action::Creation => is_live,
-        Action::Deletion | Action::Alteration => !is_live,
+    match found {
+        None => (0, 0),
+        Some(found) => (1, found.content.octets()),
+    }
+}
+
+/// Whether the event contradicts what is live of its record.
+fn is_contradiction(event: &Event, held: Option<&Record>) -> bool
+    ensures unfit { result ≡ is_contradiction event.now.action (option_copied held.entry) event.now.subject.content }
+{
+    match event.action {
+        Action::Creation => held.is_some(),
+        Action::Deletion => !is_carried(held, &event.subject.content),
+        Action::Alteration => held.is_none(),
+    }
+}
+
+/// Whether a record is live, and the event of its deletion may carry this content.
+fn is_carried(held: Option<&Record>, carried: &Content) -> bool
+    ensures carried { result ≡ is_carried (option_copied held.entry) carried.now }
+{
+    match held {
+        None => false,
+        Some(held) => held.content.carries(carried),
     }
 }

@@ -8,7 +8,8 @@ ghost use Rattle.swima_model.specs.Size.{MOST_CONTENT_OCTETS, MOST_RECORDS_OCTET
 ghost use Rattle.event_log.specs.Log.{IsLog};
 ghost use Rattle.collector_core.specs.declared.chronicle.Entry.{Entry};
 ghost use Rattle.collector_core.specs.declared.chronicle.Entry.TheVariants as entry;
-ghost use Rattle.collector_core.specs.Book.{IsExchange, IsPlaceOf};
+ghost use Rattle.swima_model.specs.Places.{IsPlaceOf};
+ghost use Rattle.collector_core.specs.Book.{IsExchange};
 ghost use Rattle.collector_core.specs.declared.error.BookError.TheVariants as refused;
 ghost use Rattle.collector_core.specs.Legal.{IsContent};
 ghost use Rattle.collector_core.specs.Refusals.{alter_refusal, create_refusal, delete_refusal, epoch_refusal, others_than, trim_refusal};
@@ -16,8 +17,8 @@ ghost use Rattle.collector_core.specs.Standing.{Changes, ChangesExactly, IsAlter
 
 use super::Book;
 use crate::error::BookError;
-use crate::records::{place_of, push_record, put_content, take_record, within_limits};
-use swima_model::{Action, Body, Content, Event, MOST_RECORDS, MOST_RECORDS_OCTETS, Record};
+use crate::records::{push_record, put_content, take_record, within_limits};
+use swima_model::{Action, Content, Event, MOST_RECORDS, MOST_RECORDS_OCTETS, Record, place_of};
 use wire_base::{Memory, TryCopy};
 
 impl Book {
@@ -239,7 +240,7 @@ impl Book {
         Ok(())
     }
 
-    /// Removes the record at a place. It takes no memory.
+    /// Moves the record at a place to its event. It takes no memory.
     fn remove(&mut self, stamp: &[u8; 20], place: usize)
         requires stamp { IsStamp stamp.now }
         requires last { self.old.log.last < 2 ^ 32 - 1 }
@@ -250,11 +251,9 @@ impl Book {
             → record_of id self.old.records ≡ Some held → IsContent held.content }
         ensures fits { are_large self.new.records ≡ false }
     {
-        let alloc = *self.records.allocator();
-        let mut subject = take_record(&mut self.records, place);
+        let subject = take_record(&mut self.records, place);
         within_limits(&subject.content);
         self.octet_count -= subject.content.octets();
-        subject.content.body = Body::empty(alloc);
         let event = Event {
             eid: self.log.last() + 1,
             stamp: *stamp,

@@ -1,12 +1,12 @@
--- Before the first event what is live are the records themselves.
-use Rattle.std.proofs.Common.{◌∙◌, ap, refl, sym}
-use Rattle.swima_model.proofs.Living.{live_none}
-use Rattle.validator_core.specs.Tally.{sizes_of}
+-- An event that fits goes to those gone over.
+use Rattle.validator_core.proofs.Tallying.{goes_on}
 use Rattle.validator_core.proofs.misfit.first_misfit.Goals as goal
 
-pub loop-event-init : goal.loop-event-init
-loop-event-init c = record {
-  rest = refl;
-  tally = c.in_ok-tally.ensures.sizes ∙ ap sizes_of (sym (live_none c.args.records.now c.requires.rising));
-  few = c.in_ok-tally.ensures.few;
-}
+pub loop-event-preserved : goal.loop-event-preserved
+loop-event-preserved c =
+    let base = c.args.records.now in
+    let follows = c.in_ok-misfit.ensures.follows base _ c.loop-event.invariant.tally in
+    let (none, rest, tally) =
+    goes_on c.args.eid c.args.events.now c.loop-event.event-index c.event-item.result c.loop-event-test.true c.event-item.is c.if-event-eid.false
+    base _ c.follow.new.self follows c.if-is_some.ensures c.loop-event.invariant.rest in
+    record { rest = rest; tally = tally; few = c.in_ok-misfit.ensures.few none }

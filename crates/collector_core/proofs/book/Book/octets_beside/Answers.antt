@@ -1,6 +1,6 @@
 use Rattle.std.proofs.Common.{◌-◌, ◌∙◌, ℕ, Some, ap, sym, subst}
 use Rattle.swima_model.specs.Size.{records_octets}
-use Rattle.collector_core.specs.Book.{IsPlaceOf}
+use Rattle.swima_model.specs.Places.{IsPlaceOf}
 use Rattle.collector_core.specs.Refusals.{others_than}
 use Rattle.collector_core.specs.Standing.{BookView}
 use Rattle.collector_core.proofs.Changing.{beside}

@@ -1,6 +1,6 @@
 use Rattle.std.proofs.Common.{rules, ◌≡◌, Some, None, subst, List}
 use Rattle.swima_model.specs.declared.record.Record.{Record}
-use Rattle.collector_core.specs.Book.{IsPlaceOf}
+use Rattle.swima_model.specs.Places.{IsPlaceOf}
 use Rattle.collector_core.specs.Refusals.{delete_refusal}
 use Rattle.collector_core.specs.Standing.{BookView}
 use Rattle.collector_core.proofs.Changing.{place_allowed}

@@ -1,7 +1,7 @@
 use Rattle.std.proofs.Common.{◌≡◌, ◌+◌, ◌-◌, ◌^◌, ◌<◌, ◌∙◌, Some, length, refl, sym, ap, subst, arith}
 use Rattle.swima_model.specs.declared.record.Record.{Record}
 use Rattle.swima_model.specs.Live.{record_of}
-use Rattle.collector_core.specs.Book.{IsPlaceOf}
+use Rattle.swima_model.specs.Places.{IsPlaceOf}
 use Rattle.collector_core.specs.Legal.{IsContent}
 use Rattle.collector_core.specs.Standing.{BookView, IsDeletion, book_after}
 use Rattle.collector_core.proofs.Changing.{held_is, remove_enough, remove_invariant, remove_after, split_at}
@@ -21,8 +21,8 @@ invariant_of-self c =
     let is = remove_invariant _ _ _ c.args.place _ _ _ c.self.invariant.0 within c.take_record-subject.ensures.taken c.octets.ensures.octets in
     let at = split_at c.self.inside.records.items c.args.place within in
     let place : IsPlaceOf c.self.inside.records.items at.1.id (Some c.args.place) = (at.0, at.1, at.2, at.3, at.4, refl) in
-    let now = remove_after (record { epoch = c.self.inside.epoch; next = c.self.inside.next; records = c.self.inside.records.items; log = c.self.inside.log }) _ c.args.place _ c.args.stamp.now _ _ _ _ at.1.id c.self.invariant.0 place
-    c.take_record-subject.ensures.taken c.empty.ensures.empty (ap (λ n. n + 1) c.last.ensures.last) c.push-oldest.ensures.pushed in (
+    let now = remove_after (record { epoch = c.self.inside.epoch; next = c.self.inside.next; records = c.self.inside.records.items; log = c.self.inside.log }) _ c.args.place _ c.args.stamp.now _ _ _ at.1.id c.self.invariant.0 place
+    c.take_record-subject.ensures.taken (ap (λ n. n + 1) c.last.ensures.last) c.push-oldest.ensures.pushed in (
       is,
       some_deleted _ _ _ c.args.stamp.now c.self.invariant.0 c.self.invariant.1 c.last.ensures.log c.requires.stamp is.fits at.1.id c.args.place more place
           (λ held found. subst (λ (r : Record). IsContent r.content) ((c.take_record-subject.ensures.taken at.0 at.1 at.2 at.3 at.4).0 ∙ some_same at.1 held (sym (held_is _ _ at.1.id c.args.place _ c.self.invariant.0 place) ∙ found)) c.within_limits.ensures.content)
@@ -35,7 +35,7 @@ invariant_of-self c =
 pub returns-clause-removed : goal.returns-clause-removed
 returns-clause-removed c id place =
     let at = subst (λ (book : BookView). IsPlaceOf book.records id (Some c.args.place)) (sym c.self.view_is) place in
-    let behind = remove_after _ _ c.args.place _ _ _ _ _ _ id c.self.invariant.0 at c.take_record-subject.ensures.taken c.empty.ensures.empty (ap (λ n. n + 1) c.last.ensures.last) c.push-oldest.ensures.pushed in (
+    let behind = remove_after _ _ c.args.place _ _ _ _ _ id c.self.invariant.0 at c.take_record-subject.ensures.taken (ap (λ n. n + 1) c.last.ensures.last) c.push-oldest.ensures.pushed in (
       behind.0,
       subst (λ (book : BookView). IsDeletion book.log.last book.records c.args.stamp.now id behind.0) c.self.view_is behind.1,
       behind.2 ∙ ap (λ (book : BookView). book_after book behind.0) c.self.view_is,

@@ -1,6 +1,7 @@
 use Rattle.std.proofs.Common.{◌+◌, ◌-◌, ◌^◌, ◌<◌, ◌∙◌, Some, length, refl, sym, ap, subst}
 use Rattle.collector_core.specs.declared.chronicle.Entry.TheVariants as entry
-use Rattle.collector_core.specs.Book.{IsExchange, IsPlaceOf}
+use Rattle.swima_model.specs.Places.{IsPlaceOf}
+use Rattle.collector_core.specs.Book.{IsExchange}
 use Rattle.collector_core.specs.Standing.{BookView, book_after, alteration}
 use Rattle.collector_core.proofs.Changing.{replace_invariant, replace_after, split_at}
 use Rattle.collector_core.proofs.Keeping.{some_altered}

@@ -1,9 +1,9 @@
 use Rattle.std.proofs.Common.{rules, sym, subst, ℕ, Option}
 use Rattle.std.proofs.lemmas.List.Sorted.{answers_always}
 use Rattle.swima_model.specs.declared.record.Record.{Record}
-use Rattle.collector_core.specs.Book.{IsPlaceOf}
-use Rattle.collector_core.proofs.Places.{place_is}
-use Rattle.collector_core.proofs.records.place_of.Goals as goal
+use Rattle.swima_model.specs.Places.{IsPlaceOf}
+use Rattle.swima_model.proofs.Places.{place_is}
+use Rattle.swima_model.proofs.find.place_of.Goals as goal
 
 pub returns : goal.returns
 returns c =
