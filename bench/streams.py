@@ -91,8 +91,9 @@ def changed(kind, count, index):
     """The event at the index over `count` records."""
     if index % 4 == 1:
         return event(count + index + 1, realistic(kind, count + index, CREATION))
-    action = DELETION if index % 4 == 0 else ALTERATION
-    return event(count + index + 1, realistic(kind, index * STRIDE % count, action, 2))
+    if index % 4 == 0:  # no event before it was of this record, so it carries what the record had at first
+        return event(count + index + 1, realistic(kind, index * STRIDE % count, DELETION))
+    return event(count + index + 1, realistic(kind, index * STRIDE % count, ALTERATION, 2))
 
 
 def stream(kind, count, changes):

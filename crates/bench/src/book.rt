@@ -17,7 +17,7 @@ const KEPT: u32 = 4096;
 const EVENTS: u32 = 100;
 
 /// The moment of each change.
-const STAMP: [u8; 20] = *b"2026-02-03T04:05:06Z";
+pub(crate) const STAMP: [u8; 20] = *b"2026-02-03T04:05:06Z";
 
 /// The body of each record at first.
 const BODY: [u8; 64] = [0; 64];
@@ -57,7 +57,7 @@ impl Work {
 /// Does the work that many times on a book of that many records, at least 1. It gives the number of
 /// records or events of all answers, or the number of changes.
 pub(crate) fn done(alloc: Global, records: u32, work: Work, times: u32) -> Result<u64, Trouble> {
-    let mut book = book_of(alloc, records)?;
+    let mut book = book_of(alloc, records, KEPT)?;
     alterations(alloc, &mut book, KEPT)?;
     let count = book.count();
     match work {
@@ -69,18 +69,21 @@ pub(crate) fn done(alloc: Global, records: u32, work: Work, times: u32) -> Resul
     }
 }
 
-/// A book of that many records.
-fn book_of(alloc: Global, records: u32) -> Result<Book, Trouble> {
+/// A book of that many records, which keeps that many events.
+pub(crate) fn book_of(alloc: Global, records: u32, kept: u32) -> Result<Book, Trouble>
+    requires some { 1 ≤ kept }
+    requires few { kept ≤ 4096 }
+{
     let one = content(alloc, &BODY)?;
     let mut base = List::new(alloc);
     for _ in 0..records {
         base.push(one.copy()?)?;
     }
-    Ok(Book::new(alloc, 1, KEPT as usize, base.as_slice())?)
+    Ok(Book::new(alloc, 1, kept as usize, base.as_slice())?)
 }
 
 /// A content with this body.
-fn content(alloc: Global, body: &[u8]) -> Result<Content, Trouble> {
+pub(crate) fn content(alloc: Global, body: &[u8]) -> Result<Content, Trouble> {
     Ok(Content {
         model: Model { pen: 0, kind: 2 },
         source: 1,
@@ -91,7 +94,7 @@ fn content(alloc: Global, body: &[u8]) -> Result<Content, Trouble> {
 }
 
 /// Alters the first record that many times, and gives how often that was done.
-fn alterations(alloc: Global, book: &mut Book, times: u32) -> Result<u64, Trouble> {
+pub(crate) fn alterations(alloc: Global, book: &mut Book, times: u32) -> Result<u64, Trouble> {
     let other = content(alloc, &OTHER_BODY)?;
     let mut done: u64 = 0;
     for _ in 0..times {
@@ -133,15 +136,13 @@ fn exchange(book: &mut Book, id: u32, content: &Content) -> Result<(), Trouble> 
 }
 
 /// How many records or events that many answers have.
-fn answers(alloc: Global, book: &Book, earliest: u32, times: u32) -> Result<u64, Trouble> {
-    let request = Request {
-        clear: false,
-        subscribe: false,
-        kind: Kind::Full,
-        id: 1,
-        earliest,
-        targets: List::new(alloc),
-    };
+pub(crate) fn answers(
+    alloc: Global,
+    book: &Book,
+    earliest: u32,
+    times: u32,
+) -> Result<u64, Trouble> {
+    let request = latest(alloc, earliest);
     let mut counted: u64 = 0;
     for _ in 0..times {
         counted = counted.saturating_add(count_of(book.answer(&request, u32::MAX))?);
@@ -149,8 +150,20 @@ fn answers(alloc: Global, book: &Book, earliest: u32, times: u32) -> Result<u64,
     Ok(counted)
 }
 
+/// A request for whole records, from this event on.
+pub(crate) fn latest(alloc: Global, earliest: u32) -> Request {
+    Request {
+        clear: false,
+        subscribe: false,
+        kind: Kind::Full,
+        id: 1,
+        earliest,
+        targets: List::new(alloc),
+    }
+}
+
 /// How many records or events the answer has.
-fn count_of(answer: Answer) -> Result<u64, Trouble> {
+pub(crate) fn count_of(answer: Answer) -> Result<u64, Trouble> {
     match answer {
         Answer::Report(Report::Inventory { records, .. }) => Ok(records.len() as u64),
         Answer::Report(Report::Events { events, .. }) => Ok(events.len() as u64),

@@ -4,13 +4,15 @@
 //! - `book RECORDS WORK TIMES`: a book of that many records, at least 1; `Work` has the works;
 //! - `batches SIZE large`, `batches SIZE small`: a feed of one batch of 16 MiB, or of batches of 8
 //!   octets, in pieces of that many octets;
+//! - `shelf alone TASK TIMES`, `shelf THREADS TASK TIMES`: a book alone, or on a shelf in 1, 2 or 4
+//!   threads; the tasks are `change`, `read` and `both`;
 //! - `cbor read`, `cbor write`, `cbor feed SIZE`: the items on standard input, one after another;
 //! - `links read`, `links check`: the tags on standard input as a list, and the findings on it;
 //! - `tags read`, `tags write`, `tags both`: the tags on standard input, one after another.
 //!
 //! Where nothing is printed, standard error has the reason.
 //!
-//! It stands on `coswid_links`, `coswid_codec`, `coswid_tag`, `cbor_det`, `pb_batch`,
+//! It stands on `coswid_links`, `coswid_codec`, `coswid_tag`, `cbor_det`, `pb_batch`, `book_lock`,
 //! `collector_core`, `swima_request`, `swima_model` and `wire_base`.
 #![tactic(auto)]
 
@@ -20,6 +22,7 @@ mod cbor;
 mod figures;
 mod links;
 mod reading;
+mod shelf;
 mod tags;
 mod trouble;
 
@@ -27,12 +30,15 @@ ghost use Rattle.std.specs.Prelude.{◌<◌, IfOk};
 
 use crate::book::Work;
 use crate::figures::Figures;
+use crate::shelf::Task;
 use crate::trouble::Trouble;
 use std::env;
 use std::process::ExitCode;
+use std::sync::Wait;
+use std::thread::Threads;
 
 fn main(rt: HostRuntime) -> ExitCode {
-    match run(&rt) {
+    match run(&rt, &rt) {
         Ok(figures) => match println!(rt; "{figures}") {
             Ok(()) => ExitCode::SUCCESS,
             Err(_) => ExitCode::from(3),
@@ -44,14 +50,14 @@ fn main(rt: HostRuntime) -> ExitCode {
     }
 }
 
-/// What the command line asks for.
-fn run(rt: &HostRuntime) -> Result<Figures, Trouble> {
+/// What the command line asks for. Threads are of `threads`.
+fn run<R: Threads + Wait + Sync>(rt: &HostRuntime, threads: &R) -> Result<Figures, Trouble> {
     let owned = words(rt)?;
     let mut words = Vec::new(rt.alloc());
     for word in &owned {
         words.push(word.as_str())?;
     }
-    measured(rt, &words)
+    measured(rt, threads, &words)
 }
 
 /// The words of the command line without the program's name.
@@ -64,8 +70,16 @@ fn words(rt: &HostRuntime) -> Result<Vec<String>, Trouble> {
 }
 
 /// What the words ask for.
-fn measured(rt: &HostRuntime, words: &[&str]) -> Result<Figures, Trouble> {
+fn measured<R: Threads + Wait + Sync>(
+    rt: &HostRuntime,
+    threads: &R,
+    words: &[&str],
+) -> Result<Figures, Trouble> {
     match words {
+        ["shelf", place, task, times] => {
+            let (task, times) = (Task::of(task)?, number(times)?);
+            Ok(Figures::One(shelf::done(threads, rt.alloc(), place, task, times)?))
+        }
         ["tags", "both"] => tags::both(rt),
         _ => Ok(Figures::One(figure(rt, words)?)),
     }

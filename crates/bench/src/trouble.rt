@@ -34,6 +34,7 @@ pub(crate) enum Trouble {
 const WORDS: &str = "\
 the words are none of these:
   bench book RECORDS answer|events|change|last|middle TIMES
+  bench shelf alone|1|2|4 change|read|both TIMES
   bench batches SIZE large|small
   bench cbor read|write
   bench cbor feed SIZE

@@ -1,0 +1,220 @@
+//! A book on a shelf, beside the same book alone: 1,000 records, of which the first is altered,
+//! and a log that keeps one event, so that changes and answers are as quick as they can be.
+
+ghost use Rattle.std.specs.Prelude.{◌≡◌, true};
+
+use crate::book::{STAMP, alterations, answers, book_of, content, count_of, latest};
+use crate::trouble::Trouble;
+use book_lock::{Pass, Shelf};
+use collector_core::{Book, Edit};
+use std::alloc::Global;
+use std::sync::Wait;
+use std::thread;
+use std::thread::Threads;
+use swima_model::Content;
+use swima_request::Request;
+use wire_base::is_stamp;
+
+/// How many records the book has.
+const RECORDS: u32 = 1000;
+
+/// What is asked of it.
+#[derive(Clone, Copy)]
+pub(crate) enum Task {
+    /// An alteration.
+    Change,
+    /// The latest event.
+    Read,
+    /// Each in turns.
+    Both,
+}
+
+impl Task {
+    /// The task of this name.
+    pub(crate) fn of(name: &str) -> Result<Self, Trouble> {
+        match name {
+            "change" => Ok(Task::Change),
+            "read" => Ok(Task::Read),
+            "both" => Ok(Task::Both),
+            _ => Err(Trouble::Words),
+        }
+    }
+}
+
+/// Does a task that many times on a book alone, or in each of 1, 2 or 4 threads on one book of a
+/// shelf.
+pub(crate) fn done<R: Threads + Wait + Sync>(
+    rt: &R,
+    alloc: Global,
+    place: &str,
+    task: Task,
+    times: u32,
+) -> Result<u64, Trouble> {
+    match place {
+        "alone" => alone(alloc, task, times),
+        _ => shared(rt, alloc, place, task, times),
+    }
+}
+
+/// Does a task that many times on a book alone.
+fn alone(alloc: Global, task: Task, times: u32) -> Result<u64, Trouble> {
+    let mut book = small_book(alloc)?;
+    match task {
+        Task::Change => alterations(alloc, &mut book, times),
+        Task::Read => answers(alloc, &book, 1, times),
+        Task::Both => {
+            let changed = alterations(alloc, &mut book, times)?;
+            Ok(changed.saturating_add(answers(alloc, &book, 1, times)?))
+        }
+    }
+}
+
+/// Does a task that many times in each of 1, 2 or 4 threads, on one book of a shelf.
+fn shared<R: Threads + Wait + Sync>(
+    rt: &R,
+    alloc: Global,
+    threads: &str,
+    task: Task,
+    times: u32,
+) -> Result<u64, Trouble> {
+    let book = small_book(alloc)?;
+    let Ok((shelf, pass)) = Shelf::open(alloc, book) else {
+        return Err(Trouble::Memory);
+    };
+    match threads {
+        "1" => work(rt, alloc, &shelf, pass, task, times),
+        "2" => in_two(rt, alloc, &shelf, pass, task, times),
+        "4" => in_four(rt, alloc, &shelf, pass, task, times),
+        _ => Err(Trouble::Words),
+    }
+}
+
+/// The book that is measured.
+fn small_book(alloc: Global) -> Result<Book, Trouble> {
+    let mut book = book_of(alloc, RECORDS, 1)?;
+    alterations(alloc, &mut book, 1)?;
+    Ok(book)
+}
+
+/// Two threads.
+fn in_two<R: Threads + Wait + Sync>(
+    rt: &R,
+    alloc: Global,
+    shelf: &Shelf,
+    mut pass: Pass,
+    task: Task,
+    times: u32,
+) -> Result<u64, Trouble>
+    requires here { pass.shelf ≡ shelf.now }
+    requires may { pass.may_change ≡ true }
+{
+    let second = shelf.split(&mut pass, true);
+    let (one, two) = thread::join(
+        rt,
+        ||
+            requires { (pass.shelf ≡ shelf.now) × (pass.may_change ≡ true) }
+        { work(rt, alloc, shelf, pass, task, times) },
+        ||
+            requires { (second.shelf ≡ shelf.now) × (second.may_change ≡ true) }
+        { work(rt, alloc, shelf, second, task, times) },
+    );
+    Ok(one?.saturating_add(two?))
+}
+
+/// Four threads.
+fn in_four<R: Threads + Wait + Sync>(
+    rt: &R,
+    alloc: Global,
+    shelf: &Shelf,
+    mut pass: Pass,
+    task: Task,
+    times: u32,
+) -> Result<u64, Trouble>
+    requires here { pass.shelf ≡ shelf.now }
+    requires may { pass.may_change ≡ true }
+{
+    let second = shelf.split(&mut pass, true);
+    let (one, two) = thread::join(
+        rt,
+        ||
+            requires { (pass.shelf ≡ shelf.now) × (pass.may_change ≡ true) }
+        { in_two(rt, alloc, shelf, pass, task, times) },
+        ||
+            requires { (second.shelf ≡ shelf.now) × (second.may_change ≡ true) }
+        { in_two(rt, alloc, shelf, second, task, times) },
+    );
+    Ok(one?.saturating_add(two?))
+}
+
+/// Does a task that many times through a pass, and gives how often that was done.
+fn work<R: Wait>(
+    wait: &R,
+    alloc: Global,
+    shelf: &Shelf,
+    mut pass: Pass,
+    task: Task,
+    times: u32,
+) -> Result<u64, Trouble>
+    requires here { pass.shelf ≡ shelf.now }
+    requires may { pass.may_change ≡ true }
+{
+    let other = content(alloc, &[0; 65])?;
+    let request = latest(alloc, 1);
+    let mut done: u64 = 0;
+    for _ in 0..times {
+        let more = once(wait, shelf, &mut pass, task, &other, &request)?;
+        done = done.saturating_add(more);
+    }
+    Ok(done)
+}
+
+/// Does a task once, and gives how many changes and events that were.
+fn once<R: Wait>(
+    wait: &R,
+    shelf: &Shelf,
+    pass: &mut Pass,
+    task: Task,
+    other: &Content,
+    request: &Request,
+) -> Result<u64, Trouble>
+    requires here { pass.old.shelf ≡ shelf.now }
+    requires may { pass.old.may_change ≡ true }
+    ensures here { pass.new.shelf ≡ shelf.now }
+    ensures may { pass.new.may_change ≡ true }
+{
+    match task {
+        Task::Change => change(wait, shelf, pass, other),
+        Task::Read => count_of(shelf.ask(wait, pass, request, u32::MAX)),
+        Task::Both => {
+            let changed = change(wait, shelf, pass, other)?;
+            let read = count_of(shelf.ask(wait, pass, request, u32::MAX))?;
+            Ok(changed.saturating_add(read))
+        }
+    }
+}
+
+/// Alters the first record.
+fn change<R: Wait>(
+    wait: &R,
+    shelf: &Shelf,
+    pass: &mut Pass,
+    content: &Content,
+) -> Result<u64, Trouble>
+    requires here { pass.old.shelf ≡ shelf.now }
+    requires may { pass.old.may_change ≡ true }
+    ensures here { pass.new.shelf ≡ shelf.now }
+    ensures may { pass.new.may_change ≡ true }
+{
+    if !is_stamp(&STAMP) {
+        return Err(Trouble::Book);
+    }
+    let edit = Edit::Alter {
+        stamp: &STAMP,
+        id: 1,
+        content,
+    };
+    match shelf.change(wait, pass, edit) {
+        Ok(_) => Ok(1),
+        Err(error) => Err(Trouble::from(error)),
+    }
+}

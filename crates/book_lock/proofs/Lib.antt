@@ -1,0 +1,12 @@
+pub mod Logs
+pub mod Keeping
+pub mod Turns
+pub mod Parting
+pub mod Relabel
+pub mod Joining
+pub mod Calls
+pub mod Together
+pub mod Meetings
+pub mod Taking
+pub mod Places
+pub mod Owners
