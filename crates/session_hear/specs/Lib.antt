@@ -1,0 +1,4 @@
+pub mod Step
+pub mod Hearing
+pub mod Serving
+pub mod Carriage

@@ -1,0 +1,5 @@
+pub mod WorkedSessions
+pub mod Desking
+pub mod Ends
+pub mod AnySession
+pub mod Meaning

@@ -1,0 +1,5 @@
+use Rattle.session_rules.proofs.Meaning.{followed_is_so}
+use Rattle.session_rules.proofs.laws.followed_is_so.Goals as goal
+
+pub returns : goal.returns
+returns c = record { law = followed_is_so }

@@ -1,0 +1,5 @@
+use Rattle.session_rules.proofs.WorkedSessions.{inventory_is_served}
+use Rattle.session_rules.proofs.laws.inventory_is_served.Goals as goal
+
+pub returns : goal.returns
+returns c = record { law = inventory_is_served }

@@ -1,0 +1,5 @@
+use Rattle.session_rules.proofs.AnySession.{stays_right_in_parts}
+use Rattle.session_rules.proofs.laws.stays_right_in_parts.Goals as goal
+
+pub returns : goal.returns
+returns c = record { law = stays_right_in_parts }

@@ -1,0 +1,205 @@
+//! What the rules mean, proved of all sessions, and worked sessions, which compute: the calls do
+//! nothing.
+
+ghost use Rattle.session_rules.specs.AnySession.{StaysRightInParts, StaysRightInSessions};
+ghost use Rattle.session_rules.specs.Meaning.{FollowedIsASession, FollowedIsSo, FollowedPartContinues, LaterEntriesChangeNoPart, LaterEntriesChangeNothing};
+ghost use Rattle.session_rules.specs.Meaning.{MarkedAsksForAll, OneOutcome, ServedIsASession, ServedIsSo, ServedPartContinues};
+ghost use Rattle.session_rules.specs.Worked.{DoubledIsAskedThrice, HeaderIsTorn, InventoryIsAdopted, InventoryIsServed, OtherVersionIsRefused, SubscriptionIsDenied, SubscriptionIsFollowed, SubscriptionIsFulfilled, TurnsAreTaken};
+ghost use Rattle.session_rules.specs.WorkedEnds.{IdleTurnsEnd, LastOctetsEnd, PeerEnds, RequestsAreAnswered, RetriesAreHeard, RetriesCross, TooLargeIsAnswered};
+ghost use Rattle.session_rules.specs.WorkedEnds.{ValidatorAnswers, ValidatorEnds, ValidatorHearsErrors, ValidatorRetries, WantedReportsEnd};
+ghost use Rattle.session_rules.specs.WorkedFaults.{CutsAreTorn, FaultsAreAnswered, FaultsAreRefused, FaultsAreRefusedByValidator, LastAttributeIsAnswered, LastMessageIsRefused};
+
+/// At the same places of a chronicle a collector writes the same octets, and stands the same.
+pub fn one_outcome()
+    ensures law { OneOutcome }
+{}
+
+/// Entries after the places of a session change nothing of it.
+pub fn later_entries_change_nothing()
+    ensures law { LaterEntriesChangeNothing }
+{}
+
+/// Entries after its places change nothing of a session that broke off.
+pub fn later_entries_change_no_part()
+    ensures law { LaterEntriesChangeNoPart }
+{}
+
+/// The session of a collector, as a function of its places, is the session.
+pub fn served_is_so()
+    ensures law { ServedIsSo }
+{}
+
+/// What the function gives of a collector is a session of it.
+pub fn served_is_a_session()
+    ensures law { ServedIsASession }
+{}
+
+/// A session of a collector that broke off is the beginning of one that goes to its end.
+pub fn served_part_continues()
+    ensures law { ServedPartContinues }
+{}
+
+/// The session of a validator, as a function, is the session.
+pub fn followed_is_so()
+    ensures law { FollowedIsSo }
+{}
+
+/// What the function gives of a validator is a session of it.
+pub fn followed_is_a_session()
+    ensures law { FollowedIsASession }
+{}
+
+/// A session of a validator that broke off is the beginning of one that goes to its end.
+pub fn followed_part_continues()
+    ensures law { FollowedPartContinues }
+{}
+
+/// While the mark of its mirror is set, each request of a validator is for the inventory.
+pub fn marked_asks_for_all()
+    ensures law { MarkedAsksForAll }
+{}
+
+/// A mirror that was right stays right in a session with an honest collector, wherever it ends.
+pub fn stays_right_in_sessions()
+    ensures law { StaysRightInSessions }
+{}
+
+/// So where memory runs out in the session.
+pub fn stays_right_in_parts()
+    ensures law { StaysRightInParts }
+{}
+
+/// A collector answers a request for the inventory, and ends as the validator closes.
+pub fn inventory_is_served()
+    ensures law { InventoryIsServed }
+{}
+
+/// A validator asks for the inventory, adopts it, decides and closes.
+pub fn inventory_is_adopted()
+    ensures law { InventoryIsAdopted }
+{}
+
+/// A batch of another version is refused.
+pub fn other_version_is_refused()
+    ensures law { OtherVersionIsRefused }
+{}
+
+/// A link that ends within the header of a batch tears the session.
+pub fn header_is_torn()
+    ensures law { HeaderIsTorn }
+{}
+
+/// A validator asks three times in vain, and then decides.
+pub fn doubled_is_asked_thrice()
+    ensures law { DoubledIsAskedThrice }
+{}
+
+/// What waits at each end while the ends take turns.
+pub fn turns_are_taken()
+    ensures law { TurnsAreTaken }
+{}
+
+/// A collector denies a subscription.
+pub fn subscription_is_denied()
+    ensures law { SubscriptionIsDenied }
+{}
+
+/// A collector that holds a subscription fulfils it after an idle turn.
+pub fn subscription_is_fulfilled()
+    ensures law { SubscriptionIsFulfilled }
+{}
+
+/// A validator that subscribed follows what fulfils its subscription, and does not ask again.
+pub fn subscription_is_followed()
+    ensures law { SubscriptionIsFollowed }
+{}
+
+/// Each fault of a batch is refused by the CLOSE that reports its code and place.
+pub fn faults_are_refused()
+    ensures law { FaultsAreRefused }
+{}
+
+/// So at a validator.
+pub fn faults_are_refused_by_validator()
+    ensures law { FaultsAreRefusedByValidator }
+{}
+
+/// A batch of 65 messages is refused at the last.
+pub fn last_message_is_refused()
+    ensures law { LastMessageIsRefused }
+{}
+
+/// Each fault of a message is answered by its Error, and the session goes on.
+pub fn faults_are_answered()
+    ensures law { FaultsAreAnswered }
+{}
+
+/// A message of 65 attributes is answered by its Error at the last.
+pub fn last_attribute_is_answered()
+    ensures law { LastAttributeIsAnswered }
+{}
+
+/// A link that ends within a batch tears the session, after each octet of the batch.
+pub fn cuts_are_torn()
+    ensures law { CutsAreTorn }
+{}
+
+/// The server ends a session by CLOSE and by an error, unless that is not fatal.
+pub fn peer_ends()
+    ensures law { PeerEnds }
+{}
+
+/// Idle turns end a session at the last that is allowed, and not before.
+pub fn idle_turns_end()
+    ensures law { IdleTurnsEnd }
+{}
+
+/// The last octet that is allowed ends a session, and not before.
+pub fn last_octets_end()
+    ensures law { LastOctetsEnd }
+{}
+
+/// A collector closes after as many reports as are wanted, and not before.
+pub fn wanted_reports_end()
+    ensures law { WantedReportsEnd }
+{}
+
+/// The answers to two requests of one message, and to one that clears the subscriptions.
+pub fn requests_are_answered()
+    ensures law { RequestsAreAnswered }
+{}
+
+/// An inventory that is too large is answered by an Error.
+pub fn too_large_is_answered()
+    ensures law { TooLargeIsAnswered }
+{}
+
+/// A collector passes over a retry of the server, or answers it, by its state.
+pub fn retries_are_heard()
+    ensures law { RetriesAreHeard }
+{}
+
+/// Two retries cross, and the collector goes on by its own.
+pub fn retries_cross()
+    ensures law { RetriesCross }
+{}
+
+/// How sessions of a validator end.
+pub fn validator_ends()
+    ensures law { ValidatorEnds }
+{}
+
+/// A validator asks again at an idle turn, and once more where a retry crosses its own.
+pub fn validator_retries()
+    ensures law { ValidatorRetries }
+{}
+
+/// A validator answers a message that it refuses with its RESULT, and no Error.
+pub fn validator_answers()
+    ensures law { ValidatorAnswers }
+{}
+
+/// An Error that a validator heard is noted.
+pub fn validator_hears_errors()
+    ensures law { ValidatorHearsErrors }
+{}

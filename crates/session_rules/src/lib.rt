@@ -1,0 +1,48 @@
+//! What both ends of a session do, by rules: the collector, which is the client of PB-TNC
+//! (RFC 5793) and answers requests (RFC 8412), and the validator, which is its server and asks.
+//!
+//! It has the public types of sessions, the definitions of both ends, and the laws of these. A
+//! session is a talk (`session_talk`) that follows from what the end hears (`session_hear`). The
+//! crates above have the calls that make these talks.
+//!
+//! A collector takes no subscription yet: it denies each (`specs/Subscriptions.antt`). Neither end
+//! supports the attributes about their status. The rules that go over the subscriptions that are
+//! held are whole.
+//!
+//! | file | what it holds |
+//! |---|---|
+//! | `config.rt`, `end.rt`, `record.rt` | how a session is configured, ended, and was noted |
+//! | `verdict.rt`, `word.rt` | what becomes of a batch, and what an attribute says to each end |
+//! | `laws.rt` | what the definitions mean, and worked sessions, proved |
+//!
+//! | file of `specs/` | what it says |
+//! |---|---|
+//! | `Numbers` | the numbers of RFC 8412, and those that sessions write |
+//! | `Verdict` | what an end does with a batch before it looks into it |
+//! | `Saying`, `Messages` | what a PA-TNC message says, and what is written of one |
+//! | `Subscriptions`, `Status` | subscriptions, and the attribute that lists them |
+//! | `Questions` | what a collector asks its desk |
+//! | `Serving`, `Answering`, `ServeRules` | the collector: its standing, its answers, its rules |
+//! | `Following`, `Taking`, `FollowRules` | the validator: its standing, what it takes, its rules |
+//! | `Transcripts` | octets, record and end of a session, as functions of its turns |
+//! | `Clauses` | what a call says that goes on with a session |
+//! | `Meaning` | what the transcripts mean: one outcome, whole and broken-off sessions |
+//! | `AnySession` | a mirror that follows an honest collector stays right |
+//! | `Vectors`, `Worked`, `WorkedFaults`, `WorkedEnds` | worked sessions |
+//!
+//! Each worked session is an exchange of octets that was written by hand, and computes to what the
+//! rules say. `proofs/Desking.antt` has what proofs of calls need, over any desk.
+#![tactic(auto)]
+
+mod config;
+mod end;
+pub mod laws;
+mod record;
+mod verdict;
+mod word;
+
+pub use config::{FollowConfig, ServeConfig};
+pub use end::{SessionEnd, Turn};
+pub use record::{Codes, Points, SessionRecord, Takens};
+pub use verdict::Verdict;
+pub use word::{CollectorWord, Requests, ValidatorWord};

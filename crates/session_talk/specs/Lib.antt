@@ -1,0 +1,4 @@
+pub mod Talk
+pub mod Course
+pub mod Given
+pub mod Keeping
