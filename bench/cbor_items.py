@@ -18,7 +18,7 @@ One item of at most MIB times 1048576 octets, and the shapes are
               between the keys 0 and 1, so that all three are compared
 
 or, for the shapes `tags` and `links`, software identification tags (RFC 9393) one after another, each with 60 files or with 60
-links, of as many octets in all that no tag more finds room; or one tag of at most so many octets, and the shapes are
+links, of as many octets in all that no tag more finds room; or one tag of at most that many octets, and the shapes are
 
     tag-extras       pairs under keys of its own of 32 bits, in no order
     tag-files        a payload of files, each with its name, its size and its SHA-256
@@ -113,7 +113,7 @@ def payload(chance):
 
 
 def tag(chance, index, links, has_files):
-    """A primary tag with its creator, so many links, and its files, if it has any (RFC 9393, section 2)."""
+    """A primary tag with its creator, that many links, and its files, if it has any (RFC 9393, section 2)."""
     entity = head(5, 3) + head(0, 31) + spelled("Example Software Limited") + head(0, 32) + head(6, 32) + spelled("example.com")
     entity += head(0, 33) + head(4, 2) + b"\1\2"
     link = b"".join(

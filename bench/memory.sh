@@ -35,7 +35,7 @@ fi
 folder=$(mktemp -d) || exit 1
 trap 'rm -rf -- "$folder"' EXIT
 
-# Runs the words after the first one on a stream of so many MiB, and prints what GNU time says: KiB, and seconds of user
+# Runs the words after the first one on a stream of that many MiB, and prints what GNU time says: KiB, and seconds of user
 # and of system. Their output and their status are left in the folder.
 over() {
     python3 "$top/bench/streams.py" mebibytes "$1" /dev/stdout |

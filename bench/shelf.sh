@@ -1,5 +1,5 @@
 #!/usr/bin/env bash
-# Measures a book behind a shelf beside the same book alone, and 1, 2 and 4 threads that share it. It is a measurement and no
+# Measures a book on a shelf beside the same book alone, and 1, 2 and 4 threads that share it. It is a measurement and no
 # test: it judges no output, and no time makes it fail.
 #
 # usage: bench/shelf.sh [RUNS]     each row is run RUNS times, 5 if not given

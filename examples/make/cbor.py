@@ -10,7 +10,7 @@ from dataclasses import dataclass
 UNSIGNED, NEGATIVE, OCTETS, TEXT, ARRAY, MAP, TAG = range(7)  # the major types
 INDEFINITE = 31  # the additional information of what ends by a break
 BREAK = b"\xff"
-FOLLOWING = {1: 24, 2: 25, 4: 26, 8: 27}  # the additional information of an argument in so many octets
+FOLLOWING = {1: 24, 2: 25, 4: 26, 8: 27}  # the additional information of an argument in that many octets
 INDICATOR = {1: "_0", 2: "_1", 4: "_2", 8: "_3"}  # how the diagnostic notation writes it
 
 
@@ -24,7 +24,7 @@ class Tagged:
 
 @dataclass(frozen=True)
 class Wide:
-    """An item whose argument has so many octets: 1, 2, 4 or 8."""
+    """An item whose argument has that many octets: 1, 2, 4 or 8."""
 
     item: object
     size: int
@@ -54,7 +54,7 @@ class Bad:
 
 
 def head(major, argument, size=None):
-    """An initial octet and the argument, the shortest or in so many octets."""
+    """An initial octet and the argument, the shortest or in that many octets."""
     if size is None and argument < 24:
         return bytes([major << 5 | argument])
     if size is None:

@@ -1,6 +1,6 @@
 """CoSWID tags (RFC 9393) as items, and what `swid tag` prints of them, by the rules of docs/rules/tags.md and docs/rules/commands.md.
 
-A tag is an item of `cbor.py`, a map with the keys below, alone or under their tag. All of it is told from values:
+A tag is an item of `cbor.py`, a map with the keys below, alone or under their tag. All of it is written from values:
 nothing here runs the program or reads octets back.
 """
 
@@ -77,7 +77,7 @@ META_NAMES = {
     57: "unspsc-version",
 }
 METAS = ({}, {key: (name, {48: "bool", GENERATOR: "id"}.get(key, "text")) for key, name in META_NAMES.items()})
-# What a directory and a file are both told by, a directory and what it holds, and what a payload and evidence both have.
+# What a directory and a file are both named by, a directory and what it holds, and what a payload and evidence both have.
 PLACES = {KEY: ("key", "bool"), LOCATION: ("location", "text"), ROOT: ("root", "text")}
 FILES = (
     {FS_NAME: ("fs-name", "text")},
@@ -184,7 +184,7 @@ def tag_fault(item):
     return form_fault(TAGS, content)
 
 
-# What is told of a tag: its map, which is in the form.
+# What is printed of a tag: its map, which is in the form.
 
 
 def written(form, item):
@@ -235,7 +235,7 @@ def findings(tag):
 
 
 def identifier(tag):
-    """The words that tell the software identifier."""
+    """The words that give the software identifier."""
     if not creators(tag):
         return "none"
     reg_id = creators(tag)[0].get(REG_ID, "invalid.unavailable")
@@ -261,7 +261,7 @@ def told(tag, verdicts=()):
 
 @dataclass(frozen=True)
 class Torn:
-    """An item of which only so many octets are there."""
+    """An item of which only that many octets are there."""
 
     item: object
     have: int
@@ -290,7 +290,7 @@ class Followed:
         return [f"trailing {len(spelled(self.item))}"], 1
 
     def notation(self):
-        return f"{notation(self.item, NAMES)}\n/ and behind it / h'{self.rest.hex()}'"
+        return f"{notation(self.item, NAMES)}\n/ and after it / h'{self.rest.hex()}'"
 
 
 @dataclass(frozen=True)

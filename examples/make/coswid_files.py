@@ -1,4 +1,4 @@
-"""The verdicts of `swid tag verify` on the files of a payload, by the rules of docs/rules/tags.md. The files are told as values."""
+"""The verdicts of `swid tag verify` on the files of a payload, by the rules of docs/rules/tags.md. The files are given as values."""
 
 import hashlib
 from dataclasses import dataclass

@@ -1,4 +1,4 @@
-"""What `swid links` prints of tags one after another, by the rules of docs/rules/tags.md and docs/rules/commands.md. Tags are told as values."""
+"""What `swid links` prints of tags one after another, by the rules of docs/rules/tags.md and docs/rules/commands.md. Tags are given as values."""
 
 import uuid
 from dataclasses import dataclass
@@ -44,7 +44,7 @@ def findings(tags):
 
 @dataclass(frozen=True)
 class Listed:
-    """Tags one after another, the last of which is whole, is cut after so many octets, or is none."""
+    """Tags one after another, the last of which is whole, is cut after that many octets, or is none."""
 
     tags: list
     have: int = None

@@ -1,4 +1,4 @@
-"""The files of the folder files/, and the tags that tell of them, as values."""
+"""The files of the folder files/, and the tags that list them, as values."""
 
 import hashlib
 

@@ -1,7 +1,7 @@
 """The formats of examples: reports as values, their octets, and what a mirror answers and prints.
 
 Octets are lists of fields, each a name and its octets, in the order in which they stand, so that the place of
-a field is told by its name. They follow RFC 5792, section 4.1 (attributes), and RFC 8412, sections 5.7 to 5.10
+a field is given by its name. They follow RFC 5792, section 4.1 (attributes), and RFC 8412, sections 5.7 to 5.10
 (reports). What a mirror answers follows docs/rules/mirror.md, and how it is printed docs/rules/commands.md. All of it is
 written from values: nothing here runs the program or reads octets back.
 """
@@ -278,7 +278,7 @@ class Refused:
 
 @dataclass
 class Torn:
-    """A report of which only so many octets are there."""
+    """A report of which only that many octets are there."""
 
     report: object
     have: int

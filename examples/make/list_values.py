@@ -1,4 +1,4 @@
-"""The lists of tags of the folder links/, as values. Beside each stands what `swid links` tells of it."""
+"""The lists of tags of the folder links/, as values. Beside each stands what `swid links` prints of it."""
 
 from coswid import LINK, PATCH, PATCHES, REQUIRES, SEE_ALSO, SUPPLEMENTAL, SUPPLEMENTS, TAG_ID, TAG_VERSION
 from coswid_links import Listed

@@ -90,8 +90,8 @@ EVENTS = [
     Inventory(2048, 5, [SHELL, EDITOR, LIBRARY]),  # adopted: puts the mirror right
     # advanced 5 8
     Events(2048, 8, 8, [created(6, VIEWER), altered(7, EDITOR_NEXT), deleted(8, SHELL, LEAP_SECOND)]),
-    Events(2048, 8, 8, [altered(7, EDITOR_NEXT), deleted(8, SHELL)]),  # stale: both were told
-    # advanced 8 10: what was told is passed over, and 11 is left for another report
+    Events(2048, 8, 8, [altered(7, EDITOR_NEXT), deleted(8, SHELL)]),  # stale: both were reported
+    # advanced 8 10: what was reported is passed over, and 11 is left for another report
     Events(2048, 11, 10, [deleted(8, SHELL), created(9, FONTS, UNKNOWN_TIME), altered(10, LIBRARY)]),
     Events(2048, 11, 11, [created(11, DRIVER)], flags=FULFILMENT),  # advanced 10 11
     Events(2048, 11, 11, []),  # stale: nothing new

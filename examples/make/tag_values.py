@@ -1,4 +1,4 @@
-"""The tags of the folder tags/, as values. Beside each stands what `swid tag` tells of it."""
+"""The tags of the folder tags/, as values. Beside each stands what `swid tag` prints of it."""
 
 from cbor import Bad, Chunks, Open, Tagged, Wide
 from coswid import COLLOQUIAL_VERSION, CORPUS, COSWID, DATE, DESCRIPTION, DISTRIBUTOR, EDITION, ENTITY, ENTITY_NAME, EVIDENCE
