@@ -1,0 +1,15 @@
+pub mod Sizes
+pub mod Answering
+pub mod Each
+pub mod Judging
+pub mod Telling
+pub mod Fewness
+pub mod Bodies
+pub mod Coring
+pub mod Results
+pub mod Pieces
+pub mod Idling
+pub mod Coming
+pub mod Replying
+pub mod Beginning
+pub mod Taking

@@ -1,0 +1,9 @@
+pub mod Standing
+pub mod Sizes
+pub mod Words
+pub mod Answers
+pub mod Drafting
+pub mod Doing
+pub mod DoingLaws
+pub mod Judging
+pub mod Cores

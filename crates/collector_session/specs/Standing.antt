@@ -1,0 +1,24 @@
+-- How a collector stands, and the batch that it is writing, by what the code keeps.
+use Rattle.std.specs.Prelude.{[], None}
+use Rattle.pb_machine.specs.declared.machine.Role.TheVariants.{Client}
+use Rattle.pb_machine.specs.declared.machine.State.TheVariants.{Init}
+use Rattle.session_rules.specs.declared.record.SessionRecord.{SessionRecord}
+use Rattle.session_rules.specs.Serving.{Notes, Stand, Draft as DraftStand}
+use Rattle.collector_session.specs.declared.draft.Draft.{Draft}
+use Rattle.collector_session.specs.declared.standing.Standing.{Standing}
+
+-- Before the session.
+abbrev pub not_begun : Standing
+not_begun = record { machine = record { role = Client; state = Init }; numbered = 0; «record» = record { points = []; taken = []; errors = []; reports = 0; sent = 0; received = 0 }; over = None }
+
+-- What is noted, without the octets that were given and taken.
+abbrev pub notes_of : SessionRecord → Notes
+notes_of r = record { points = r.points; errors = r.errors; reports = r.reports }
+
+-- The standing. No subscription is held.
+abbrev pub stand_of : Standing → Stand
+stand_of s = record { machine = s.machine; subs = []; numbered = s.numbered; notes = notes_of s.record; over = s.over }
+
+-- The batch that is being written.
+abbrev pub draft_of : Draft → DraftStand
+draft_of d = record { subs = []; earlier = 0; room = d.room; attrs = d.attrs; messages = d.messages; numbered = d.numbered; points = d.points; errors = d.errors }

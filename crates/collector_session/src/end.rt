@@ -1,0 +1,104 @@
+//! A collector as the rules of an end.
+
+ghost use Rattle.std.specs.Prelude.{◌≡◌, ◌≢◌, ◌<◌, ◌≤◌, None, Some};
+ghost use Rattle.session_rules.specs.declared.end.SessionEnd.TheVariants as end;
+
+use crate::rules;
+use crate::standing::Standing;
+use collector_core::Desk;
+use pb_batch::{Batch, PbFault};
+use session_hear::End;
+use session_rules::{ServeConfig, SessionEnd, SessionRecord};
+use std::alloc::Global;
+use wire_base::{Memory, Octets};
+
+/// A collector: how it is configured, how it stands, and what waits to be given.
+#[derive(Debug, Drop)]
+pub struct ServeEnd {
+    /// How it serves.
+    pub(crate) config: ServeConfig,
+    /// How it stands.
+    pub(crate) standing: Standing,
+    /// What waits to be given.
+    pub(crate) out: Octets,
+}
+
+impl<D: Desk> End<D> for ServeEnd {
+    ghost use Rattle.std.specs.Prelude.{is_some};
+    ghost use Rattle.collector_session.specs.Doing.{Did, IsReady};
+    ghost use Rattle.collector_session.specs.DoingLaws.{did_broke, did_none, did_rests, did_stops, did_then};
+
+    ghost did = { Did D.stands D.went };
+
+    ghost over = { λ end. is_some end.standing.over };
+
+    ghost ready = { IsReady };
+
+    ghost none = { did_none D.stands D.went D.stays D.follows D.carries };
+
+    ghost then = { did_then D.stands D.went D.stays D.follows D.carries };
+
+    ghost stops = { did_stops D.stands D.went };
+
+    ghost broke = { did_broke D.stands D.went };
+
+    ghost rests = { did_rests D.stands D.went D.stays D.follows D.carries };
+
+    fn come(&mut self, alloc: Global, beside: &mut D, batch: &Batch) -> Result<(), Memory> {
+        rules::hear(
+            alloc,
+            beside,
+            &self.config,
+            &mut self.standing,
+            &mut self.out,
+            batch,
+        )
+    }
+
+    fn refuse(&mut self, alloc: Global, _beside: &mut D, fault: PbFault) -> Result<(), Memory> {
+        rules::refuse(alloc, &mut self.standing, &mut self.out, fault)
+    }
+
+    fn is_over(&self) -> bool {
+        self.standing.over.is_some()
+    }
+}
+
+impl ServeEnd {
+    /// Ends the session where the last octet was taken that the limit allows.
+    pub(crate) fn spend(&mut self)
+        ensures over { self.old.standing.over ≢ None → self.new ≡ self.old }
+        ensures last { self.old.standing.over ≡ None → self.old.standing.record.received ≡ self.old.config.octets
+            → self.new ≡ record self.old { standing = record self.old.standing { over = Some end.Enough } } }
+        ensures left { self.old.standing.over ≡ None → self.old.standing.record.received ≢ self.old.config.octets → self.new ≡ self.old }
+        ensures config { self.new.config ≡ self.old.config }
+    {
+        if self.standing.over.is_some() {
+            return;
+        }
+        if self.standing.record.received == self.config.octets {
+            self.standing.over = Some(SessionEnd::Enough);
+        }
+    }
+
+    /// Ends the session with the last idle turn that is allowed. No subscription is looked at: none
+    /// is held.
+    pub(crate) fn rest(&mut self, turns: u32)
+        ensures last { self.old.config.idle ≤ turns → self.new ≡ record self.old { standing = record self.old.standing { over = Some (end.IdleOut turns) } } }
+        ensures on { turns < self.old.config.idle → self.new ≡ self.old }
+        ensures config { self.new.config ≡ self.old.config }
+    {
+        if self.config.idle <= turns {
+            self.standing.over = Some(SessionEnd::IdleOut { turns });
+        }
+    }
+
+    /// What is noted of the session.
+    pub(crate) fn into_record(self) -> SessionRecord
+        ensures record { result ≡ self.standing.record }
+    {
+        let ServeEnd { standing, .. } = self;
+        let Standing { record, .. } = standing;
+        record
+    }
+}
