@@ -1,0 +1,13 @@
+pub mod Speaking
+pub mod Tidy
+pub mod Refusals
+pub mod Sizes
+pub mod Ready
+pub mod Coring
+pub mod Pieces
+pub mod Turns
+pub mod Ruling
+pub mod Carrying
+pub mod Cutting
+pub mod Stepping
+pub mod Falling

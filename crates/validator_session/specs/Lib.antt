@@ -1,0 +1,9 @@
+pub mod Standing
+pub mod Partial
+pub mod Sizes
+pub mod Noting
+pub mod Drafting
+pub mod Ready
+pub mod Doing
+pub mod DoingLaws
+pub mod Core
