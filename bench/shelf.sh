@@ -8,8 +8,8 @@
 #
 # Columns: what was done; where; how many times in all; and the time of one in microseconds: the lowest wall time of all runs, less
 # that of runs that do it not once, over how many times it was done. What is done: `change` alters a record, `read` asks for the
-# latest event, and `both` does each in turns. Where: `alone` is the book itself, and a number is that many threads, each with
-# a pass of one shelf, which share what is done.
+# latest event, and `both` alters a record and asks what came after the last event, in turns. Where: `alone` is the book itself, and
+# a number is that many threads, each with a pass of one shelf, which share what is done.
 
 set -u
 

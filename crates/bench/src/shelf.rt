@@ -64,7 +64,7 @@ fn alone(alloc: Global, task: Task, times: u32) -> Result<u64, Trouble> {
         Task::Read => answers(alloc, &book, 1, times),
         Task::Both => {
             let changed = alterations(alloc, &mut book, times)?;
-            Ok(changed.saturating_add(answers(alloc, &book, 1, times)?))
+            Ok(changed.saturating_add(answers(alloc, &book, u32::MAX, times)?))
         }
     }
 }
@@ -159,7 +159,12 @@ fn work<R: Wait>(
     requires may { pass.may_change ≡ true }
 {
     let other = content(alloc, &[0; 65])?;
-    let request = latest(alloc, 1);
+    // The log keeps one event, so after a change it is asked what came after the last.
+    let earliest = match task {
+        Task::Both => u32::MAX,
+        Task::Change | Task::Read => 1,
+    };
+    let request = latest(alloc, earliest);
     let mut done: u64 = 0;
     for _ in 0..times {
         let more = once(wait, shelf, &mut pass, task, &other, &request)?;
