@@ -14,8 +14,8 @@ use wire_base::is_stamp;
 /// How many records each thread creates.
 const RECORDS: u8 = 100;
 
-/// Creates a record of a source, asks for the inventory, and tells how many records of the source
-/// it has.
+/// Creates a record of a source and asks for the inventory. Gives how many records of the source it
+/// has.
 fn create_and_ask<R: Wait>(
     wait: &R,
     alloc: Global,

@@ -18,8 +18,8 @@ use swima_model::{Events, Kind, Point, Records, Report, size_of};
 use wire_base::{List, Memory, Octets, put_u24, put_u32};
 
 /// The octets of a report: the value of the attribute that carries it, of the type that
-/// `report_type` gives (RFC 8412, sections 5.7 to 5.10), with 0 in the reserved octets and in the
-/// flags that have no meaning.
+/// `report_type` gives (RFC 8412, sections 5.7 to 5.10). The reserved octets and the flags that
+/// have no meaning are 0.
 ///
 /// Of a report of kind `Ids` no body is written. There are as many octets as `size_of` says, and
 /// `read_report` gives the report back, of kind `Ids` without bodies.
