@@ -1,6 +1,6 @@
 //! Two threads that share a book, each with a pass of its own.
 
-ghost use Rattle.std.specs.Prelude.{◌≡◌, IfSome, true};
+ghost use Rattle.std.specs.Prelude.{◌≡◌, true};
 
 use crate::values::{STAMP, content, count_from, empty_book, inventory, is_at};
 use book_lock::{Pass, Shelf};
