@@ -20,7 +20,7 @@ pub fn in_order_is_rising_permutation()
 {}
 
 /// Over records of rising identifiers, the records that are live after some events are given by the
-/// last mention of each identifier: each record is what that mention says, or what it was before
+/// last mention of each identifier. Each record is what that mention says, or what it was before
 /// where there is none. Their identifiers rise too, and no other list is so.
 pub fn live_is_last_mention()
     ensures law { LiveIsLastMention }
