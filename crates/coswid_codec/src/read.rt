@@ -62,7 +62,7 @@ impl From<FormRefused> for TagRefused {
 }
 
 /// What is read of one tag at most.
-pub const LIMITS: Limits = Limits {
+pub(crate) const LIMITS: Limits = Limits {
     octets: 8_388_608,
     depth: 64,
 };
