@@ -89,7 +89,7 @@ pub(crate) fn mirror_text(alloc: Global, mirror: &Mirror) -> Result<Octets, Memo
 
 /// Puts a line for each record of a mirror at the end of `out`.
 fn push_records(out: &mut Octets, mirror: &Mirror) -> Result<(), Memory>
-    ensures lines { OnOk result
+    ensures appended { OnOk result
         (out.new ≡ out.old ++ flat_map (record_line mirror.now.kind) mirror.now.records) }
 {
     for place in 0..mirror.count() {
