@@ -61,9 +61,9 @@ pub(crate) struct Rising {
     ghost rises: { RisesTo (listed pairs) (option_map view key) } by { rises_to_prop (listed pairs) (option_map view key) },
 }
 
-/// Pairs whose keys came in any order, under their keys' canonical spellings, so that each key is
-/// found among n others in steps that grow with log n; and the key whose value is due. Each key was
-/// spelled once.
+/// Pairs whose keys came in any order, and the key whose value is due. The pairs are under their
+/// keys' canonical spellings, so that each key is found among n others in steps that grow with
+/// log n. Each key was spelled once.
 #[derive(Drop)]
 pub(crate) struct Ordered {
     entries: BTreeMap<Vec<u8>, Pair>,
