@@ -1,5 +1,4 @@
 #!/usr/bin/env bash
-#!/usr/bin/env bash
 # Measures a feed of batches over 16 MiB. One batch of 16777216 octets comes in pieces of 1, 64 and
 # 65536 octets. Then 2097152 batches of 8 octets each come in pieces of 64 and 65536 octets and in
 # one piece. It is a measurement and no test: it judges no output, and no time or size makes it

@@ -1,5 +1,4 @@
 #!/usr/bin/env bash
-#!/usr/bin/env bash
 # Measures a book of 1,000, 10,000 and 65,536 records whose log is full: the inventory of all, an
 # answer of 100 events, and changes. It is a measurement and no test: it judges no output, and no
 # time makes it fail.

@@ -1,5 +1,4 @@
 #!/usr/bin/env bash
-#!/usr/bin/env bash
 # Measures the merge gate: runs `rt ci` in a fresh clone, and prints the time of the processor, user
 # and system, that each crate takes. It is a measurement and no test: no time makes it fail. Its
 # status is that of `rt ci`.

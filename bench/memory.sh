@@ -1,5 +1,4 @@
 #!/usr/bin/env bash
-#!/usr/bin/env bash
 # Measures the peak memory of `swid mirror full` over streams of 16 MiB, 128 MiB and 1 GiB, whose
 # attributes have 1 MiB each, and its time beside that of `sha256sum` over the same octets. It is a
 # measurement and no test: it judges no output, and no figure makes it fail. What is aimed at:

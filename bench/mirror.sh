@@ -1,5 +1,4 @@
 #!/usr/bin/env bash
-#!/usr/bin/env bash
 # Measures `swid mirror ids` and `swid mirror full` beside `sha256sum`, which reads the same octets
 # and computes one digest of all of them. It is a measurement and no test: it judges no output, and
 # no time makes it fail. The goal is a ratio of at most 1.5 in the last row of the kind full, of

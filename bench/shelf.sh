@@ -1,5 +1,4 @@
 #!/usr/bin/env bash
-#!/usr/bin/env bash
 # Measures a book on a shelf beside the same book alone, and 1, 2 and 4 threads that share it. It is
 # a measurement and no test: it judges no output, and no time makes it fail.
 #

@@ -1,5 +1,4 @@
 #!/usr/bin/env bash
-#!/usr/bin/env bash
 # Measures the reader and the writer of CoSWID tags. It is a measurement and no test: it judges no
 # output, and no time makes it fail.
 #

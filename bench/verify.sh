@@ -1,5 +1,4 @@
 #!/usr/bin/env bash
-#!/usr/bin/env bash
 # Measures `swid tag verify` beside `sha256sum`, which reads the same files and computes a digest of
 # each. It is a measurement and no test: it judges no output, and no time makes it fail. The goal is
 # a ratio of at most 1.3 in each row.
