@@ -55,7 +55,7 @@ fn put_character(octets: &mut Octets, part: Part, character: u8) -> Result<Optio
 
 /// What the text of an octet begins with.
 #[derive(Clone, Copy, Debug, PartialEq, Eq)]
-pub(crate) enum Part {
+pub enum Part {
     /// No character yet.
     Nothing,
     /// A backslash.
@@ -70,7 +70,7 @@ pub(crate) enum Part {
 
 /// What a part and one more character are.
 #[derive(Clone, Copy, Debug, PartialEq, Eq)]
-pub(crate) enum Next {
+pub enum Next {
     /// A longer part.
     Part(Part),
     /// The whole text of an octet.
