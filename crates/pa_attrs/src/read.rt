@@ -140,12 +140,12 @@ fn keep(
     if !is_supported(supported, header.vendor, header.kind) {
         return Ok(());
     }
-    let value = Vec::from_slice(alloc, &octets[HEADER_OCTETS..header.octets as usize])?;
+    let value = List::from_slice(alloc, &octets[HEADER_OCTETS..header.octets as usize])?;
     let attr = Attr {
         noskip: header.noskip,
         vendor: header.vendor,
         kind: header.kind,
-        value: List::from_vec(value),
+        value,
     };
     attrs.push(PlacedAttr {
         at: at + HEADER_OCTETS as u32,
