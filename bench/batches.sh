@@ -1,16 +1,24 @@
 #!/usr/bin/env bash
-# Measures a feed of batches over 16 MiB: one batch of 16777216 octets in pieces of 1, 64 and 65536 octets, and 2097152
-# batches of 8 octets each in pieces of 64 and 65536 octets and in one piece. It is a measurement and no test: it judges
-# no output, and no time or size makes it fail.
+# Measures a feed of batches over 16 MiB. One batch of 16777216 octets comes in pieces of 1, 64 and
+# 65536 octets. Then 2097152 batches of 8 octets each come in pieces of 64 and 65536 octets and in
+# one piece. It is a measurement and no test: it judges no output, and no time or size makes it
+# fail.
 #
 # usage: bench/batches.sh [RUNS]     each row is run RUNS times, 5 if not given
 #
-# The program crates/bench is built first where that is needed, which proves it, and building is not measured. Needs
-# awk and GNU time (/usr/bin/time).
+# The program crates/bench is built first where that is needed, which proves it, and building is not
+# measured. Needs awk and GNU time (/usr/bin/time).
 #
-# Columns: the batches; the octets of a piece; how many batches came; the wall time, the lowest of all runs, and the same
-# over that of pieces of 65536 octets of the same batches; the peak memory, the highest of all runs, and the octets of it
-# for each octet of input. In each row the program makes its input first, which takes 16 MiB and is in the figures.
+# Columns:
+#   batches     one batch, or the many small ones
+#   a piece     the octets of a piece
+#   came        how many batches came
+#   wall ms     the wall time, the lowest of all runs
+#   over 65536  the same over that of pieces of 65536 octets of the same batches
+#   KiB         the peak memory, the highest of all runs
+#   an octet    the octets of that memory for each octet of input
+#
+# In each row the program makes its input first, which takes 16 MiB and is in the figures.
 
 set -u
 
@@ -36,7 +44,8 @@ fi
 kib=$(mktemp) || exit 1
 trap 'rm -f -- "$kib"' EXIT
 
-# Prints a line for pieces of SIZE octets of the batches KIND: kind, size, batches, microseconds, KiB.
+# Prints a line for pieces of SIZE octets of the batches KIND: kind, size, batches, microseconds,
+# KiB.
 measure() {
     local kind=$1 size=$2 best='' peak=0 batches='' start stop took used
     for ((run = 0; run < runs; run++)); do

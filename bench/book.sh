@@ -1,15 +1,26 @@
 #!/usr/bin/env bash
-# Measures a book of 1,000, 10,000 and 65,536 records whose log is full: the inventory of all, an answer of 100 events, and
-# changes. It is a measurement and no test: it judges no output, and no time makes it fail.
+# Measures a book of 1,000, 10,000 and 65,536 records whose log is full: the inventory of all, an
+# answer of 100 events, and changes. It is a measurement and no test: it judges no output, and no
+# time makes it fail.
 #
 # usage: bench/book.sh [RUNS]     each row is run RUNS times, 5 if not given
 #
-# The program crates/bench is built first where that is needed, which proves it, and building is not measured. Needs awk.
+# The program crates/bench is built first where that is needed, which proves it, and building is not
+# measured. Needs awk.
 #
-# Columns: the records; what was done; how many times in one run; and the time of one in microseconds: the lowest wall time of
-# all runs, less that of runs that do it not once, over how many times it was done. What is done: `answer` and `events` ask for
-# the inventory and for events; `change` alters a record; `last` deletes the last record, after which none moves, and creates
-# another; `middle` does so with the record in the middle.
+# Columns:
+#   records  the records
+#   what     what is done
+#   times    how many times in one run
+#   one, us  the time of one in microseconds: the lowest wall time of all runs, less that of runs
+#            that do it not once, over how many times it was done
+#
+# What is done:
+#   answer  the inventory is asked for
+#   events  events are asked for
+#   change  a record is altered
+#   last    the last record is deleted, after which none moves, and another is created
+#   middle  the same with the record in the middle
 
 set -u
 
@@ -28,7 +39,8 @@ if [ ! -x "$program" ]; then
     exit 1
 fi
 
-# Prints the lowest wall time in microseconds of a book of RECORDS records that does WHAT that many TIMES.
+# Prints the lowest wall time in microseconds of a book of RECORDS records that does WHAT that many
+# TIMES.
 lowest() {
     local records=$1 what=$2 times=$3 best='' start took
     for ((run = 0; run < runs; run++)); do

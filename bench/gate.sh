@@ -1,21 +1,30 @@
 #!/usr/bin/env bash
-# Measures the merge gate: runs `rt ci` in a fresh clone, and prints the time of the processor, user and system, that each
-# crate takes. It is a measurement and no test: no time makes it fail. Its status is that of `rt ci`.
+# Measures the merge gate: runs `rt ci` in a fresh clone, and prints the time of the processor, user
+# and system, that each crate takes. It is a measurement and no test: no time makes it fail. Its
+# status is that of `rt ci`.
 #
 # usage: bench/gate.sh [--anew] [CRATE..]
 #
-# The clone has what is committed, in a temporary folder ($TMPDIR or /tmp), which is removed at the end. `rt ci` takes what
-# earlier runs on this machine passed of the same files, and that counts as nothing here; with `--anew` it proves and tries
-# all. With crates it runs over these and the crates below them alone, which is not the gate. What it says goes to standard
-# error. Needs git and python3.
+# The clone has what is committed, in a temporary folder ($TMPDIR or /tmp), which is removed at the
+# end. `rt ci` takes what earlier runs on this machine passed of the same files, and that counts as
+# nothing here; with `--anew` it proves and tries all. With crates it runs over these and the crates
+# below them alone, which is not the gate. What it says goes to standard error. Needs git and
+# python3.
 #
-# Columns, in seconds: `proof`, of the crate; `tests`, the proof of its tests with their compilation; `seed`, the check that
-# its must-fail edits begin with, and another after them; `edits`, the checks of all of them; `rest`, compiling and linking
-# the program, and running the program and the tests; and the sum. The row `rt` has what `rt ci` takes itself, with programs
-# that are of no one crate. The last line has the sum, the time of the clock, and the last line of `rt ci`.
+# Columns, in seconds:
+#   proof  the proof of the crate
+#   tests  the proof of its tests with their compilation
+#   seed   the check that its must-fail edits begin with, and another after them
+#   edits  the checks of all of its must-fail edits
+#   rest   compiling and linking the program, and running the program and the tests
+#   sum    the sum of these
 #
-# Every 0.2 seconds the processes below `rt ci` are looked at in /proc. One that has ended counts as it was last seen, with
-# what was charged to `rt ci` since, which those that ended meanwhile share. So the last line is exact, and a row nearly so.
+# The row `rt` has what `rt ci` takes itself, with programs that are of no one crate. The last line
+# has the sum, the time of the clock, and the last line of `rt ci`.
+#
+# Every 0.2 seconds the processes below `rt ci` are looked at in /proc. One that has ended counts as
+# it was last seen, with what was charged to `rt ci` since, which those that ended meanwhile share.
+# So the last line is exact, and a row nearly so.
 
 set -u
 

@@ -1,18 +1,29 @@
 #!/usr/bin/env bash
-# Measures the findings on a list of tags. It is a measurement and no test: it judges no output, and no time makes it fail.
+# Measures the findings on a list of tags. It is a measurement and no test: it judges no output, and
+# no time makes it fail.
 #
 # usage: bench/links.sh [RUNS]     each row is run RUNS times, 3 if not given
 #
-# The program crates/bench is built first where that is needed, which proves it, and building is not measured.
-# `bench/link_tags.py` writes the inputs into a temporary folder, which is removed at the end; it says what the shapes are.
-# Needs python3, awk and GNU time (/usr/bin/time).
+# The program crates/bench is built first where that is needed, which proves it, and building is not
+# measured. `bench/link_tags.py` writes the inputs into a temporary folder, which is removed at the
+# end; it says what the shapes are. Needs python3, awk and GNU time (/usr/bin/time).
 #
-# The table has 1,000, 3,000 and 10,000 tags of each shape. In `apart` each pair of tags is a finding, 50 million of them at last,
-# which alone take 1.2 GB.
-# Columns: the shape; how many tags; how many findings; the time of the processor, user and system, to read the tags, and to read
-# and check them, the lowest of all runs; the microseconds of checking for each tag, and the same over those of 1,000 tags, which
-# grows as the logarithm where the time grows as n log n, and in `apart` with the findings; and the peak memory, the highest of all
-# runs. Checking is what is left of the second time without the first; where that is nothing for 1,000 tags, `-` stands as growth.
+# The table has 1,000, 3,000 and 10,000 tags of each shape. In `apart` each pair of tags is a
+# finding, 50 million of them at last, which alone take 1.2 GB.
+#
+# Columns:
+#   shape     the shape
+#   tags      how many tags
+#   findings  how many findings
+#   read ms   the time of the processor, user and system, to read the tags, the lowest of all runs
+#   all ms    the same to read and check them
+#   us a tag  the microseconds of checking for each tag
+#   growth    the same over those of 1,000 tags; it grows as the logarithm where the time grows as n
+#             log n, and in `apart` with the findings
+#   KiB       the peak memory, the highest of all runs
+#
+# Checking is what is left of the second time without the first. Where that is nothing for 1,000
+# tags, `-` stands as growth.
 
 set -u -o pipefail
 
@@ -39,7 +50,8 @@ folder=$(mktemp -d) || exit 1
 trap 'rm -rf -- "$folder"' EXIT
 input=$folder/input
 
-# Runs a command on the input, and prints its microseconds of the processor and its KiB. Its output goes into a file.
+# Runs a command on the input, and prints its microseconds of the processor and its KiB. Its output
+# goes into a file.
 once() {
     python3 - "$input" "$folder/output" /usr/bin/time -q -f %M -o "$folder/kib" "$@" <<'END'
 import os, subprocess, sys
@@ -52,7 +64,8 @@ END
     cat -- "$folder/kib"
 }
 
-# Runs a command as often as is asked for, and prints its lowest microseconds, its highest KiB, and the last line that it printed.
+# Runs a command as often as is asked for, and prints its lowest microseconds, its highest KiB, and
+# the last line that it printed.
 run() {
     local best='' peak=0 took used
     for ((turn = 0; turn < runs; turn++)); do

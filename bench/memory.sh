@@ -1,17 +1,25 @@
 #!/usr/bin/env bash
-# Measures the peak memory of `swid mirror full` over streams of 16 MiB, 128 MiB and 1 GiB, whose attributes have 1 MiB
-# each, and its time beside that of `sha256sum` over the same octets. It is a measurement and no test: it judges no
-# output, and no figure makes it fail. What is aimed at: memory that does not grow with the stream.
+# Measures the peak memory of `swid mirror full` over streams of 16 MiB, 128 MiB and 1 GiB, whose
+# attributes have 1 MiB each, and its time beside that of `sha256sum` over the same octets. It is a
+# measurement and no test: it judges no output, and no figure makes it fail. What is aimed at:
+# memory that does not grow with the stream.
 #
 # usage: bench/memory.sh
 #
-# Each attribute is an inventory that stands in place of the one before, so the mirror stays as large. No stream is
-# stored: `bench/streams.py mebibytes` makes it, and a pipe carries it to the program and to `sha256sum` in turn. Times
-# are those of the processor, user and system, so that waiting for the pipe does not count. The program is built first
-# where that is needed. Needs python3, awk, sha256sum and GNU time (/usr/bin/time).
+# Each attribute is an inventory that stands in place of the one before, so the mirror stays as
+# large. No stream is stored: `bench/streams.py mebibytes` makes it, and a pipe carries it to the
+# program and to `sha256sum` in turn. Times are those of the processor, user and system, so that
+# waiting for the pipe does not count. The program is built first where that is needed. Needs
+# python3, awk, sha256sum and GNU time (/usr/bin/time).
 #
-# Columns: MiB of the stream; the peak memory of `swid` in KiB; its seconds; those of `sha256sum`; the one over the
-# other; its status, and the first line of the mirror that it printed last.
+# Columns:
+#   MiB        the size of the stream
+#   peak KiB   the peak memory of `swid`
+#   swid s     its seconds
+#   sha256sum  those of `sha256sum`
+#   ratio      the one over the other
+#   status     the status of `swid`
+#   mirror     the first line of the mirror that it printed last
 
 set -u
 
@@ -35,8 +43,8 @@ fi
 folder=$(mktemp -d) || exit 1
 trap 'rm -rf -- "$folder"' EXIT
 
-# Runs the words after the first one on a stream of that many MiB, and prints what GNU time says: KiB, and seconds of user
-# and of system. Their output and their status are left in the folder.
+# Runs the words after the first one on a stream of that many MiB, and prints what GNU time says:
+# KiB, and seconds of user and of system. Their output and their status are left in the folder.
 over() {
     python3 "$top/bench/streams.py" mebibytes "$1" /dev/stdout |
         { /usr/bin/time -q -f '%M %U %S' -o "$folder/time" "${@:2}" >"$folder/output"; echo $? >"$folder/status"; }

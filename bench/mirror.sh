@@ -1,23 +1,38 @@
 #!/usr/bin/env bash
-# Measures `swid mirror ids` and `swid mirror full` beside `sha256sum`, which reads the same octets and computes one
-# digest of all of them. It is a measurement and no test: it judges no output, and no time makes it fail. The goal
-# is a ratio of at most 1.5 in the last row of the kind full, of 65,536 records with bodies of 1 KiB.
+# Measures `swid mirror ids` and `swid mirror full` beside `sha256sum`, which reads the same octets
+# and computes one digest of all of them. It is a measurement and no test: it judges no output, and
+# no time makes it fail. The goal is a ratio of at most 1.5 in the last row of the kind full, of
+# 65,536 records with bodies of 1 KiB.
 #
-# usage: bench/mirror.sh [RUNS]     each of the two runs RUNS times on each input, in turns, 5 if not given
+# usage: bench/mirror.sh [RUNS]     each of the two runs RUNS times on each input, in turns,
+#                                   5 if not given
 #
-# The program is built first where that is needed, and building is not measured. The times are those of the program
-# alone, without the start script and with its output thrown away, and what its process took of the processors, so that
-# other work on the machine counts for less. `bench/streams.py` writes the inputs into a temporary folder, which is
-# removed at the end; the largest has 77 MB. Needs python3, awk, sha256sum and GNU time (/usr/bin/time).
+# The program is built first where that is needed, and building is not measured. The times are those
+# of the program alone, without the start script and with its output thrown away. What its process
+# took of the processors counts, so that other work on the machine counts for less.
+# `bench/streams.py` writes the inputs into a temporary folder, which is removed at the end; the
+# largest has 77 MB. Needs python3, awk, sha256sum and GNU time (/usr/bin/time).
 #
-# Rows: `ids N` and `full N` are N records, and a sixteenth as many events over them; `empty` is an inventory
-# without records; `ids 65537` has one record too many; `smallest` is an attribute of nearly 16 MiB with as many
-# records as one can hold; `churn` has 441,504 events over 65,536 records, all in one report, and `single` has 64
-# events over them, each in a report of its own.
+# Rows:
+#   ids N, full N  N records, and a sixteenth as many events over them
+#   empty          an inventory without records
+#   ids 65537      one record too many
+#   smallest       an attribute of nearly 16 MiB with as many records as one can hold
+#   churn          441,504 events over 65,536 records, all in one report
+#   single         64 events over 65,536 records, each in a report of its own
 #
-# Columns: the input; its octets; the processor time of `swid`, user and system, the lowest of all runs; that of
-# `sha256sum`; the one over the other; the time of `swid` for each octet of input, which stays where the time grows as
-# the input; its peak memory, and that for each octet of input; its status; its answer to the last report.
+# Columns:
+#   input            the input
+#   octets           its octets
+#   swid ms          the processor time of `swid`, user and system, the lowest of all runs
+#   sha256sum ms     that of `sha256sum`
+#   ratio            the one over the other
+#   ns an octet      the time of `swid` for each octet of input, which stays where the time grows as
+#                    the input
+#   peak KiB         its peak memory
+#   memory an octet  the octets of that memory for each octet of input
+#   status           its status
+#   last answer      its answer to the last report
 
 set -u
 
@@ -56,8 +71,8 @@ print(round((usage.ru_utime + usage.ru_stime) * 1_000_000))
 END
 }
 
-# Writes the stream of the words after the kind, measures, and prints a line: name, octets, microseconds of both,
-# KiB, status, last answer.
+# Writes the stream of the words after the kind, measures, and prints a line: name, octets,
+# microseconds of both, KiB, status, last answer.
 measure() {
     local name=$1 kind=$2 ours='' theirs='' took status
     python3 "$top/bench/streams.py" "${@:3}" "$input" || exit 1

@@ -1,15 +1,26 @@
 #!/usr/bin/env bash
-# Measures a book on a shelf beside the same book alone, and 1, 2 and 4 threads that share it. It is a measurement and no
-# test: it judges no output, and no time makes it fail.
+# Measures a book on a shelf beside the same book alone, and 1, 2 and 4 threads that share it. It is
+# a measurement and no test: it judges no output, and no time makes it fail.
 #
 # usage: bench/shelf.sh [RUNS]     each row is run RUNS times, 5 if not given
 #
-# The program crates/bench is built first where that is needed, which proves it, and building is not measured. Needs awk.
+# The program crates/bench is built first where that is needed, which proves it, and building is not
+# measured. Needs awk.
 #
-# Columns: what was done; where; how many times in all; and the time of one in microseconds: the lowest wall time of all runs, less
-# that of runs that do it not once, over how many times it was done. What is done: `change` alters a record, `read` asks for the
-# latest event, and `both` alters a record and asks what came after the last event, in turns. Where: `alone` is the book itself, and
-# a number is that many threads, each with a pass of one shelf, which share what is done.
+# Columns:
+#   what     what is done
+#   where    where it is done
+#   times    how many times in all
+#   one, us  the time of one in microseconds: the lowest wall time of all runs, less that of runs
+#            that do it not once, over how many times it was done
+#
+# What is done:
+#   change  a record is altered
+#   read    the latest event is asked for
+#   both    a record is altered, and what came after the last event is asked for, in turns
+#
+# Where: `alone` is the book itself. A number is that many threads, each with a pass of one shelf,
+# which share what is done.
 
 set -u
 
@@ -28,7 +39,8 @@ if [ ! -x "$program" ]; then
     exit 1
 fi
 
-# Prints the lowest wall time in microseconds of a book WHERE a TASK is done that many TIMES in each thread.
+# Prints the lowest wall time in microseconds of a book WHERE a TASK is done that many TIMES in each
+# thread.
 lowest() {
     local where=$1 task=$2 times=$3 best='' start took
     for ((run = 0; run < runs; run++)); do

@@ -1,21 +1,31 @@
 #!/usr/bin/env bash
-# Measures the reader and the writer of CoSWID tags. It is a measurement and no test: it judges no output, and no time makes
-# it fail.
+# Measures the reader and the writer of CoSWID tags. It is a measurement and no test: it judges no
+# output, and no time makes it fail.
 #
 # usage: bench/tags.sh [RUNS]     each row is run RUNS times, 3 if not given
 #
-# The program crates/bench is built first where that is needed, which proves it, and building is not measured.
-# `bench/cbor_items.py` writes the inputs into a temporary folder, which is removed at the end; it says what the shapes are.
-# Needs python3, awk, sha256sum and GNU time (/usr/bin/time).
+# The program crates/bench is built first where that is needed, which proves it, and building is not
+# measured. `bench/cbor_items.py` writes the inputs into a temporary folder, which is removed at the
+# end; it says what the shapes are. Needs python3, awk, sha256sum and GNU time (/usr/bin/time).
 #
-# The first table has one tag of 1, 4 and 8 MiB of each shape, 8 MiB being the most that is read of one, which is read
-# (`read`), and written again too (`write`). Columns: the shape; its MiB; what was done; the time of the processor, user and
-# system, the lowest of all runs; the time for each octet, and the same over that of 1 MiB, which grows as the logarithm where
-# the time grows as n log n; the peak memory, the highest of all runs; and the octets of it for each octet of input. The input
-# is held whole, and is in the figures.
+# The first table has one tag of 1, 4 and 8 MiB of each shape, which is read (`read`), and written
+# again too (`write`). 8 MiB is the most that is read of one. The input is held whole, and is in the
+# figures.
 #
-# The second table has 50 MB of tags, which are read one after another (`read`), and written again too (`write`), beside
-# `sha256sum` of the same octets, in the same time. The three are run in turns.
+# Columns:
+#   shape     the shape
+#   MiB       the size of the input
+#   way       what was done
+#   ms        the time of the processor, user and system, the lowest of all runs
+#   ns/octet  that time for each octet
+#   growth    the same over that of 1 MiB, which grows as the logarithm where the time grows as n
+#             log n
+#   KiB       the peak memory, the highest of all runs
+#   an octet  the octets of that memory for each octet of input
+#
+# The second table has 50 MB of tags, which are read one after another (`read`), and written again
+# too (`write`), beside `sha256sum` of the same octets, in the same time. The three are run in
+# turns.
 
 set -u
 
@@ -42,7 +52,8 @@ folder=$(mktemp -d) || exit 1
 trap 'rm -rf -- "$folder"' EXIT
 input=$folder/input
 
-# Runs a command on the input, and prints its microseconds, its KiB, and the last line that it printed.
+# Runs a command on the input, and prints its microseconds, its KiB, and the last line that it
+# printed.
 once() {
     local TIMEFORMAT='%3U %3S' took user system
     took=$({ time /usr/bin/time -q -f %M -o "$folder/kib" "$@" <"$input" >"$folder/output" 2>"$folder/errors"; } 2>&1)
@@ -60,7 +71,8 @@ run() {
     for ((turn = 0; turn < runs; turn++)); do once "$@"; done | summary
 }
 
-# Prints a line for each way to take one tag of a shape: shape, MiB, octets, way, microseconds, KiB, what it printed.
+# Prints a line for each way to take one tag of a shape: shape, MiB, octets, way, microseconds, KiB,
+# what it printed.
 one_tag() {
     local shape=$1 size way
     for size in 1 4 8; do

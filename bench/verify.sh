@@ -1,17 +1,26 @@
 #!/usr/bin/env bash
-# Measures `swid tag verify` beside `sha256sum`, which reads the same files and computes a digest of each. It is a measurement
-# and no test: it judges no output, and no time makes it fail. The goal is a ratio of at most 1.3 in each row.
+# Measures `swid tag verify` beside `sha256sum`, which reads the same files and computes a digest of
+# each. It is a measurement and no test: it judges no output, and no time makes it fail. The goal is
+# a ratio of at most 1.3 in each row.
 #
-# usage: bench/verify.sh [RUNS]     each of the two runs RUNS times on each folder, in turns, 3 if not given
+# usage: bench/verify.sh [RUNS]     each of the two runs RUNS times on each folder, in turns,
+#                                   3 if not given
 #
-# The program is built first where that is needed, and building is not measured. The times are those of the program alone,
-# without the start script and with its output thrown away. `bench/verify_files.py` writes the files, 1 GiB in each row, and the
-# tag of them into a temporary folder, which is removed at the end. They were just written, so they are read from memory.
-# Needs python3, awk, sha256sum and GNU time (/usr/bin/time).
+# The program is built first where that is needed, and building is not measured. The times are those
+# of the program alone, without the start script and with its output thrown away.
+# `bench/verify_files.py` writes the files, 1 GiB in each row, and the tag of them into a temporary
+# folder, which is removed at the end. They were just written, so they are read from memory. Needs
+# python3, awk, sha256sum and GNU time (/usr/bin/time).
 #
-# Columns: how many files, of which size in octets; the processor time of `swid`, user and system, the lowest of all runs; that
-# of `sha256sum`; the one over the other; the same of the time by the clock; the peak memory of `swid`; its status, which is 0;
-# how many files are the same, which is all of them.
+# Columns:
+#   files, octets  how many files, of which size
+#   swid ms        the processor time of `swid`, user and system, the lowest of all runs
+#   sha256sum ms   that of `sha256sum`
+#   ratio          the one over the other
+#   clock ratio    the same of the time by the clock
+#   peak KiB       the peak memory of `swid`
+#   status         its status, which is 0
+#   same           how many files are the same, which is all of them
 
 set -u -o pipefail
 
@@ -36,7 +45,8 @@ fi
 folder=$(mktemp -d) || exit 1
 trap 'rm -rf -- "$folder"' EXIT
 
-# The microseconds that a command takes in the folder of the files on the tag: of the processors, and by the clock.
+# The microseconds that a command takes in the folder of the files on the tag: of the processors,
+# and by the clock.
 microseconds() {
     (cd -- "$folder/files" && python3 - "$folder/tag" "$@") <<'END'
 import os, subprocess, sys, time
@@ -55,8 +65,8 @@ lower() {
     if [ -z "$1" ] || [ "$2" -lt "$1" ]; then echo "$2"; else echo "$1"; fi
 }
 
-# Writes the files, measures, and prints a line: how many, their size, processor time of both, time by the clock of both, KiB,
-# status, how many are the same.
+# Writes the files, measures, and prints a line: how many, their size, processor time of both, time
+# by the clock of both, KiB, status, how many are the same.
 measure() {
     local count=$1 size=$2 ours='' theirs='' ours_clock='' theirs_clock='' used clock status
     rm -rf -- "$folder/files"

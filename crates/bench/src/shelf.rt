@@ -1,5 +1,5 @@
-//! A book on a shelf, beside the same book alone: 1,000 records, of which the first is altered,
-//! and a log that keeps one event, so that changes and answers are as quick as they can be.
+//! A book on a shelf, beside the same book alone. It has 1,000 records, of which the first is
+//! altered, and a log that keeps one event. So changes and answers are as quick as they can be.
 
 ghost use Rattle.std.specs.Prelude.{◌≡◌, true};
 

@@ -1,6 +1,7 @@
 pub mod Logs
 pub mod Keeping
 pub mod Turns
+pub mod AtTurn
 pub mod Parting
 pub mod Relabel
 pub mod Joining

@@ -1,4 +1,5 @@
--- What a pass of a shelf has seen, and what of it is its own; and what the calls of a shelf say of it.
+-- What a pass of a shelf has seen, and what of it is its own; and what the calls of a shelf say of
+-- it.
 use Rattle.std.specs.Prelude.{◌≡◌, ◌≤◌, ◌+◌, ◌||◌, ◌&&◌, ℕ, Bool, true, false, not, List, [], ◌∷◌, ◌++◌, length, map, refl, Result, Ok, Err, if◌then◌else◌}
 use base.Stored.{Coded-set}
 use Rattle.std.specs.Coded.{Coded, code_by, coded×, coded_bool, coded_list}
@@ -18,9 +19,9 @@ use Rattle.book_lock.specs.Logs.{LegalWith, StandsWith}
 
 -- ---- a pass
 
--- The shelf that it is of; the book that was opened; the entries since then that it has seen, in
--- order, with its own marked; whether it may change; and whether it is sole, so that no other pass
--- of the shelf may.
+-- A pass: the shelf that it is of, and the book that was opened. `seen` has the entries since then
+-- that it has seen, in order, with its own marked. A pass that is sole is the only one of the shelf
+-- that may change.
 pub record PassView : Type 0 where
   pub shelf : TableId
   pub start : BookView

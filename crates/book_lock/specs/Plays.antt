@@ -2,9 +2,9 @@
 --
 -- | step | word or slot | what changes of the pass |
 -- |---|---|---|
--- | draw | next ticket, a compare-and-exchange that adds 1, tried again where it fails | it has the ticket |
+-- | draw | next ticket, a compare-and-exchange that adds 1, until it succeeds | it has the ticket |
 -- | look | turn, a load | it is at its turn, where the turn is its ticket |
--- | read at turn | count, a load; the book goes out of the slot | it has seen all that was entered |
+-- | read at turn | count, a load; the book leaves the slot | it has seen all that was entered |
 -- | take | slot, an exchange with nothing | nothing |
 -- | commit | count, an addition of 1 | it has seen its own entry too, and has committed |
 -- | bring back | slot, an exchange with the book | nothing |

@@ -15,7 +15,8 @@
 //! | `clerk.rt` | a pass as a desk |
 //! | `steps.rt` | the steps on the table that a shelf stands on |
 //! | `laws.rt` | what the definitions mean, proved |
-//! | `rule.rt`, `view.rt` | what is true of the table between two steps, and what a pass knows of it |
+//! | `rule.rt` | what is true of the table between two steps |
+//! | `view.rt` | what a pass knows of the table |
 //!
 //! The words of the clauses are in `specs/`:
 //!

@@ -8,6 +8,7 @@ ghost use Rattle.book_lock.specs.Plays.{HasBook, IsAt, Settled, Stays, committin
 use crate::rule::{Commit, Draw, Look, PassOn, Said, Settle, Take};
 use crate::view::{Board, Place};
 use collector_core::{Book, Edit};
+use std::hint;
 use std::snapshot::Snapshot;
 use std::sync::Wait;
 use std::thread;
@@ -26,6 +27,9 @@ const LAST_TICKET: u64 = u64::MAX - 1;
 
 /// The slot of the book.
 const BOOK: usize = 0;
+
+/// How many looks spin before the processor is yielded at each.
+const SPINS: u32 = 64;
 
 /// Waits for the turn of the pass, and takes the book.
 pub(crate) fn reach<R: Wait>(wait: &R, board: &Board, seat: &mut Place) -> Book
@@ -48,6 +52,7 @@ fn draw<R: Wait>(wait: &R, board: &Board, seat: &mut Place) -> u64
     ensures here { Stays seat.old seat.new }
     ensures drawn { seat.new.me ≡ (drawn seat.old.me.0 result, seat.old.me.1) }
 {
+    let mut spins = 0;
     for _ in wait.forever() {
         let next = board.shared.peek(TICKETS).min(LAST_TICKET);
         let found = board
@@ -56,7 +61,7 @@ fn draw<R: Wait>(wait: &R, board: &Board, seat: &mut Place) -> u64
         if found == next {
             return next;
         }
-        thread::yield_now();
+        spins = pause(spins);
     }
     unreachable!()
 }
@@ -69,14 +74,26 @@ fn await_turn<R: Wait>(wait: &R, board: &Board, seat: &mut Place, ticket: u64)
     ensures here { Stays seat.old seat.new }
     ensures reached { seat.new.me ≡ (reached seat.old.me.0, seat.old.me.1) }
 {
+    let mut spins = 0;
     for _ in wait.forever() {
         let turn = board.shared.load::<Look>(seat, TURN);
         if turn == ticket {
             return;
         }
-        thread::yield_now();
+        spins = pause(spins);
     }
     unreachable!()
+}
+
+/// Pauses between two looks, after that many that spun: a turn is short, so the first looks spin,
+/// and later ones yield the processor. Gives how many have spun.
+fn pause(spins: u32) -> u32 {
+    if spins < SPINS {
+        hint::spin_loop();
+        return spins + 1;
+    }
+    thread::yield_now();
+    spins
 }
 
 /// At the turn of the pass, takes the book.

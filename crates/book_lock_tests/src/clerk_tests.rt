@@ -2,7 +2,7 @@
 
 ghost use Rattle.std.specs.Prelude.{◌≡◌, true};
 
-use crate::values::{STAMP, content, count_from, empty_book, inventory, is_at};
+use crate::values::{STAMP, content, count_from, empty_book, inventory};
 use book_lock::{Clerk, Shelf};
 use collector_core::{BookError, Desk};
 use std::alloc::Global;

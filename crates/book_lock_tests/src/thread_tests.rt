@@ -1,6 +1,6 @@
 //! Two threads that share a book, each with a pass of its own.
 
-ghost use Rattle.std.specs.Prelude.{◌≡◌, IfSome, true};
+ghost use Rattle.std.specs.Prelude.{◌≡◌, true};
 
 use crate::values::{STAMP, content, count_from, empty_book, inventory, is_at};
 use book_lock::{Pass, Shelf};
@@ -14,8 +14,8 @@ use wire_base::is_stamp;
 /// How many records each thread creates.
 const RECORDS: u8 = 100;
 
-/// Creates a record of a source, asks for the inventory, and tells how many records of the source
-/// it has.
+/// Creates a record of a source and asks for the inventory. Gives how many records of the source it
+/// has.
 fn create_and_ask<R: Wait>(
     wait: &R,
     alloc: Global,

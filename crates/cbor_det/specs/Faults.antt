@@ -64,8 +64,8 @@ abbrev pub keys : Pairs → List (List ℕ)
 keys no_pairs = []
 keys (pair k v ps) = canon k ∷ keys ps
 
--- After these octets an initial byte is due at this place: no item has ended, and nothing that is
--- malformed, a float, a simple value, out of range, too deep, not UTF-8 or a doubled key has come.
+-- After these octets an initial byte is due at this place, and no item has ended. Nothing has come
+-- that is malformed, a float, a simple value, out of range, too deep, not UTF-8 or a doubled key.
 -- (This does not look at the limit on octets.)
 pub data Upto (limits : Limits) : Place → List ℕ → Type 0 where
   start : Upto limits top []

@@ -74,8 +74,8 @@ pub record IsKept (feed : Feed) : Type 0 where
   pub released : IsReleased feed
   pub some : HasSome feed
 
--- The answer for a piece after octets that were taken, and the feed afterwards: More exactly where
--- the joined octets are neither an item nor a fault, and after an item the next one begins.
+-- The answer for a piece after octets that were taken, and the feed afterwards. It is More exactly
+-- where the joined octets are neither an item nor a fault. After an item the next one begins.
 abbrev pub IsFed : Limits → List ℕ → List ℕ → CborFed → Feed → Type 0
 IsFed limits before piece fed.More new = IsCut limits (before ++ piece) × HasTaken new (before ++ piece)
 IsFed limits before piece (fed.Done item used) new =

@@ -20,14 +20,17 @@ use Rattle.cbor_det.specs.Spelling.{string}
 use Rattle.cbor_det.specs.Faults.{Place, top, at_chunk, at_element, at_key, at_value, at_content, height}
 use Rattle.cbor_det.specs.Initial.{initial_of}
 
--- Where the machine stands: an initial byte is due at a place; that many octets of an argument are
--- still due, and those that came stand for a number; that many octets of a definite string are
--- still due, after those that came; an item ended; or a fault showed.
+-- Where the machine stands.
 pub data State : Type 0 where
+  -- an initial byte is due at a place
   due : Place → State
+  -- that many octets of an argument are still due, and those that came are the number so far
   argument : (p : Place) (at : ℕ) (major : Major) (left number : ℕ) → State
+  -- that many octets of a definite string are still due, after those that came
   content : (p : Place) (at : ℕ) (kind : StringKind) (left : ℕ) (came : List ℕ) → State
+  -- an item ended
   whole : Term → State
+  -- a fault showed
   faulty : (kind at : ℕ) → State
 
 abbrev pub is_full : Option ℕ → ℕ → Bool

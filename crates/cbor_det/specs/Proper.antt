@@ -7,10 +7,9 @@ use Rattle.cbor_det.specs.Spelling.{Rises}
 use Rattle.cbor_det.specs.Faults.{Begins}
 use Rattle.cbor_det.specs.declared.limits.Limits.{Limits}
 
--- Integers of 64 bits with a sign (of those of section 3.1), texts of UTF-8 (sections 3.1 and
--- 5.3.1), tag numbers of 64 bits (section 3.4), and maps whose keys rise strictly in bytewise order
--- of their canonical spellings (section 4.2.1), so that no two keys are one (sections 5.3.1 and
--- 5.6).
+-- Integers have 64 bits with a sign (of those of section 3.1), texts are UTF-8 (sections 3.1 and
+-- 5.3.1), and tag numbers have 64 bits (section 3.4). The keys of a map rise strictly in bytewise
+-- order of their canonical spellings (section 4.2.1), so no two are one (sections 5.3.1 and 5.6).
 abbrev mutual
   pub IsProper : Term → Type 0
   IsProper (integer (pos n)) = n < 2 ^ 63

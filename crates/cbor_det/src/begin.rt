@@ -176,8 +176,8 @@ fn start_allowed_item(
             taken, major, left,
         )))),
         Beginning::Chunks(kind) => open_frame(stack, Frame::chunks(alloc, taken, kind)),
-        Beginning::Elements => open_frame(stack, Frame::elements(alloc, taken, None)),
-        Beginning::Members => open_frame(stack, Frame::map(alloc, taken, None)),
+        Beginning::Elements => open_frame(stack, Frame::elements(alloc, taken, None)?),
+        Beginning::Members => open_frame(stack, Frame::map(alloc, taken, None)?),
         Beginning::Bool(value) => close_item(alloc, stack, taken, Item::Bool(value)),
     }
 }
@@ -214,6 +214,8 @@ fn end_frame(
             if all.is_some() {
                 return Ok(unended(taken));
             }
+            let mut items = items;
+            items.shrink_to_fit();
             close_item(alloc, stack, at, Item::Array(items))
         }
         Frame::Map { at, all, members } => {

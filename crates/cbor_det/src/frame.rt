@@ -1,6 +1,6 @@
 //! What is open round the place at which a reader stands, and what it reads there.
 
-ghost use Rattle.std.specs.Prelude.{◌≡◌, []};
+ghost use Rattle.std.specs.Prelude.{◌≡◌, [], IfOk};
 ghost use Rattle.cbor_det.specs.Faults.{Place, at_chunk, at_element, at_key};
 ghost use Rattle.cbor_det.specs.Standing.{inside};
 ghost use Rattle.cbor_det.specs.Term.{no_terms, no_pairs};
@@ -11,7 +11,7 @@ use crate::item::{Item, Items};
 use crate::members::Members;
 use crate::string_kind::StringKind;
 use std::alloc::Global;
-use wire_base::{List, Octets};
+use wire_base::{List, Memory, Octets};
 
 /// A construct that is open, with what stands in it whole. `at` is the offset of its initial byte,
 /// and `all` is how many items or pairs its head counts, or `None` where a break ends it.
@@ -51,20 +51,31 @@ impl Frame {
         Frame::Chunks { at, kind, joined }
     }
 
-    /// An array with nothing in it so far. It takes no memory.
-    pub(crate) fn elements(alloc: Global, at: u64, all: Option<u64>) -> Self
-        ensures made { (p : Place) → inside p result ≡ at_element at all no_terms p }
+    /// An array with nothing in it so far. It takes room for what its head counts.
+    pub(crate) fn elements(alloc: Global, at: u64, all: Option<u64>) -> Result<Self, Memory>
+        ensures made { IfOk result (λ frame. (p : Place) → inside p frame ≡ at_element at all no_terms p) }
     {
-        let items = List::new(alloc);
-        Frame::Elements { at, all, items }
+        let items = List::with_capacity(alloc, room(all))?;
+        Ok(Frame::Elements { at, all, items })
     }
 
-    /// A map with nothing in it so far. It takes no memory.
-    pub(crate) fn map(alloc: Global, at: u64, all: Option<u64>) -> Self
-        ensures made { (p : Place) → inside p result ≡ at_key at all no_pairs p }
+    /// A map with nothing in it so far. It takes room for what its head counts.
+    pub(crate) fn map(alloc: Global, at: u64, all: Option<u64>) -> Result<Self, Memory>
+        ensures made { IfOk result (λ frame. (p : Place) → inside p frame ≡ at_key at all no_pairs p) }
     {
-        let members = Members::new(alloc);
-        Frame::Map { at, all, members }
+        let members = Members::with_room(alloc, room(all))?;
+        Ok(Frame::Map { at, all, members })
+    }
+}
+
+/// The most items or pairs that room is taken for at once.
+const MOST_ROOM: u64 = 64;
+
+/// For how many items or pairs room is taken where a head counts `all`, which may be a lie.
+fn room(all: Option<u64>) -> usize {
+    match all {
+        None => 0,
+        Some(all) => all.min(MOST_ROOM) as usize,
     }
 }
 

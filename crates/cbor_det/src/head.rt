@@ -112,7 +112,7 @@ fn begin_array(
     if count == 0 {
         return close_item(alloc, stack, at, Item::Array(List::new(alloc)));
     }
-    open_frame(stack, Frame::elements(alloc, at, Some(count)))
+    open_frame(stack, Frame::elements(alloc, at, Some(count))?)
 }
 
 /// A map of `count` pairs.
@@ -129,5 +129,5 @@ fn begin_map(
     if count == 0 {
         return close_item(alloc, stack, at, Item::Map(Pairs::new(alloc)));
     }
-    open_frame(stack, Frame::map(alloc, at, Some(count)))
+    open_frame(stack, Frame::map(alloc, at, Some(count))?)
 }

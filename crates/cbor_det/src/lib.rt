@@ -1,5 +1,5 @@
-//! Items of the Concise Binary Object Representation (CBOR, RFC 8949): a reader and a feed that
-//! take any spelling of an item within limits, and a writer of the one canonical spelling (core
+//! Items of the Concise Binary Object Representation (CBOR, RFC 8949). A reader and a feed take
+//! any spelling of an item within limits. A writer gives the one canonical spelling (core
 //! deterministic encoding, section 4.2.1).
 //!
 //! It stands on `wire_base`, and on `thiserror` for the texts of errors. Who calls whom:
@@ -20,11 +20,20 @@
 //! on the clauses of the methods of `Pairs` except `add`, on `equal` of copies, and on `laws`.
 //! Their proofs also cite lemmas of `proofs/`.
 //!
-//! The words of the clauses are in `specs/`: `Term` and `View` (items), `Canonical`, `Spelling` and
-//! `Proper`, `Faults` and `FaultKinds`, `Answers` (of a reader), `Standing` and `Feeding` (of a
-//! feed), `Lookup` and `Adding` (of pairs), `Laws`. The others are the private means of proof: the
-//! machine of `Machine` and `Frames`, which the code follows and the laws in `proofs/` tie to
-//! `Spelling`, `Faults` and `Standing` in both directions.
+//! The words of the clauses are in `specs/`:
+//!
+//! | file | what it says |
+//! |---|---|
+//! | `Term`, `View` | items |
+//! | `Canonical`, `Spelling`, `Proper` | the spellings of an item, and which items have one |
+//! | `Faults`, `FaultKinds` | which fault shows first, and its number |
+//! | `Answers` | what a reader answers |
+//! | `Standing`, `Feeding` | where a feed stands, and what it answers |
+//! | `Lookup`, `Adding` | the pairs of a map |
+//! | `Laws` | what the definitions mean |
+//!
+//! The others are the private means of proof: the machine of `Machine` and `Frames`, which the code
+//! follows. The laws in `proofs/` tie it to `Spelling`, `Faults` and `Standing` in both directions.
 #![tactic(auto)]
 
 mod begin;

@@ -61,9 +61,9 @@ pub(crate) struct Rising {
     ghost rises: { RisesTo (listed pairs) (option_map view key) } by { rises_to_prop (listed pairs) (option_map view key) },
 }
 
-/// Pairs whose keys came in any order, under their keys' canonical spellings, so that each key is
-/// found among n others in steps that grow with log n; and the key whose value is due. Each key was
-/// spelled once.
+/// Pairs whose keys came in any order, and the key whose value is due. The pairs are under their
+/// keys' canonical spellings, so that each key is found among n others in steps that grow with
+/// log n. Each key was spelled once.
 #[derive(Drop)]
 pub(crate) struct Ordered {
     entries: BTreeMap<Vec<u8>, Pair>,
@@ -91,6 +91,17 @@ impl Rising {
             pairs: List::new(alloc),
             key: None,
         }
+    }
+
+    /// The same, with room for that many pairs.
+    fn with_room(alloc: Global, room: usize) -> Result<Self, Memory>
+        ensures empty { IfOk result (λ made. listed made.pairs ≡ no_pairs) }
+        ensures key { IfOk result (λ made. made.key ≡ None) }
+    {
+        Ok(Rising {
+            pairs: List::with_capacity(alloc, room)?,
+            key: None,
+        })
     }
 
     /// Whether the item is a value that is due, the first key, or an integer above the last key,
@@ -187,12 +198,12 @@ impl Ordered {
 impl Members {
     ghost use Rattle.cbor_det.specs.Held.{due_key, members_view};
 
-    /// No pairs, and a key is due. It takes no memory.
-    pub(crate) fn new(alloc: Global) -> Self
-        ensures empty { members_view result ≡ no_pairs }
-        ensures key { due_key result ≡ None }
+    /// No pairs, and a key is due. It takes room for that many pairs.
+    pub(crate) fn with_room(alloc: Global, room: usize) -> Result<Self, Memory>
+        ensures empty { IfOk result (λ made. members_view made ≡ no_pairs) }
+        ensures key { IfOk result (λ made. due_key made ≡ None) }
     {
-        Members::Rising(Rising::new(alloc))
+        Ok(Members::Rising(Rising::with_room(alloc, room)?))
     }
 
     /// Takes the value that is due, or a key; false where the key is held.
@@ -259,7 +270,8 @@ impl Members {
     {
         match self {
             Members::Rising(rising) => {
-                let Rising { pairs, .. } = mem::replace(rising, Rising::new(alloc));
+                let Rising { mut pairs, .. } = mem::replace(rising, Rising::new(alloc));
+                pairs.shrink_to_fit();
                 Ok(Pairs { pairs })
             }
             Members::Ordered(ordered) => ordered.take_pairs(alloc),

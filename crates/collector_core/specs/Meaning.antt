@@ -72,7 +72,7 @@ pub record CanBeTold (most : ℕ) (report : Report) : Type 0 where
   pub stamps : HasStamps report
   pub consulted : ConsultsWithin report
 
--- At a legal chronicle, each report that is an answer can be told: it meets `CanBeTold`.
+-- At a legal chronicle, each report that is an answer can be reported: it meets `CanBeTold`.
 abbrev pub AnswersCanBeTold : Type 0
 AnswersCanBeTold = (chronicle : Chronicle) (request : Request) (most : ℕ) (report : Report) → IsLegal chronicle
     → answer_at chronicle request most ≡ answer.Report report → CanBeTold most report

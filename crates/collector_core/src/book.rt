@@ -128,8 +128,8 @@ impl Book {
     }
 
     /// Whether the epoch of the point is not the current one, or an event after the point is no
-    /// longer kept, or one of the targets has an event after it; any event, where there are no
-    /// targets. It takes no memory.
+    /// longer kept, or one of the targets has an event after it. Where there are no targets, any
+    /// event after the point counts. It takes no memory.
     pub fn moved(&self, after: Point, targets: &Idents) -> bool
         ensures some { StandsForSome self.now }
         ensures moved { result ≡ book_moved self.now after targets.now }

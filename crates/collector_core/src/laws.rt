@@ -37,14 +37,14 @@ pub fn answers_are_reports_or_sizes()
 {}
 
 /// At a legal chronicle, a report that is an answer has at most the octets that were asked for and
-/// 65,536 records or events, its moments are stamps, and it consulted no event after its point
+/// 65,536 records or events. Its moments are stamps, and it consulted no event after its point
 /// (RFC 8412, section 5.8).
 pub fn answers_can_be_told()
     ensures law { AnswersCanBeTold }
 {}
 
-/// At a legal chronicle, a report that is an answer of at most 16,777,000 octets can be written,
-/// and is read back as it was from what is written of it (RFC 8412, sections 5.7 to 5.10).
+/// At a legal chronicle, a report that is an answer of at most 16,777,000 octets can be written.
+/// From what is written it is read back as it was (RFC 8412, sections 5.7 to 5.10).
 pub fn answers_are_read_back()
     ensures law { AnswersAreReadBack }
 {}

@@ -16,7 +16,7 @@ abbrev pub attrs_octets : List Attr → ℕ
 attrs_octets attrs = sum_by (λ (attr : Attr). HEADER + length attr.value) attrs
 
 -- What is written and what further reports may have are within the limit, except 36 octets for each
--- attribute and 2336 for each message: a report takes its octets from the room, every other
+-- attribute and 2336 for each message. A report takes its octets from the room, every other
 -- attribute has at most 36 octets, and a message has 32 and at most 64 attributes.
 abbrev pub Size : ℕ → ℕ → List Message → List Attr → Type 0
 Size most room messages attrs = messages_octets messages + attrs_octets attrs + room ≤ most + 2336 * length messages + 36 * length attrs

@@ -22,8 +22,8 @@ const MOST: usize = 4096;
 ///
 /// - `book new EPOCH ROOM CONTENTS`, each content `IDENTIFIER:OCTETS` with the octets of its body;
 /// - `book create CONTENT`, `book alter ID CONTENT`, `book delete ID`, `book epoch EPOCH`,
-///   `book trim EVENT`: what the change gives, and the book then; `book edit` before one of these
-///   does it by `apply`;
+///   `book trim EVENT`: what the change gives, and the book then;
+/// - `book edit` before one of these words: the same change, by `apply`;
 /// - `book record ID`; `book moved EPOCH EVENT IDENTIFIERS`;
 /// - `book ask KIND ID EARLIEST MOST IDENTIFIERS`: the answer to a request.
 pub(crate) fn step(alloc: Global, book: &mut Book, words: &str) -> Option<String> {

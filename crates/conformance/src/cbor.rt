@@ -13,10 +13,13 @@ use cbor_det::{
 use std::alloc::Global;
 use wire_base::TryCopy;
 
-/// `cbor OCTETS DEPTH HEX`: `item LENGTH HEX`, with the canonical spelling of the item, and
-/// ` canonical` where the octets are that spelling and the limits are the largest; or
-/// `fault KIND PLACE after OCTETS`, with the fewest octets that show it. A feed of pieces has to
-/// answer the same.
+/// `cbor OCTETS DEPTH HEX`: what the octets begin with.
+///
+/// - `item LENGTH HEX`, with the canonical spelling of the item, and ` canonical` where the octets
+///   are that spelling and the limits are the largest;
+/// - `fault KIND PLACE after OCTETS`, with the fewest octets that show it.
+///
+/// A feed of pieces has to answer the same.
 pub(crate) fn item(alloc: Global, words: &str) -> Option<String> {
     let (most, rest) = words.split_once(' ')?;
     let (deep, digits) = rest.split_once(' ')?;
@@ -82,8 +85,8 @@ fn read_text(alloc: Global, limits: Limits, octets: &[u8]) -> Option<String>
     }
 }
 
-/// What a feed answers to no octets and then to pieces of the size, with `More` at the end as fault
-/// 1, and how many octets it was fed until then; `None` where memory ran out.
+/// What a feed answers to no octets and then to pieces of the size, and how many octets it was fed
+/// until then. `More` at the end counts as fault 1. `None` where memory ran out.
 fn fed_text(alloc: Global, limits: Limits, octets: &[u8], size: usize) -> Option<(String, usize)>
     requires small { limits.octets ≤ 2 ^ 24 }
     requires shallow { limits.depth ≤ 64 }

@@ -6,8 +6,9 @@ use event_log::EventLog;
 use std::alloc::Global;
 use swima_model::{Action, Body, Content, Event, Ident, Locator, Model, Record};
 
-/// `log new ROOM`, `log push`, which pushes the next event, `log trim EVENT` or `log clear`: the
-/// event that was dropped for it, the first event and the last, and those below 9 that are kept.
+/// `log new ROOM`, `log push`, which pushes the next event, `log trim EVENT` or `log clear`. The
+/// answer is the event that was dropped for it, the first event and the last, and those below 9
+/// that are kept.
 pub(crate) fn step(alloc: Global, log: &mut EventLog, words: &str) -> Option<String> {
     match words {
         "push" => push(alloc, log),

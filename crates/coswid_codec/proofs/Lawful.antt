@@ -10,9 +10,8 @@ use Rattle.coswid_res.specs.Fault.{field_fault, under, unless_wrong, wrong_form}
 use Rattle.coswid_res.specs.Reading.{keys_fault}
 use Rattle.coswid_codec.specs.Laws.{FormLaw}
 
--- of a value and an item from which it may be read; `least` is the depth that the written item may
--- have in any case, and no table has more than 16 lines, so that a written map has no more than so
--- many pairs more
+-- Of a value and an item from which it may be read. `least` is the depth that the written item may
+-- have in any case. No table has more than 16 lines, so a written map has at most 16 pairs more.
 pub record Told {A : Type 0} (field : Field) (Is : A → Term → Type 0) (item : A → Term) (least : ℕ) (v : A) (t : Term) : Type 0 where
   pub none : field_fault field t ≡ None
   pub again : Is v (item v)

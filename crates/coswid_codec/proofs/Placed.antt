@@ -1,5 +1,5 @@
--- The pairs with the fields of a table put into them: what stands under each key then, and that they
--- are proper.
+-- The pairs with the fields of a table put into them: what stands under each key then, and that
+-- they are proper.
 use Rattle.std.proofs.Common.{◌≡◌, ◌≤◌, ◌<◌, ◌==◌, ◌^◌, ◌+◌, ◌&&◌, ℕ, max, Bool, true, false, List, [], ◌∷◌, Option, Some, None, if◌then◌else◌, refl, sym, ap, ◌∙◌, arith}
 use Rattle.std.proofs.lemmas.Bool.{and_parts, eqb-true, ne_eqb}
 use Rattle.std.specs.Prelude.{IfSome}

@@ -1,8 +1,11 @@
 -- Which tags have an item: RFC 9393, section 2. A value that was made by hand need not have one.
--- These have none: a value with an empty list of what is one or more; with a payload beside
--- evidence; with extras, of any of its maps, in which a key of that map's table stands; with extras
--- in which one key stands twice, on whatever level; with a size of a file above 2^63 - 1; and one
--- whose item would be deeper than 64.
+-- These have none:
+-- - a value with an empty list of what is one or more;
+-- - one with a payload beside evidence;
+-- - one with extras, of any of its maps, in which a key of that map's table stands;
+-- - one with extras in which one key stands twice, on whatever level;
+-- - one with a size of a file above 2^63 - 1;
+-- - one whose item would be deeper than 64.
 use Rattle.std.specs.Prelude.{◌≤◌}
 use Rattle.cbor_det.specs.Proper.{IsProper}
 use Rattle.cbor_det.specs.Term.{Term, depth}

@@ -72,9 +72,9 @@ NotBoth = (input : List ℕ) (g : Tag) (n : ℕ) (why : TagRefused) → BeginsTa
 abbrev pub TagOrFault : Type 0
 TagOrFault = (input : List ℕ) → AreOctets input → ((g : Tag) × (n : ℕ) × BeginsTag input g n) ⊎ ((why : TagRefused) × HasFault input why)
 
--- What holds of the values of a form: some value is read exactly where there is no fault, from one
--- item one value is read, and from the item that it is written as it is read again. That is proper
--- where what was read is, and no deeper than that, or by at most `levels` levels deeper.
+-- What holds of the values of a form. Some value is read exactly where there is no fault, and from
+-- one item one value is read. From the item that a value is written as, it is read again. That
+-- item is proper where what was read is, and it is at most `levels` levels deeper.
 pub record FormLaw {A : Type 0} (field : Field) (Is : A → Term → Type 0) (item : A → Term) (levels : ℕ) : Type 0 where
   pub no_fault : (t : Term) → (field_fault field t ≡ None) ↔ ((v : A) × Is v t)
   pub one_item : (v w : A) (t : Term) → Is v t → Is w t → v ≡ w

@@ -12,7 +12,7 @@ use std::alloc::Global;
 use wire_base::{Memory, TryCopy};
 
 /// The table of entities.
-pub struct EntityTable;
+pub(crate) struct EntityTable;
 
 impl Mapped for EntityTable {
     type Value = Entity;

@@ -15,7 +15,7 @@ use std::alloc::Global;
 use wire_base::{List, Memory, Octets, TryCopy};
 
 /// An identifier: a text, or the 16 octets of a UUID.
-pub struct IdentifierForm;
+pub(crate) struct IdentifierForm;
 
 impl Form for IdentifierForm {
     type Value = TagId;
@@ -57,7 +57,7 @@ fn read_uuid(alloc: Global, octets: &Octets) -> Result<TagId, FormRefused>
 }
 
 /// A code: a number of a registry or any other, or a text.
-pub struct CodeForm;
+pub(crate) struct CodeForm;
 
 impl Form for CodeForm {
     type Value = CodeValue;

@@ -16,52 +16,52 @@ use coswid_res::{
 // Tags: section 2.3.
 
 /// `tag-id`, required.
-pub type TagId = Key<0, IdentifierForm>;
+pub(crate) type TagId = Key<0, IdentifierForm>;
 
 /// `software-name`, required.
-pub type SoftwareName = Key<1, TextForm>;
+pub(crate) type SoftwareName = Key<1, TextForm>;
 
 /// `entity`, one or more, required.
-pub type Entity = Key<2, MapForm<EntityTable>>;
+pub(crate) type Entity = Key<2, MapForm<EntityTable>>;
 
 /// `evidence`.
-pub type Evidence = Key<3, MapForm<EvidenceTable>>;
+pub(crate) type Evidence = Key<3, MapForm<EvidenceTable>>;
 
 /// `link`, one or more.
-pub type Link = Key<4, MapForm<LinkTable>>;
+pub(crate) type Link = Key<4, MapForm<LinkTable>>;
 
 /// `software-meta`, one or more.
-pub type SoftwareMeta = Key<5, MapForm<MetaTable>>;
+pub(crate) type SoftwareMeta = Key<5, MapForm<MetaTable>>;
 
 /// `payload`.
-pub type Payload = Key<6, MapForm<PayloadTable>>;
+pub(crate) type Payload = Key<6, MapForm<PayloadTable>>;
 
 /// `corpus`.
-pub type Corpus = Key<8, BoolForm>;
+pub(crate) type Corpus = Key<8, BoolForm>;
 
 /// `patch`.
-pub type Patch = Key<9, BoolForm>;
+pub(crate) type Patch = Key<9, BoolForm>;
 
 /// `media`, of a tag and of a link.
-pub type Media = Key<10, TextForm>;
+pub(crate) type Media = Key<10, TextForm>;
 
 /// `supplemental`.
-pub type Supplemental = Key<11, BoolForm>;
+pub(crate) type Supplemental = Key<11, BoolForm>;
 
 /// `tag-version`, required.
-pub type TagVersion = Key<12, IntForm>;
+pub(crate) type TagVersion = Key<12, IntForm>;
 
 /// `software-version`.
-pub type SoftwareVersion = Key<13, TextForm>;
+pub(crate) type SoftwareVersion = Key<13, TextForm>;
 
 /// `version-scheme`.
-pub type VersionScheme = Key<14, CodeForm>;
+pub(crate) type VersionScheme = Key<14, CodeForm>;
 
 /// `lang`.
-pub type Lang = Key<15, TextForm>;
+pub(crate) type Lang = Key<15, TextForm>;
 
 /// The keys that the table of tags lists.
-pub fn tag_keys() -> [u32; 15]
+pub(crate) fn tag_keys() -> [u32; 15]
     ensures keys { result ≡ keys_of (schema.table schema.tag) }
 {
     [
@@ -86,19 +86,19 @@ pub fn tag_keys() -> [u32; 15]
 // Entities: section 2.6.
 
 /// `entity-name`, required.
-pub type EntityName = Key<31, TextForm>;
+pub(crate) type EntityName = Key<31, TextForm>;
 
 /// `reg-id`.
-pub type RegId = Key<32, UriForm>;
+pub(crate) type RegId = Key<32, UriForm>;
 
 /// `role`, one or more, required.
-pub type Role = Key<33, CodeForm>;
+pub(crate) type Role = Key<33, CodeForm>;
 
 /// `thumbprint`.
-pub type Thumbprint = Key<34, HashForm>;
+pub(crate) type Thumbprint = Key<34, HashForm>;
 
 /// The keys that the table of entities lists.
-pub fn entity_keys() -> [u32; 4]
+pub(crate) fn entity_keys() -> [u32; 4]
     ensures keys { result ≡ keys_of (schema.table schema.entity) }
 {
     [
@@ -112,25 +112,25 @@ pub fn entity_keys() -> [u32; 4]
 // Links: section 2.7, and `Media`.
 
 /// `artifact`.
-pub type Artifact = Key<37, TextForm>;
+pub(crate) type Artifact = Key<37, TextForm>;
 
 /// `href`, required.
-pub type Href = Key<38, UriForm>;
+pub(crate) type Href = Key<38, UriForm>;
 
 /// `ownership`.
-pub type Ownership = Key<39, CodeForm>;
+pub(crate) type Ownership = Key<39, CodeForm>;
 
 /// `rel`, required.
-pub type Rel = Key<40, CodeForm>;
+pub(crate) type Rel = Key<40, CodeForm>;
 
 /// `media-type`.
-pub type MediaType = Key<41, TextForm>;
+pub(crate) type MediaType = Key<41, TextForm>;
 
 /// `use`.
-pub type LinkUse = Key<42, CodeForm>;
+pub(crate) type LinkUse = Key<42, CodeForm>;
 
 /// The keys that the table of links lists.
-pub fn link_keys() -> [u32; 7]
+pub(crate) fn link_keys() -> [u32; 7]
     ensures keys { result ≡ keys_of (schema.table schema.link) }
 {
     [
@@ -147,52 +147,52 @@ pub fn link_keys() -> [u32; 7]
 // Descriptions of software: section 2.8. None must be there.
 
 /// `activation-status`.
-pub type ActivationStatus = Key<43, TextForm>;
+pub(crate) type ActivationStatus = Key<43, TextForm>;
 
 /// `channel-type`.
-pub type ChannelType = Key<44, TextForm>;
+pub(crate) type ChannelType = Key<44, TextForm>;
 
 /// `colloquial-version`.
-pub type ColloquialVersion = Key<45, TextForm>;
+pub(crate) type ColloquialVersion = Key<45, TextForm>;
 
 /// `description`.
-pub type Description = Key<46, TextForm>;
+pub(crate) type Description = Key<46, TextForm>;
 
 /// `edition`.
-pub type Edition = Key<47, TextForm>;
+pub(crate) type Edition = Key<47, TextForm>;
 
 /// `entitlement-data-required`.
-pub type EntitlementDataRequired = Key<48, BoolForm>;
+pub(crate) type EntitlementDataRequired = Key<48, BoolForm>;
 
 /// `entitlement-key`.
-pub type EntitlementKey = Key<49, TextForm>;
+pub(crate) type EntitlementKey = Key<49, TextForm>;
 
 /// `generator`.
-pub type Generator = Key<50, IdentifierForm>;
+pub(crate) type Generator = Key<50, IdentifierForm>;
 
 /// `persistent-id`.
-pub type PersistentId = Key<51, TextForm>;
+pub(crate) type PersistentId = Key<51, TextForm>;
 
 /// `product`.
-pub type Product = Key<52, TextForm>;
+pub(crate) type Product = Key<52, TextForm>;
 
 /// `product-family`.
-pub type ProductFamily = Key<53, TextForm>;
+pub(crate) type ProductFamily = Key<53, TextForm>;
 
 /// `revision`.
-pub type Revision = Key<54, TextForm>;
+pub(crate) type Revision = Key<54, TextForm>;
 
 /// `summary`.
-pub type Summary = Key<55, TextForm>;
+pub(crate) type Summary = Key<55, TextForm>;
 
 /// `unspsc-code`.
-pub type UnspscCode = Key<56, TextForm>;
+pub(crate) type UnspscCode = Key<56, TextForm>;
 
 /// `unspsc-version`.
-pub type UnspscVersion = Key<57, TextForm>;
+pub(crate) type UnspscVersion = Key<57, TextForm>;
 
 /// The keys that the table of descriptions lists.
-pub fn meta_keys() -> [u32; 15]
+pub(crate) fn meta_keys() -> [u32; 15]
     ensures keys { result ≡ keys_of (schema.table schema.software_meta) }
 {
     [

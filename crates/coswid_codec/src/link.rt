@@ -12,7 +12,7 @@ use std::alloc::Global;
 use wire_base::{Memory, TryCopy};
 
 /// The table of links.
-pub struct LinkTable;
+pub(crate) struct LinkTable;
 
 impl Mapped for LinkTable {
     type Value = LinkEntry;

@@ -12,7 +12,7 @@ use std::alloc::Global;
 use wire_base::{Memory, TryCopy};
 
 /// The table of descriptions of software.
-pub struct MetaTable;
+pub(crate) struct MetaTable;
 
 impl Mapped for MetaTable {
     type Value = SoftwareMeta;

@@ -62,14 +62,16 @@ impl From<FormRefused> for TagRefused {
 }
 
 /// What is read of one tag at most.
-pub const LIMITS: Limits = Limits {
+pub(crate) const LIMITS: Limits = Limits {
     octets: 8_388_608,
     depth: 64,
 };
 
-/// The tag that the octets begin with, and how many octets it has. `Cbor` exactly where the octets
-/// begin with no item within 8388608 octets and depth 64, with the fault that shows first; `Form`
-/// exactly where that item is no tag, with the first form fault; `Memory` where there is no room.
+/// The tag that the octets begin with, and how many octets it has (RFC 9393, section 2).
+///
+/// `Cbor` with the fault that shows first, exactly where the octets begin with no item within
+/// 8388608 octets and depth 64. `Form` with the first form fault, exactly where that item is no
+/// tag. `Memory` where there is no room.
 pub fn read_tag(alloc: Global, bytes: &[u8]) -> Result<(Tag, usize), TagRefused>
     ensures found { IfOk result (λ read. BeginsTag bytes.now read.0 read.1) }
     ensures shallow { IfOk result (λ read. depth (tag_item read.0) ≤ 64) }

@@ -19,7 +19,7 @@ use std::alloc::Global;
 use wire_base::{Memory, Text, TryCopy};
 
 /// The table of tags.
-pub struct TagTable;
+pub(crate) struct TagTable;
 
 impl Mapped for TagTable {
     type Value = Tag;

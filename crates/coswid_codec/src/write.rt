@@ -18,10 +18,10 @@ use wire_base::{Boxed, Memory, Octets};
 pub(crate) const COSWID: u64 = 1398229316;
 
 /// The canonical spelling of the tag's item, under the tag of CoSWID tags; `Memory` where there is
-/// no room. What has an item is read from that spelling (`written_is_read` of `laws`). A value that
-/// was made by hand and has none is written all the same, and is never what is read from that: one
-/// with an empty list, with both a payload and evidence, or with extras in which a key of the map's
-/// table stands, or one key twice.
+/// no room. What has an item is read from that spelling (`written_is_read` of `laws`).
+///
+/// A value that was made by hand may have no item (`specs/HasItem.antt` lists these values). It is
+/// written all the same, and it is never what is read from that.
 pub fn write_tag(alloc: Global, tag: &Tag) -> Result<Octets, Memory>
     requires depth { depth (tag_item tag.now) ≤ 64 }
     requires sizes { SizesFit tag.now }

@@ -1,4 +1,4 @@
--- Values and the numbers that tell them apart.
+-- Values, and numbers that are equal exactly where the values are.
 use Rattle.std.proofs.Common.{◌≡◌, ℕ, ◌+◌, ◌<◌, ◌≤◌, Bool, true, false, not, cond, ltb, eqb, true≢false, List, [], ◌∷◌, ◌++◌, map, length, get_or, position, Option, Some, None, unwrap_or, ⊎_elim, refl, sym, ap, ◌∙◌, subst, arith, lt-ltb, le-ltb, eq-eqb, ne_eqb}
 use Rattle.std.specs.Cmp.{IsEquivalence}
 use Rattle.std.specs.List.{position_or_len}
@@ -145,7 +145,7 @@ module _ {K V A : Type 0} (eq : K → K → Bool) (same : V → V → Bool) (of_
     congr = λ x y z q. agree x z ∙ laws.congr (of_key x) (of_key y) (of_key z) (sym (agree x y) ∙ q) ∙ sym (agree y z);
   }
 
-  -- Numbers that tell the keys apart tell apart what the keys are of.
+  -- Numbers that distinguish the keys distinguish what the keys are of.
   pub tells_through : (vs : List K) (xs : List A) (numbers : List ℕ) → map of_key vs ≡ map of xs → numbers ≡ first_places eq vs → Tells (λ x y. same (of x) (of y)) xs numbers
   tells_through vs xs numbers alike is =
       let lens : length vs ≡ length xs = sym (length-map vs of_key) ∙ ap (λ (us : List V). length us) alike ∙ length-map xs of in

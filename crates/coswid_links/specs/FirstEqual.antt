@@ -1,4 +1,4 @@
--- Values told apart by numbers.
+-- Values distinguished by numbers.
 use Rattle.std.specs.Prelude.{◌≡◌, ℕ, ◌<◌, ◌==◌, Bool, List, map, length, slice_index, slice_index_or}
 use Rattle.std.specs.List.{position_or_len}
 

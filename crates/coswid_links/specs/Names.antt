@@ -25,9 +25,9 @@ abbrev pub listed : Option ℕ → ℕ → ℕ → List LinkFinding
 listed None first second = []
 listed (Some kind) first second = record { kind = kind; first = first; second = second } ∷ []
 
--- the number of what is wrong with a link to a name, by whether a tag of the name is primary
--- (`None`: no tag has it), whether the link requires the tag, and whether it patches or supplements
--- it
+-- The number of what is wrong with a link to a name. It depends on whether a tag of the name is
+-- primary (`None`: no tag has it), whether the link requires the tag, and whether it changes
+-- (patches or supplements) it.
 abbrev pub judged : Option Bool → Bool → Bool → Option ℕ
 judged None required changes = if required then Some 3 else Some 1
 judged (Some true) required changes = None

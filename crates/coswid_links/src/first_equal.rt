@@ -1,4 +1,4 @@
-//! Values told apart by numbers.
+//! Values distinguished by numbers.
 
 ghost use Rattle.std.specs.Prelude.{◌≡◌, ◌↔◌, true, IfOk};
 ghost use Rattle.std.specs.Ordering.{eq_by_cmp};

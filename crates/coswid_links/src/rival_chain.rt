@@ -16,7 +16,7 @@ pub(crate) struct Following {
     other: Option<usize>,
 }
 
-/// The places of tags, with what tells their releases and contents apart.
+/// The places of tags, with numbers that distinguish their releases and contents.
 #[derive(Drop)]
 pub(crate) struct RivalChains {
     releases: Vec<usize>,

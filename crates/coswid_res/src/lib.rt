@@ -1,18 +1,31 @@
-//! What the maps of CoSWID tags share (RFC 9393, section 2): the tables as data, the first form
-//! fault of an item with its path, and how a field is taken out of a map and put into one; payload
-//! and evidence (section 2.9), as values, from items and back; and the check of a payload against
-//! files.
+//! What the maps of CoSWID tags share (RFC 9393, section 2), payload and evidence (section 2.9),
+//! and the check of a payload against files.
 //!
-//! It stands on `cbor_det` for items, on `wire_base`, on `sha2` for digests, and on `thiserror` for
-//! the texts of errors. The crates above rest on `told` of `Form::read`, of the methods of `Key`,
-//! of `payload_of` and `evidence_of`, on `puts`, `there` and `number` of the methods of `Key`, on
-//! `written` of `payload_item` and `evidence_item`, on `verdicts`, `cause` and `reads` of `verify`,
-//! and on `laws`. The words of these clauses are in `specs/`: `Keys` (the table of keys, each with
-//! its number and its form), `Fields` (the forms), `Schema` (the keys of each map), `Fault` (the
-//! first fault), `Words` (the relation between a value and an item), `Items` (the item that is
-//! written) and `Reading`; of payload and evidence in `Files`, `Directories`, `DirectoryItems`,
-//! `Resources`, `ResourceItems` and `Sizes` (which sizes an item holds); of verdicts in `Listing`
-//! (the files with their paths) and `Verify`.
+//! It stands on `cbor_det` for items. `wire_base` gives lists and files, `sha2` digests, and
+//! `thiserror` the texts of errors. The crates above rest on:
+//!
+//! - `told` of `Form::read`, of the methods of `Key`, of `payload_of` and of `evidence_of`: the
+//!   value that is read, or the first form fault with its path.
+//! - `puts`, `there` and `number` of the methods of `Key`.
+//! - `written` of `payload_item` and `evidence_item`: the item of a value.
+//! - `verdicts`, `cause` and `reads` of `verify`: a verdict on each file of a payload.
+//! - `laws`: what the definitions mean.
+//!
+//! | file | what it holds | its words in `specs/` |
+//! |---|---|---|
+//! | `tables/form.rt`, `value_forms.rt` | the forms of values | `Fields`, `Words`, `Items` |
+//! | `tables/key.rt` | a number with its form: a field out of a map or into one | `Words`, `Reading` |
+//! | `tables/map_form.rt` | values that are written as maps | `Schema`, `Reading` |
+//! | `tables/rows.rt` | one or more values: an array, or one alone | `Words`, `Items` |
+//! | `tables/missing_key.rt`, `fault.rt` | the first form fault, with its path | `Fault` |
+//! | `fault_kind.rt` | the kinds of form faults, by name | `FaultKinds` |
+//! | `resources/table.rt` | the keys of payload and evidence | `Keys`, `Schema` |
+//! | `resources/file.rt` | files | `Files`, `Sizes` |
+//! | `resources/directory*.rt` | directories, read and written | `Directories`, `DirectoryItems` |
+//! | the others of `resources/` | the other values | `Resources`, `ResourceItems` |
+//! | `verification/directory_path.rt` | the paths of files | `Listing` |
+//! | `verification/verdict.rt`, `verify.rt` | the verdict on each file | `Verify` |
+//! | `laws.rt` | what the definitions mean, proved | |
 #![tactic(auto)]
 
 mod fault;

@@ -257,11 +257,11 @@ fault_is_first supported octets fault = (fault_forth supported octets fault, fau
 
 -- ---- a stream
 
-stream_shown : (octets : List ℕ) (fault : AttrFault) → stream_header octets ≡ Err fault → first_shown (header_rows MOST_OCTETS (header_of octets)) ≡ Some fault
+pub stream_shown : (octets : List ℕ) (fault : AttrFault) → stream_header octets ≡ Err fault → first_shown (header_rows MOST_OCTETS (header_of octets)) ≡ Some fault
 unfolding stream_header
 stream_shown octets fault e = unless_err (first_shown (header_rows MOST_OCTETS (header_of octets))) (header_of octets) fault e
 
-stream_err : (octets : List ℕ) (fault : AttrFault) → first_shown (header_rows MOST_OCTETS (header_of octets)) ≡ Some fault → stream_header octets ≡ Err fault
+pub stream_err : (octets : List ℕ) (fault : AttrFault) → first_shown (header_rows MOST_OCTETS (header_of octets)) ≡ Some fault → stream_header octets ≡ Err fault
 unfolding stream_header
 stream_err octets fault e = ap (λ (row : Option AttrFault). unless row (header_of octets)) e
 

@@ -1,6 +1,6 @@
--- Which fault of a message counts (RFC 5792, sections 3.6 and 4.1): a row on its header, or else of
--- all rows that show on its attributes the one with the lowest place, and of two at one place the
--- earlier.
+-- Which fault of a message counts (RFC 5792, sections 3.6 and 4.1). If a row on its header applies,
+-- that is the fault. Otherwise it is the row with the lowest place of all that show on its
+-- attributes, and of two at one place the earlier.
 use Rattle.std.specs.Prelude.{◌≡◌, ◌<◌, ◌≤◌, ◌+◌, ◌-◌, ◌⊎◌, ℕ, true, List, [], ◌∷◌, Some, None, length, drop}
 use Rattle.wire_base.specs.FaultTable.{AreNotBelow as AreNotBelowBy}
 use Rattle.pa_attrs.specs.declared.attr.PlacedAttr.{PlacedAttr}

@@ -145,8 +145,8 @@ AttributeOrFault = (octets : List ℕ) → AreOctets octets → HasAttributeOrFa
 abbrev pub ErrorIsForm : Type 0
 ErrorIsForm = (base : ℕ) (octets : List ℕ) (error : PaError) → AreOctets octets → (whole read_error base octets ≡ Ok error) ↔ ErrorForm error octets
 
--- A value of that many octets is no Error, and its fault is at a place: that of the reserved octet,
--- of the vendor or of the code, the first of them that does not fit.
+-- A value of that many octets is no Error, and its fault is at a place. The place is that of the
+-- first that does not fit of the reserved octet, the vendor and the code.
 abbrev pub IsTorn : ℕ → ℕ → ℕ → Type 0
 IsTorn base count place =
     ((count < 1) × (place ≡ base))

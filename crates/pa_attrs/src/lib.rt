@@ -11,9 +11,27 @@
 //!   `PaError::of`: the fault of a value, whether a fault is answered, and by which Error.
 //! - `fed` of `AttrFeed::feed`: what a feed answers, by the octets that it was handed, joined.
 //!
-//! The layouts are in `specs/AttrForm.antt`, `MessageForm.antt` and `ErrorForm.antt`, the table of
-//! faults in `Faults.antt`; the functions of `laws` say what the definitions mean. In code, headers
-//! and their faults are in `header.rt` and `header_fault.rt`, messages in `read.rt` and `write.rt`.
+//! | file | what it holds |
+//! |---|---|
+//! | `attr.rt` | attributes and messages as values |
+//! | `header.rt`, `header_fault.rt` | the header of an attribute, and its faults |
+//! | `read.rt`, `write.rt` | octets to a message, and back |
+//! | `feed.rt`, `held.rt` | attributes from octets in pieces, and the octets that a feed holds |
+//! | `fault.rt` | what is wrong with a message or an attribute |
+//! | `error.rt`, `error_code.rt`, `error_octets.rt` | Errors, their codes, and their octets |
+//! | `numbers.rt` | the numbers of RFC 5792 and RFC 8412, and our limits |
+//! | `laws.rt` | what the definitions mean, proved |
+//!
+//! The words of the clauses are in `specs/`:
+//!
+//! | file | what it says |
+//! |---|---|
+//! | `AttrForm`, `MessageForm`, `ErrorForm` | the layouts |
+//! | `Header` | the header in the octets that an attribute begins with |
+//! | `Faults`, `FirstFault` | the table of faults, and which fault of a message counts |
+//! | `MessageReading` | a message read whole |
+//! | `Stream`, `Held` | what a stream begins with, and how a feed holds octets |
+//! | `Numbers`, `Laws` | the numbers, and what the definitions mean |
 #![tactic(auto)]
 
 mod attr;

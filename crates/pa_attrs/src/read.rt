@@ -140,12 +140,12 @@ fn keep(
     if !is_supported(supported, header.vendor, header.kind) {
         return Ok(());
     }
-    let value = Vec::from_slice(alloc, &octets[HEADER_OCTETS..header.octets as usize])?;
+    let value = List::from_slice(alloc, &octets[HEADER_OCTETS..header.octets as usize])?;
     let attr = Attr {
         noskip: header.noskip,
         vendor: header.vendor,
         kind: header.kind,
-        value: List::from_vec(value),
+        value,
     };
     attrs.push(PlacedAttr {
         at: at + HEADER_OCTETS as u32,
@@ -161,9 +161,9 @@ fn is_still_answered(answer: bool, header: Header) -> bool
 }
 
 /// Whether the sender is informed of a fault in the value of an attribute, where these are all
-/// attributes of its message: none of them is a PA-TNC Error, since no Error answers an Error
-/// (RFC 5792, section 4.2.8). A message that was read has its Errors among them where their type is
-/// one of those that are supported. It takes no memory.
+/// attributes of its message. That is so where none of them is a PA-TNC Error, since no Error
+/// answers an Error (RFC 5792, section 4.2.8). A message that was read has its Errors among them
+/// where their type is one of those that are supported. It takes no memory.
 pub fn is_value_fault_answered(attrs: &[PlacedAttr]) -> bool
     ensures answered { result ≡ is_answered attrs.now }
 {

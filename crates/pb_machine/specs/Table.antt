@@ -1,6 +1,6 @@
 -- The state machines of a PB-TNC session (RFC 5793, section 3.2). The RFC leaves open what becomes
--- of two retries that cross; here a client that awaits the server's batch ignores a retry of the
--- server, and a server takes a retry of the client also while it or the client works.
+-- of two retries that cross. Here a client that awaits the server's batch ignores a retry of the
+-- server. A server takes a retry of the client also while it or the client works.
 use Rattle.std.specs.Prelude.{◌≡◌, ◌≢◌, Bool, true, false, IsTrue, Option, Some, None, is_some, unwrap_or}
 use Rattle.pb_batch.specs.declared.kind.BatchKind.{BatchKind}
 use Rattle.pb_batch.specs.declared.kind.BatchKind.TheVariants as batch

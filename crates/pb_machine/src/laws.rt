@@ -25,8 +25,8 @@ pub fn may_answer()
     ensures law { MayAnswer }
 {}
 
-/// Two ends that keep to the tables agree: however the batches on their way are delayed, neither
-/// hears one that it does not expect, and where none is on its way both are in one state.
+/// Two ends that keep to the tables agree, however the batches on their way are delayed. Neither
+/// hears a batch that it does not expect, and where none is on its way both are in one state.
 pub fn ends_agree()
     ensures law { EndsAgree }
 {}

@@ -62,7 +62,7 @@ module _ {S O : Type 0} (server : Bool) (limit : ℕ) (did : S → O → List St
       ∙ ap (λ (g : Hearing). (settle_at limit octets.0 g).0) hears
       ∙ ap (λ (h : Heard). h.0) (settle_below limit octets.0 after 0 (count + length piece) less))) so
 
-  -- The last octet of a piece is the last of the limit, and the end was told so.
+  -- The last octet of a piece is the last of the limit, and the end was informed of that.
   pub piece_spent : (now next last : S) (here there : O) (held after : List ℕ) (quiet count : ℕ) (piece : List ℕ) → count < limit → count + length piece ≡ limit
       → did now here (heard_octets server (Hears held quiet count) piece).0 next there true → (heard_octets server (Hears held quiet count) piece).1 ≡ Hears after 0 (count + length piece)
       → did next there (Spent ∷ []) last there true → did now here (heard_from server limit (Hears held quiet count) (turns_of piece)).0 last there true

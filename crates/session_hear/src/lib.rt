@@ -1,8 +1,8 @@
 //! What an end of a session hears: the steps that the turns of its link make, and its rules applied
 //! to them one after another.
 //!
-//! It stands on `session_talk`, on `pb_batch` for batches and on `wire_base` for turns. Both ends of
-//! a session stand on `End`, the rules of an end as calls, and on the clauses of `hear_octets`:
+//! It stands on `session_talk`, on `pb_batch` for batches and on `wire_base` for turns. Both ends
+//! of a session stand on `End`, the rules of an end as calls, and on the clauses of `hear_octets`:
 //!
 //! - `did`: to the steps that the octets of a piece make, the rules of the end were done, to the
 //!   end or until memory ran out. No clause says how the octets were cut into pieces before.

@@ -3,3 +3,4 @@ pub mod Desking
 pub mod Ends
 pub mod AnySession
 pub mod Meaning
+pub mod Wanted

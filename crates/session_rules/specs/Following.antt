@@ -32,8 +32,9 @@ pub record Tries : Type 0 where
   pub count : ℕ
 
 -- How a validator stands: its state machine, how many PA-TNC messages it has numbered, how many
--- requests it has made, the latest of the round, whether it wrote an SRETRY since the last CDATA
--- that it heard, how many rounds have ended, what is noted, and how the session ended, if it has.
+-- requests it has made, and the latest of the round. It remembers whether it wrote an SRETRY since
+-- the last CDATA that it heard, and how many rounds have ended. It has what is noted, and how the
+-- session ended, if it has.
 pub record Stand : Type 0 where
   pub machine : Position
   pub numbered : ℕ

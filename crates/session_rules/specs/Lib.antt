@@ -18,3 +18,4 @@ pub mod WorkedFaults
 pub mod WorkedEnds
 pub mod Meaning
 pub mod AnySession
+pub mod Wanted

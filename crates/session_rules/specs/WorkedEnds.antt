@@ -1,5 +1,6 @@
--- How sessions end and go on, where the exchanges of the other worked sessions do not reach: what
--- an end writes for turns of octets that were written by hand, and how it ended, if it has.
+-- How sessions end and go on, where the exchanges of the other worked sessions do not reach. Each
+-- row has turns of octets that were written by hand, what an end writes for them, and how it ended,
+-- if it has.
 use Rattle.std.specs.Prelude.{◌≡◌, ℕ, true, List, [], ◌∷◌, ◌++◌, Option, Some, None, drop, map, take}
 use Rattle.wire_base.specs.Turns.{Turn, Idle, Ended, turns_of}
 use Rattle.swima_model.specs.declared.report.Kind.TheVariants.{Ids}

@@ -31,7 +31,7 @@ validator octets = followed (empty_mirror Ids) one_round (turns_of octets)
 
 -- ---- faults of the batch (RFC 5793, section 4)
 
--- What reports a fault: the code, the place, and what the error tells of it.
+-- What reports a fault: the code, the place, and what the error says of it.
 abbrev pub Report : Type 0
 Report = ℕ × ℕ × List ℕ
 
@@ -133,7 +133,7 @@ LastMessageIsRefused = collector_refuses ((many_messages, (1, 776, 0x00 ∷ 0x00
 
 -- ---- faults of the message (RFC 5792, section 4.2.8)
 
--- A CDATA with a PA-TNC Error of a code, and what the Error tells.
+-- A CDATA with a PA-TNC Error of a code, and what the Error reports.
 abbrev pub error_with : ℕ → List ℕ → List ℕ
 error_with code info =
     0x02 ∷ 0x00 ∷ 0x00 ∷ 0x01 ∷ 0x00 ∷ 0x00 ∷ 0x00 ∷ (60 + length info)  -- version, direction, type and length of the batch

@@ -4,6 +4,7 @@
 ghost use Rattle.session_rules.specs.AnySession.{StaysRightInParts, StaysRightInSessions};
 ghost use Rattle.session_rules.specs.Meaning.{FollowedIsASession, FollowedIsSo, FollowedPartContinues, LaterEntriesChangeNoPart, LaterEntriesChangeNothing};
 ghost use Rattle.session_rules.specs.Meaning.{MarkedAsksForAll, OneOutcome, ServedIsASession, ServedIsSo, ServedPartContinues};
+ghost use Rattle.session_rules.specs.Wanted.{RequestsAreWanted};
 ghost use Rattle.session_rules.specs.Worked.{DoubledIsAskedThrice, HeaderIsTorn, InventoryIsAdopted, InventoryIsServed, OtherVersionIsRefused, SubscriptionIsDenied, SubscriptionIsFollowed, SubscriptionIsFulfilled, TurnsAreTaken};
 ghost use Rattle.session_rules.specs.WorkedEnds.{IdleTurnsEnd, LastOctetsEnd, PeerEnds, RequestsAreAnswered, RetriesAreHeard, RetriesCross, TooLargeIsAnswered};
 ghost use Rattle.session_rules.specs.WorkedEnds.{ValidatorAnswers, ValidatorEnds, ValidatorHearsErrors, ValidatorRetries, WantedReportsEnd};
@@ -57,6 +58,11 @@ pub fn followed_part_continues()
 /// While the mark of its mirror is set, each request of a validator is for the inventory.
 pub fn marked_asks_for_all()
     ensures law { MarkedAsksForAll }
+{}
+
+/// Each batch of a validator has at most one request, which asks for what its mirror wants then.
+pub fn requests_are_wanted()
+    ensures law { RequestsAreWanted }
 {}
 
 /// A mirror that was right stays right in a session with an honest collector, wherever it ends.

@@ -17,10 +17,10 @@
 //!
 //! | file of `specs/` | what it says |
 //! |---|---|
-//! | `Numbers` | the numbers of RFC 8412, and those that sessions write |
+//! | `Numbers` | the numbers that sessions write and count |
 //! | `Verdict` | what an end does with a batch before it looks into it |
 //! | `Saying`, `Messages` | what a PA-TNC message says, and what is written of one |
-//! | `Subscriptions`, `Status` | subscriptions, and the attribute that lists them |
+//! | `Subscriptions` | the subscriptions of a session |
 //! | `Questions` | what a collector asks its desk |
 //! | `Serving`, `Answering`, `ServeRules` | the collector: its standing, its answers, its rules |
 //! | `Following`, `Taking`, `FollowRules` | the validator: its standing, what it takes, its rules |

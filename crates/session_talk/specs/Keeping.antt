@@ -19,8 +19,9 @@ NotesAre answers given (Ask question talk) (place ∷ places) = NotesAre answers
 NotesAre answers given (Write octets talk) places = NotesAre answers given talk places
 NotesAre answers given (Note note talk) places = given note × NotesAre answers given talk places
 
--- What is written along a talk is as `so` says, by what was noted last before it, and the talk comes
--- to a value of which `then_so` is true by what was noted last then. Before it `last` was noted.
+-- What is written along a talk is as `so` says, by what was noted last before it, and the talk
+-- comes to a value of which `then_so` is true by what was noted last then. Before it `last` was
+-- noted.
 abbrev pub Writes : {Q : Type 0} {R : Q → Type 0} {N A : Type 0} → (N → List ℕ → Type 0) → (N → A → Type 0) → N → Talk Q R N A → Type 0
 Writes so then_so last (Done value) = then_so last value
 Writes so then_so last (Ask question talk) = (reply : _) → Writes so then_so last (talk reply)

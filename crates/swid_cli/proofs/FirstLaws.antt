@@ -1,5 +1,5 @@
 -- What each answer on what stands first means.
-use Rattle.std.proofs.Common.{◌≡◌, ℕ, zero, suc, ◌<◌, ◌≤◌, ◌⊎◌, inl, inr, Bool, true, false, cond, eqb, List, [], ◌∷◌, length, take, drop, Option, Some, None, Err, refl, sym, ap, subst, ◌∙◌, arith, length-take}
+use Rattle.std.proofs.Common.{◌≡◌, ℕ, zero, suc, ◌<◌, ◌≤◌, ◌⊎◌, inl, inr, Bool, true, false, cond, eqb, List, [], ◌∷◌, length, take, drop, Option, Some, None, refl, sym, ap, subst, ◌∙◌, arith, length-take}
 use Rattle.std.specs.Prelude.{nat_lt, ◌==◌, ◌||◌}
 use Rattle.std.proofs.lemmas.Bool.{eqb-true, eqb-false, le-ltb, ltb-false, ltb-true}
 use Rattle.std.proofs.lemmas.List.{take_all, take-append-drop}
@@ -11,9 +11,10 @@ use Rattle.pa_attrs.specs.declared.header.Header.{Header}
 use Rattle.pa_attrs.specs.Numbers.{HEADER, INVALID_PARAMETER, MOST_OCTETS, NO_TYPE, NO_VENDOR, UNSUPPORTED_ATTRIBUTE}
 use Rattle.pa_attrs.specs.Header.{header_of}
 use Rattle.pa_attrs.specs.AttrForm.{header_for}
-use Rattle.pa_attrs.specs.Faults.{fault, row, first_shown, header_rows, is_refused, stream_header, unless}
+use Rattle.pa_attrs.specs.Faults.{fault, row, first_shown, header_rows, is_refused}
 use Rattle.pa_attrs.specs.Stream.{Front as Begun, More, Bad, Whole, front_of}
 use Rattle.pa_attrs.proofs.AttrLaws.{whole_is_attribute as first_is_attribute}
+use Rattle.pa_attrs.proofs.FirstFaults.{stream_err, stream_shown}
 use Rattle.pa_attrs.proofs.Headers.{stream_good}
 use Rattle.pa_attrs.proofs.Fronts.{front_bad, front_none, bad_is, whole_is, whole_less, whole_more, whole_within}
 use Rattle.swid_cli.specs.declared.mirror.first_attribute.Front.{Front}
@@ -41,24 +42,12 @@ refused_shows octets shows =
     let r = refused_by octets (nat_lt (length octets) HEADER) refl shows in
     record { header = r.0; first = rw r.1 refl }
 
-unless_bad : (found : Option AttrFault) (h : Header) (bad : AttrFault) → unless found h ≡ Err bad → found ≡ Some bad
-unless_bad None h bad e = absurd cc
-unless_bad (Some other) h bad e = cc
-
-stream_rows : (octets : List ℕ) (bad : AttrFault) → stream_header octets ≡ Err bad → first_shown (header_rows MOST_OCTETS (header_of octets)) ≡ Some bad
-unfolding stream_header
-stream_rows octets bad e = unless_bad (first_shown (header_rows MOST_OCTETS (header_of octets))) (header_of octets) bad e
-
-rows_stream : (octets : List ℕ) (bad : AttrFault) → first_shown (header_rows MOST_OCTETS (header_of octets)) ≡ Some bad → stream_header octets ≡ Err bad
-unfolding stream_header
-rows_stream octets bad e = ap (λ (found : Option AttrFault). unless found (header_of octets)) e
-
 -- So is a fault of any stream, where none is refused.
 bad_shows : (octets : List ℕ) (bad : AttrFault) → shows_refused octets ≡ false → front_of octets ≡ Bad bad → Shows bad octets
 bad_shows octets bad passed is =
     let b = bad_is octets bad is in
     let known : is_refused REPORT_TYPES (header_of octets) ≡ false = sym (long_shows octets b.0) ∙ passed in
-    record { header = b.0; first = rw known (stream_rows octets bad b.1) }
+    record { header = b.0; first = rw known (stream_shown octets bad b.1) }
 
 near_by : (a b c : Bool) (bad : AttrFault) → first_shown (row a INVALID_PARAMETER 1 ∷ row b INVALID_PARAMETER 4 ∷ row c INVALID_PARAMETER 8 ∷ []) ≡ Some bad → bad.at < HEADER
 near_by true b c bad e = let same : fault INVALID_PARAMETER 1 ≡ bad = cc in omega (arith, ap (λ (f : AttrFault). f.at) (sym same))
@@ -70,7 +59,7 @@ near_by false false false bad e = absurd cc
 pub bad_near : (octets : List ℕ) (bad : AttrFault) → front_of octets ≡ Bad bad → bad.at < HEADER
 bad_near octets bad is =
     let h : Header = header_of octets in
-    near_by (h.vendor == NO_VENDOR) (h.kind == NO_TYPE) (nat_lt h.octets HEADER || nat_lt MOST_OCTETS h.octets) bad (stream_rows octets bad (bad_is octets bad is).1)
+    near_by (h.vendor == NO_VENDOR) (h.kind == NO_TYPE) (nat_lt h.octets HEADER || nat_lt MOST_OCTETS h.octets) bad (stream_shown octets bad (bad_is octets bad is).1)
 
 same_fault : (test : Bool) (one : AttrFault) (others : Option AttrFault) (bad : AttrFault) → cond test (Some one) others ≡ Some bad → ((test ≡ true) × (one ≡ bad)) ⊎ ((test ≡ false) × (others ≡ Some bad))
 same_fault true one others bad e = inl (refl, cc)
@@ -81,7 +70,7 @@ shows_is : (octets : List ℕ) (bad : AttrFault) → Shows bad octets → ((show
 shows_is octets bad shows =
     elim (same_fault (is_refused REPORT_TYPES (header_of octets)) (fault UNSUPPORTED_ATTRIBUTE 0) (first_shown (header_rows MOST_OCTETS (header_of octets))) bad shows.first) [
       | inl one ↦ inl (long_shows octets shows.header ∙ one.0, one.1)
-      | inr others ↦ inr (long_shows octets shows.header ∙ others.0, front_bad octets bad shows.header (rows_stream octets bad others.1))
+      | inr others ↦ inr (long_shows octets shows.header ∙ others.0, front_bad octets bad shows.header (stream_err octets bad others.1))
     ]
 
 more_bad : (bad : AttrFault) → ◌≡◌ {A = Begun} More (Bad bad) → ⊥

@@ -21,8 +21,8 @@ TakesFirst room octets after first = (first ≡ first_of room octets) × (after 
 abbrev pub TakesFront : ℕ → Option (List ℕ) → Option (List ℕ) → Front → Type 0
 TakesFront room before after first = (octets : List ℕ) → before ≡ Some octets → TakesFirst room octets after first
 
--- A feed has begun an attribute of that many octets: the header is there, without a fault and of an
--- attribute that is not refused, some octets are wanting, and all that it holds may be looked at.
+-- A feed has begun an attribute of that many octets. The header is there, without a fault and of an
+-- attribute that is not refused. Some octets are missing, and all that it holds may be looked at.
 pub record IsBegun (room len : ℕ) (feed : Feeding) : Type 0 where
   pub goes : feed.stopped ≡ None
   pub header : HEADER ≤ length feed.octets

@@ -17,7 +17,7 @@ pub data BeginsTags (octets : List ℕ) : List Tag → List ℕ → Type 0 where
   no_tags : BeginsTags octets [] octets
   one_more : (gs : List Tag) (rest : List ℕ) (g : Tag) (len : ℕ) → BeginsTags octets gs rest → BeginsTag rest g len → BeginsTags octets (gs ++ g ∷ []) (drop len rest)
 
--- After that many tags `rest` stands, and no other tag is read from it: nothing is there, or the
+-- After that many tags `rest` stands, and no other tag is read from it. Nothing is there, or the
 -- tags are as many as a list may have, or it begins with no item, or with one that is no tag.
 abbrev pub StandsBehind : ℕ → List ℕ → Behind → Type 0
 StandsBehind count rest behind.Nothing = (count ≤ LIST_TAGS) × (rest ≡ [])

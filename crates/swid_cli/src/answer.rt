@@ -11,7 +11,7 @@ use wire_base::{Memory, Octets};
 
 /// A text, and how the output ends with it.
 #[derive(Debug, Drop)]
-pub struct Answer {
+pub(crate) struct Answer {
     /// What is printed.
     pub text: Octets,
     /// How it ends.
@@ -19,7 +19,7 @@ pub struct Answer {
 }
 
 /// The answer to an input that is refused.
-pub fn refused(text: Octets) -> Answer
+pub(crate) fn refused(text: Octets) -> Answer
     ensures refused { result ≡ refusal_answer text }
 {
     Answer {
@@ -30,14 +30,14 @@ pub fn refused(text: Octets) -> Answer
 
 /// The answer to an input that is longer than it may be, or has more parts: the most that it may
 /// have.
-pub fn beyond_limit(alloc: Global, most: usize) -> Result<Answer, Memory>
+pub(crate) fn beyond_limit(alloc: Global, most: usize) -> Result<Answer, Memory>
     ensures limit { IfOk result (λ made. made ≡ limit_answer most) }
 {
     Ok(refused(refusal(alloc, "limit", most as u64)?))
 }
 
 /// How the text of an input ends in which all this is wrong.
-pub fn ending_of<T>(wrong: &[T]) -> Ending
+pub(crate) fn ending_of<T>(wrong: &[T]) -> Ending
     ensures ending { result ≡ ending_of wrong.now }
 {
     if wrong.is_empty() {

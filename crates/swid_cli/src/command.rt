@@ -8,7 +8,7 @@ use swima_model::Kind;
 
 /// A command that waits for nobody.
 #[derive(Clone, Copy, Debug, PartialEq, Eq)]
-pub enum Command {
+pub(crate) enum Command {
     /// `mirror ids` or `mirror full`: take the reports of a kind that come in, and show what a
     /// mirror holds then.
     Mirror(Kind),
@@ -20,7 +20,7 @@ pub enum Command {
 }
 
 /// The command that the words say; `None` exactly where they are no command line.
-pub fn command_of(words: &[&str]) -> Option<Command>
+pub(crate) fn command_of(words: &[&str]) -> Option<Command>
     ensures known { IsSome result ↔ IsCommandLine (map (λ word. word.now) words.now) }
     ensures said { IfSome result (λ command. Says command (map (λ word. word.now) words.now)) }
 {

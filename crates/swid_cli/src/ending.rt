@@ -2,7 +2,7 @@
 
 /// How the output ends.
 #[derive(Clone, Copy, Debug, PartialEq, Eq)]
-pub enum Ending {
+pub(crate) enum Ending {
     /// The input was read to its end.
     Whole,
     /// The input was refused.

@@ -41,9 +41,9 @@ pub fn whole_is_attribute()
     ensures law { WholeIsAttribute }
 {}
 
-/// Where each report of the kind in an input that is not refused answers from one honest history,
-/// what is printed ends with the text of a mirror of the kind that holds exactly what this history
-/// has live at the mirror's point.
+/// Of an input that is not refused, let each report of the kind answer from one honest history.
+/// Then what is printed ends with the text of a mirror of the kind. It holds exactly what this
+/// history has live at the mirror's point.
 pub fn printed_mirror_is_right()
     ensures law { PrintedMirrorIsRight }
 {}

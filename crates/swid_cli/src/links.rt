@@ -31,7 +31,7 @@ const MOST_LIST_OCTETS: usize = 67_108_864;
 
 /// Reads tags one after another, to the end of the input, and prints what is wrong between them, or
 /// what is no tag.
-pub fn links<S: Source, K: Sink>(
+pub(crate) fn links<S: Source, K: Sink>(
     alloc: Global,
     input: &mut S,
     output: &mut K,

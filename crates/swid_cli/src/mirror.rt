@@ -19,7 +19,7 @@ use wire_base::{Sink, Source, Stopped, write_all};
 
 /// Lets a mirror of `kind` take the attributes of the input one after another, and prints what it
 /// answers to each and, at the end, what it holds.
-pub fn mirror<S: Source, K: Sink>(
+pub(crate) fn mirror<S: Source, K: Sink>(
     alloc: Global,
     kind: Kind,
     input: &mut S,

@@ -23,9 +23,15 @@ use wire_base::{Files, Sink, Source, Stopped, write_all};
 const USAGE: &[u8; 6] = b"usage\n";
 
 /// Does what the words of the command line say, over the objects of the outside that it is lent,
-/// and answers the status: 2 exactly where the words are no command line; else 4 where memory ran
-/// out; else 3 exactly where a count of faults rose; else 1 exactly where the input was refused,
-/// or something is wrong with what it holds; else 0, and then the input was read to its end.
+/// and answers the status. The first row that holds is the one:
+///
+/// | status | when |
+/// |---|---|
+/// | 2 | exactly where the words are no command line |
+/// | 4 | memory ran out |
+/// | 3 | exactly where a count of faults rose |
+/// | 1 | exactly where the input was refused, or something is wrong with what it holds |
+/// | 0 | else, and then the input was read to its end |
 pub fn run_plain<S: Source, K: Sink, F: Files>(
     alloc: Global,
     words: &[&str],
@@ -42,8 +48,8 @@ pub fn run_plain<S: Source, K: Sink, F: Files>(
         ⊎ Rose (K.faults output.old) (K.faults output.new) }
     ensures usage_input { result ≡ 2 → input.new ≡ input.old }
 
-    // Words that are one: of an input that exposes its octets, the text, the status and what is
-    // left of the input are those of the command that the words say; where a call failed or memory
+    // Words that are one. Of an input that exposes its octets, the text, the status and what is
+    // left of the input are those of the command that the words say. Where a call failed or memory
     // ran out, a prefix of the text was printed.
     ensures printed { result ≢ 2 → result ≢ 3 → result ≢ 4
         → IfSome (S.left input.old) (λ octets. (told : Printed)
@@ -79,10 +85,9 @@ pub fn run_plain<S: Source, K: Sink, F: Files>(
     ensures no_files_fault { result ≢ 3 → F.faults files.new ≡ F.faults files.old }
     ensures input_count { S.faults input.old ≤ S.faults input.new }
     ensures output_count { K.faults output.old ≤ K.faults output.new }
-
     ensures files_count { F.faults files.old ≤ F.faults files.new }
-
     ensures status { result ≤ 4 }
+
     // Files are left as they are, and nothing but `tag verify` looks at them.
     ensures contents { F.contents files.new ≡ F.contents files.old }
     ensures files { ¬ IsTagVerify (map (λ word. word.now) words.now) → files.new ≡ files.old }

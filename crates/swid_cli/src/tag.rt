@@ -34,7 +34,7 @@ const MOST_TAG_OCTETS: usize = 8_388_608;
 
 /// Reads one tag, to the end of the input, and prints its text, or why there is none. Where
 /// `looks_at_files`, the text has a verdict on each file of its payload.
-pub fn tag<S: Source, K: Sink, F: Files>(
+pub(crate) fn tag<S: Source, K: Sink, F: Files>(
     alloc: Global,
     looks_at_files: bool,
     input: &mut S,

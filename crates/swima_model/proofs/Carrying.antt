@@ -1,4 +1,4 @@
--- What the test of a deletion's content tells, and the same of reports of a kind.
+-- When the test of a deletion's content is true, and the same of reports of a kind.
 use Rattle.std.proofs.Common.{◌≡◌, ◌⊎◌, inl, inr, ℕ, eqb, ◌&&◌, ◌||◌, not, Bool, true, false, List, [], Option, Some, None, refl, sym, ap, ◌∙◌, bytes_eq, eqb-true, eq-eqb}
 use Rattle.std.specs.Prelude.{option_map}
 use Rattle.std.proofs.lemmas.Bool.{not-false, or_left, or_right, true≢false}

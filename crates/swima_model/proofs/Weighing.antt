@@ -52,7 +52,8 @@ module _ (w : Record → ℕ) where
       ap (λ (found : List Record). sum_by w (but id rs) + sum_by w found) (sym (strict_of_id id rs up))
       ∙ sum_by-filter_both (λ (r : Record). not (eqb r.id id)) (λ (r : Record). eqb r.id id) (λ r. twice (eqb r.id id)) w rs
 
-  -- What is live after an event weighs what was live, and what the event says, without what was live of its record.
+  -- What is live after an event weighs what was live, and what the event says, without what was
+  -- live of its record.
   pub weighed : (rs : List Record) (e : Event) → IsStrictlyIncreasing (ids rs)
       → sum_by w (live rs (e ∷ [])) + sum_by w (option_to_list (record_of e.subject.id rs)) ≡ sum_by w rs + sum_by w (option_to_list (by_mention None (Some e)))
   weighed rs e up =

@@ -18,6 +18,6 @@ carries held carried =
     (carried.model.pen == held.model.pen) && (carried.model.kind == held.model.kind) && (carried.source == held.source)
     && bytes_eq carried.ident held.ident && bytes_eq carried.locator held.locator && (is_empty carried.body || bytes_eq carried.body held.body)
 
--- The test tells exactly that.
+-- The test is true exactly there.
 abbrev pub CarriesIsTested : Type 0
 CarriesIsTested = (held carried : Content) → (carries held carried ≡ true) ↔ Carries held carried

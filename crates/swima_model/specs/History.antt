@@ -44,8 +44,8 @@ is_contradiction Creation held content = is_some held
 is_contradiction Deletion held content = not (is_carried held content)
 is_contradiction Alteration held content = not (is_some held)
 
--- The event contradicts what is live before it: it creates a record that is live, alters or deletes
--- one that is not, or deletes one with another content than the live one, where an empty body
+-- The event contradicts what is live before it. It creates a record that is live, alters or deletes
+-- one that is not, or deletes one with another content than the live one. There an empty body
 -- counts as equal.
 abbrev pub contradicts : List Record → Event → Bool
 contradicts records event = is_contradiction event.action (record_of event.subject.id records) event.subject.content
@@ -62,7 +62,7 @@ pub record FitsBehind (base : List Record) (before : List Event) (event : Event)
   pub fits : are_large (live base (before ++ event ∷ [])) ≡ false
 
 -- An epoch is honest where its number is not 0, the identifiers of its base rise and its base is
--- not too much, the identifiers of its events are 1, 2, 3 and so on and fit four octets, and each
+-- not too much. The identifiers of its events are 1, 2, 3 and so on and fit four octets, and each
 -- event fits after those before it.
 pub record IsHonestEpoch (epoch : Epoch) : Type 0 where
   pub numbered : 0 < epoch.number

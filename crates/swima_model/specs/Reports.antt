@@ -21,8 +21,8 @@ abbrev pub MOST_REPORT_OCTETS : ℕ
 MOST_REPORT_OCTETS = 16777000
 
 -- The report fits the value of one attribute: three octets hold the number of its records or
--- events, its octets are within the limit, its times are stamps, and it consulted no event after
--- its point.
+-- events, and its octets are within the limit. Its times are stamps, and it consulted no event
+-- after its point.
 pub record FitsAttribute (report : Report) : Type 0 where
   pub count : report_count report < 2 ^ 24
   pub within : report_size report ≤ MOST_REPORT_OCTETS

@@ -80,7 +80,7 @@ impl<L: Limit> Bounded<L> {
         requires { length bytes.now ≤ L.OCTETS }
         ensures octets { IfOk result (λ made. made ≡ bytes.now) }
     {
-        let octets = List::from_vec(Vec::from_slice(alloc, bytes)?);
+        let octets = List::from_slice(alloc, bytes)?;
         Ok(Bounded {
             octets,
             limit: PhantomData,

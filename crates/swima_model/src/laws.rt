@@ -19,9 +19,9 @@ pub fn in_order_is_rising_permutation()
     ensures law { InOrderIsRisingPermutation }
 {}
 
-/// Over records of rising identifiers, the records that are live after some events are those of
-/// rising identifiers of which each is what the last mention of its identifier says, or without a
-/// mention what stood before; and no other list is.
+/// Over records of rising identifiers, the records that are live after some events are given by the
+/// last mention of each identifier. Each record is what that mention says, or what it was before
+/// where there is none. Their identifiers rise too, and no other list is so.
 pub fn live_is_last_mention()
     ensures law { LiveIsLastMention }
 {}
@@ -33,8 +33,8 @@ pub fn fulfilling_is_alike()
     ensures law { FulfillingIsAlike }
 {}
 
-/// The test that a deletion's content is the one that is held tells exactly that they are one, or
-/// differ in that the body is left out.
+/// The test that a deletion's content is the one that is held is true exactly where they are one,
+/// or differ in that the body is left out.
 pub fn carries_is_tested()
     ensures law { CarriesIsTested }
 {}

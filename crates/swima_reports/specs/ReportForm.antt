@@ -115,7 +115,7 @@ abbrev pub IsCarried : ℕ → Report → Type 0
 IsCarried attr_type report = (report_type report ≡ attr_type) × CanBeWritten report
 
 -- The first fault of the value of an attribute of the type, of which the first octet stands at
--- `base`, is at the place: the octets before it are the first fields of some report, and
--- after them they go on as no report does.
+-- `base`, is at the place. The octets before it are the first fields of some report, and after them
+-- they go on as no report does.
 abbrev pub ReportFault : ℕ → ℕ → List ℕ → ℕ → Type 0
 ReportFault attr_type base octets place = FirstFault report_fields (IsCarried attr_type) base octets place

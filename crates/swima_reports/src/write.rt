@@ -5,21 +5,20 @@ ghost use Rattle.swima_model.specs.Reports.{ConsultsWithin, HasStamps};
 ghost use Rattle.swima_model.specs.Size.{report_count, report_size};
 ghost use Rattle.swima_model.specs.declared.event.Event.{Event as EventValue};
 ghost use Rattle.swima_model.specs.declared.report.Report.TheVariants.{Inventory, Events as Changes};
-ghost use Rattle.swima_reports.specs.ReportForm.{FULFIL as FULFIL_FLAG, ReportForm};
+ghost use Rattle.swima_reports.specs.ReportForm.{ReportForm};
 ghost use Rattle.swima_reports.specs.ReportType.{report_type};
 ghost use Rattle.swima_reports.specs.Written.{IsWritable, carried, written_report};
 ghost use Rattle.wire_base.specs.Stamp.{IsStamp};
-ghost use Rattle.wire_base.specs.Written.{flags_octet};
 
 use crate::fields::FULFIL;
 use crate::writable::put_entries;
 use std::alloc::Global;
 use swima_model::{Events, Kind, Point, Records, Report, size_of};
-use wire_base::{List, Memory, Octets, put_u24, put_u32};
+use wire_base::{List, Memory, Octets, flag, put_u24, put_u32};
 
 /// The octets of a report: the value of the attribute that carries it, of the type that
-/// `report_type` gives (RFC 8412, sections 5.7 to 5.10), with 0 in the reserved octets and in the
-/// flags that have no meaning.
+/// `report_type` gives (RFC 8412, sections 5.7 to 5.10). The reserved octets and the flags that
+/// have no meaning are 0.
 ///
 /// Of a report of kind `Ids` no body is written. There are as many octets as `size_of` says, and
 /// `read_report` gives the report back, of kind `Ids` without bodies.
@@ -77,7 +76,7 @@ fn put_inventory(
     ensures appended { OnOk result (out.new ≡ out.old ++ written_report (Inventory kind fulfil id point records.now)) }
     ensures writable { OnOk result (IsWritable (Inventory kind fulfil id point records.now)) }
 {
-    out.push(flags_of(fulfil))?;
+    out.push(flag(fulfil, FULFIL))?;
     put_u24(out, records.len() as u32)?;
     put_u32(out, id)?;
     put_u32(out, point.epoch)?;
@@ -101,18 +100,11 @@ fn put_events(
     ensures appended { OnOk result (out.new ≡ out.old ++ written_report (Changes kind fulfil id point consulted events.now)) }
     ensures writable { OnOk result (IsWritable (Changes kind fulfil id point consulted events.now)) }
 {
-    out.push(flags_of(fulfil))?;
+    out.push(flag(fulfil, FULFIL))?;
     put_u24(out, events.len() as u32)?;
     put_u32(out, id)?;
     put_u32(out, point.epoch)?;
     put_u32(out, point.eid)?;
     put_u32(out, consulted)?;
     put_entries(out, kind, events)
-}
-
-/// The octet of flags.
-fn flags_of(fulfil: bool) -> u8
-    ensures flags { result ≡ flags_octet ((FULFIL_FLAG, fulfil) ∷ []) }
-{
-    if fulfil { FULFIL } else { 0 }
 }

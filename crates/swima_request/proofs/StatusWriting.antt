@@ -19,7 +19,7 @@ written_is_counted requests = omega (arith, length-each request_fields request_o
 pub form_is_counted : FormIsCounted
 form_is_counted requests octets form = length-form (status_fields requests) octets form ∙ written_is_counted requests
 
--- Each of requests that have so many octets has no more targets than that many octets allow.
+-- Requests have less than `most` octets together, so each of them has fewer targets than that.
 each_within : (most : ℕ) (requests : List Request) → sum_by request_octets requests < most → AllByRecursion (λ (request : Request). length request.targets < most) requests
 each_within most [] within = tt
 each_within most (first ∷ others) within =

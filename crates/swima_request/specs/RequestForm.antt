@@ -43,8 +43,8 @@ request_fields request =
 abbrev pub RequestForm : Request → List ℕ → Type 0
 RequestForm request octets = Form (request_fields request) octets
 
--- The first fault of the octets, of which the first stands at `base`, is at the place: those
--- before it are the first fields of some request, and after them they go on as no request does.
+-- The first fault of the octets, of which the first stands at `base`, is at the place. Those before
+-- it are the first fields of some request, and after them they go on as no request does.
 abbrev pub RequestFault : ℕ → List ℕ → ℕ → Type 0
 RequestFault base octets place = FirstFault request_fields (λ request. Unit {0}) base octets place
 

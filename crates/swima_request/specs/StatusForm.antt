@@ -22,8 +22,8 @@ status_fields requests =
 abbrev pub StatusForm : List Request → List ℕ → Type 0
 StatusForm requests octets = Form (status_fields requests) octets
 
--- The first fault of the octets, of which the first stands at `base`, is at the place: those
--- before it are the first fields of some subscriptions, and after them they go on as none do.
+-- The first fault of the octets, of which the first stands at `base`, is at the place. Those before
+-- it are the first fields of some subscriptions, and after them they go on as none do.
 abbrev pub StatusFault : ℕ → List ℕ → ℕ → Type 0
 StatusFault base octets place = FirstFault status_fields (λ requests. Unit {0}) base octets place
 

@@ -8,9 +8,9 @@ pub fn reading_is_form()
     ensures law { ReadingIsForm }
 {}
 
-/// The layout read field by field says a fault at a place exactly where that is the first one: the
-/// octets before it are the first fields of a request, and after them they go on as no
-/// request does.
+/// The layout read field by field says a fault at a place exactly where that is the first one. The
+/// octets before it are the first fields of a request, and after them they go on as no request
+/// does.
 pub fn fault_is_first()
     ensures law { FaultIsFirst }
 {}

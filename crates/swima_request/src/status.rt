@@ -51,8 +51,8 @@ fn status(alloc: Global, mut cursor: Cursor) -> Result<Requests, FieldRefused>
 }
 
 /// The octets of the requests that established the subscriptions of a session: the value of the
-/// attribute of type `SUBSCRIPTION_STATUS_RESPONSE` that says them (RFC 8412, section 5.12), with 0
-/// in the flags that have no meaning. `status_fits` of 16,777,000 is the test for `within`.
+/// attribute of type `SUBSCRIPTION_STATUS_RESPONSE` that says them (RFC 8412, section 5.12). The
+/// flags that have no meaning are 0. `status_fits` of 16,777,000 is the test for `within`.
 pub fn write_status(alloc: Global, requests: &Requests) -> Result<Octets, Memory>
     requires within { status_octets requests.now ≤ 16777000 }
     ensures octets { IfOk result (λ made. made ≡ written_status requests.now) }

@@ -8,7 +8,7 @@ pub fn status_reading_is_form()
     ensures law { ReadingIsForm }
 {}
 
-/// The layout read field by field says a fault at a place exactly where that is the first one: the
+/// The layout read field by field says a fault at a place exactly where that is the first one. The
 /// octets before it are the first fields of some subscriptions, and after them they go on as none
 /// do.
 pub fn status_fault_is_first()

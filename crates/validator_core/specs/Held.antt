@@ -5,9 +5,9 @@ use Rattle.swima_model.specs.declared.record.Record.{Record}
 use Rattle.swima_model.specs.declared.report.Kind.{Kind}
 use Rattle.swima_model.specs.declared.report.Point.{Point}
 
--- The kind of the reports that it takes, the point at which its records stood (none before the
--- first inventory), the records in order of identifier, and a mark that says that it has met a
--- report which does not fit what it holds.
+-- What a mirror holds: the kind of the reports that it takes, the point at which its records stood
+-- (none before the first inventory), and the records in order of identifier. The mark says that it
+-- has met a report which does not fit what it holds.
 pub record Held : Type 0 where
   pub kind : Kind
   pub point : Option Point

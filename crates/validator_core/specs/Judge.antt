@@ -30,7 +30,7 @@ marked mirror = record mirror { off = true }
 
 -- ---- an inventory (RFC 8412, section 5.7)
 
--- An inventory of this point has nothing new: it is of the epoch that is held, and its event
+-- An inventory of this point has nothing new. It is of the epoch that is held, and its event
 -- identifier is below the one that is held, or the same while the mark is not set.
 abbrev pub is_stale : Option Point → Bool → Point → Bool
 is_stale None off point = false

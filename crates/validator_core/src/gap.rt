@@ -5,10 +5,10 @@ ghost use Rattle.validator_core.specs.Following.{gap};
 
 use swima_model::Event;
 
-/// The first gap between the event identifier `held` and `consulted`, which is not below it: the
-/// first event identifier above `held` that is not the next one up to `consulted`; 0 where the
-/// events end before `consulted`. Events that are not above `held` are passed over. It takes no
-/// memory.
+/// The first gap between the event identifier `held` and `consulted`, which is not below it. That
+/// is the first event identifier above `held` that is not the next one up to `consulted`, or 0
+/// where the events end before `consulted`. Events that are not above `held` are passed over. It
+/// takes no memory.
 pub(crate) fn gap(held: u32, consulted: u32, events: &[Event]) -> Option<u32>
     requires behind { held ≤ consulted }
     ensures gap { result ≡ gap held consulted events.now }

@@ -15,10 +15,9 @@ pub fn judged_again_changes_nothing()
     ensures law { JudgedAgainChangesNothing }
 {}
 
-/// Where a history grows, each mirror that was right over it still is, and so does each inventory
-/// that answered from it still answer; and each report of events too, where the event identifiers
-/// of the new events are above the number of those before them, as they are where the history is
-/// honest then.
+/// Where a history grows, each mirror that was right over it still is, and each inventory that
+/// answered from it still answers. So does each report of events, if the event identifiers of the
+/// new events are above the number of those before them. They are where the history is honest then.
 pub fn growth_keeps()
     ensures right { GrowthKeepsRight }
     ensures answers { GrowthKeepsAnswers }

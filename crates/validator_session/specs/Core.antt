@@ -57,9 +57,9 @@ spends s false = s
 abbrev pub counted_octets : List ℕ → ℕ
 counted_octets octets = min (length octets) (2 ^ 64 - 1)
 
--- The core stands where the session with this mirror is after these turns: the octets that were
--- carried away, and after them those that wait, are those of the session; and so are the standing
--- and the mirror.
+-- The core stands where the session with this mirror is after these turns. The octets that were
+-- carried away, and after them those that wait, are those of the session. The standing and the
+-- mirror are those of the session too.
 pub record Stood (c : FollowConfig) (mirror : Held) (turns : List Turn) (carried : List ℕ) (core : Core) (now : Held) : Type 0 where
   pub gives : (replies : Answers NoQuestion NoReply) → Gives replies (session c mirror turns) [] (carried ++ core.end.out) (stand_of core.end.standing now)
   pub hears : is_some (over_of core) ≡ false → (heard false c.octets turns).1 ≡ Hears core.feed.feeding.octets core.quiet (received_of core)

@@ -4,7 +4,9 @@
 --
 --     item_exact : Exact read_item (λ item. item) item_fields (λ item. Unit {0}) Anything
 --     unfolding read_item
---     item_exact = then_number λ id. then_counted λ text. gives (record { id = id; text = text }) refl (assumption refl) (λ item h. cc (item_is item))
+--     item_exact = then_number λ id. then_counted λ text.
+--       gives (record { id = id; text = text }) refl (assumption refl)
+--         (λ item h. cc (item_is item))
 --
 -- where `item_is item : item ≡ record { id = item.id; text = item.text }` is `refl`. `gives` and
 -- `ends` take the parts that the value is made of, that they make it, what holds of them, and that

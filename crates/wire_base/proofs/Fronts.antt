@@ -68,8 +68,8 @@ valued_not_more len (Err fault) e = absurd cc
 
 -- ---- more octets
 
--- What values have for their prefixes to stay: a header, and a value of which all octets are there,
--- are the same whatever follows; a value has at least the octets of its header, which are some.
+-- What values have for their prefixes to stay. A header, and a value of which all octets are there,
+-- are the same whatever follows. A value has at least the octets of its header, which are some.
 pub record IsLasting {H V F : Type 0} (values : Headed H V F) : Type 0 where
   pub some : 0 < values.size
   pub header : (octets more : List ℕ) → values.size ≤ length octets → values.header (octets ++ more) ≡ values.header octets

@@ -21,8 +21,8 @@ abbrev pub GoesOn : (List ℕ → Type 0) → List Field → List ℕ → Type 0
 GoesOn follows [] left = follows left
 GoesOn follows (field ∷ others) left = (front : List ℕ) × (rest : List ℕ) × (left ≡ front ++ rest) × FieldForm field front
 
--- Octets, of which the first stands at `base`, stop at the place: those before it are the
--- first fields of some value, and what is left there goes on as no value does that has these fields
+-- Octets, of which the first stands at `base`, stop at the place. Those before it are the first
+-- fields of some value, and what is left there goes on as no value does that has these fields
 -- first.
 pub record Stops {V : Type 0} (fields : V → List Field) (holds : V → Type 0) (follows : List ℕ → Type 0) (base : ℕ) (octets : List ℕ) (place : ℕ) : Type 0 where
   pub firsts : List Field

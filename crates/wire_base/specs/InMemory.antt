@@ -94,8 +94,8 @@ Moved before after took.Failed buffer = ⊥
 -- ---- doors
 
 -- A door in memory: the links that are left and those that went back, what the last call answered,
--- whether a link is out, and its calls as a source has them, with the faults of the links that went
--- back.
+-- and whether a link is out. It has its calls as a source has them, with the faults of the links
+-- that went back.
 pub record DoorInMemory : Type 0 where
   pub left : List LinkInMemory
   pub returned : List LinkInMemory

@@ -9,7 +9,8 @@ AreOctets octets = (i : ℕ) → slice_index octets i < 256
 -- A field, with what it says.
 --   Number size value     a number of that many octets, the most significant first
 --   Reserved size         that many octets that may be any
---   Flags flags           an octet of flags: of each, the bit that it is, and whether it is set; other bits may be any
+--   Flags flags           an octet of flags: of each its bit, and whether it is set; other bits
+--                         may be any
 --   Fixed size octets     these octets, of which there are that many
 --   Counted size octets   a length of that many octets, and then the octets that it counts
 pub data Field : Type 0 where

@@ -7,7 +7,7 @@ use Rattle.wire_base.specs.Counter.{next}
 abbrev pub Rose : ℕ → ℕ → Type 0
 Rose before after = next before ≤ after
 
--- The two halves of a fault's cause, over the count of faults before and after a call: where the
+-- The two halves of a fault's cause, over the count of faults before and after a call. Where the
 -- call answered a fault the count rose, and where it answered none the count is as it was. In no
 -- case does it fall.
 pub record HasCause (before after : ℕ) (faulted : Bool) : Type 0 where

@@ -1,5 +1,5 @@
 -- Reading a value field by field. A reader takes the octets of its field from the start of what is
--- left, or stops at the place of the first fault; a block of readers names the fields of a layout
+-- left, or stops at the place of the first fault. A block of readers names the fields of a layout
 -- in the order of its figure.
 use Rattle.std.specs.Prelude.{◌≡◌, ◌==◌, ◌+◌, ℕ, zero, suc, List, [], ◌∷◌, Bool, Option, Some, None, Result, Ok, Err, length, take, drop, nat_lt, if◌then◌else◌}
 use Rattle.wire_base.specs.declared.layout.placed.Placed.{Placed}

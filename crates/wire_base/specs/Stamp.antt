@@ -1,6 +1,6 @@
 -- Stamps: a date and a time of day in UTC as twenty characters, `YYYY-MM-DDThh:mm:ssZ` (RFC 8412,
--- section 5.8, which takes the form of RFC 3339, section 5.6, with capital letters and without
--- fractions of a second).
+-- section 5.8). The form is that of RFC 3339, section 5.6, with capital letters and without
+-- fractions of a second.
 use Rattle.std.specs.Prelude.{◌≡◌, ◌↔◌, ◌⊎◌, ◌+◌, ◌-◌, ◌*◌, ◌/◌, ◌%◌, ◌<◌, ◌≤◌, ◌&&◌, ◌||◌, ℕ, zero, suc, Bool, List, [], ◌∷◌, ◌++◌, Result, Ok, Err, IsTrue, fold, codes, nat_lt, nat_le, pos, slice_range}
 use Rattle.std.specs.Str.{bytes_eq}
 use Rattle.jiff.specs.Types.{DateTime}

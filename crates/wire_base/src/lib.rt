@@ -1,24 +1,59 @@
-//! What every crate stands on, in three folders: the outside as traits with memory forms and
-//! adapters; values, among them the one list type, texts and stamps; and the layout of messages:
-//! numbers, and the cursor that reads fields.
+//! What every crate stands on, in three folders. `outside` has the outside as traits, with memory
+//! forms and adapters. `values` has the one list type, texts and stamps. `layout` has numbers in
+//! messages, and the cursor that reads fields.
 //!
 //! It stands on std, on `jiff` for the calendar, and on `thiserror` for the texts of errors. The
-//! crates above rest on
+//! crates above rest on:
+//!
 //! - `reads`, `writes` and `cause` of `Source` and `Sink`: what was left or written, and faults
-//!   that are counted;
+//!   that are counted.
 //! - `takes`, `gives`, `cause` and `idle` of `Link`, `comes`, `returned` and `cause` of `Door`,
-//!   `moment` of `Clock`;
-//! - `answer`, `cause` and `reads` of `Files`;
+//!   `moment` of `Clock`.
+//! - `answer`, `cause` and `reads` of `Files`.
 //! - `field` of each method of `Cursor` and of `FieldReader::read`, and `several` of
-//!   `read_several`: what a reader gives, or the place of the first fault;
-//! - `appended` of `put_u8` and its kin, of `put_counted_u16` and of `put_counted_u32`;
+//!   `read_several`: what a reader gives, or the place of the first fault.
+//! - `appended` of `put_u8` and its kin, of `put_counted_u16` and of `put_counted_u32`.
 //! - `text` of `stamp_text`, `appended` of `push_escaped`, `stamp` of `is_stamp`, `octets` of
-//!   `read_escaped`, `number` of `read_decimal`;
+//!   `read_escaped`, `number` of `read_decimal`.
 //! - `equal` of `TryCopy::copy`.
 //!
-//! The words of these clauses are in `specs/`: `Outside`, `Passing`, `Turns`, `Doors`, `Clocks`,
-//! `NamedFile`, `Numbers`, `Layout`, `Reading`, `FirstFault`, `FaultTable`, `Feeding`, `Stamp`,
-//! `Written`, `Escaped`, `Texts`.
+//! | file of `outside/` | what it holds |
+//! |---|---|
+//! | `source.rt`, `sink.rt` | where octets come from, and where they go |
+//! | `link.rt`, `door.rt` | a connection between two ends, and where connections come from |
+//! | `files.rt`, `clock.rt` | files by their names, and the time of day |
+//! | `fill_and_write.rt` | octets from a source and into a sink, in as many calls as it takes |
+//! | `mem_*.rt`, `failing_calls.rt` | the memory forms, and the plan of their failing calls |
+//! | `no_fault_*.rt` | forms that never fail |
+//! | `file_source.rt`, `folder_files.rt`, `standard_streams.rt`, `system_clock.rt` | the system |
+//! | `tcp_link.rt`, `dial_door.rt`, `listen_door.rt` | connections of the system |
+//!
+//! | file of `values/` | what it holds |
+//! |---|---|
+//! | `list.rt`, `boxed.rt`, `text.rt` | lists, values in memory of their own, texts |
+//! | `memory.rt`, `text_refused.rt` | out of memory, and why a text is not read |
+//! | `decimal.rt`, `stamp.rt` | decimal numbers, and dates with times of day |
+//! | `escape.rt`, `unescape.rt` | octets as printable text, and back |
+//!
+//! | file of `layout/` | what it holds |
+//! |---|---|
+//! | `cursor.rt`, `field_reader.rt` | reading octets field by field, and several of one kind |
+//! | `field_refused.rt`, `placed.rt` | why octets are not read, and fields with their places |
+//! | `numbers.rt`, `flag.rt`, `counted_octets.rt` | numbers, flags, octets after their count |
+//!
+//! The words of the clauses are in `specs/`:
+//!
+//! | file | what it says |
+//! |---|---|
+//! | `Outside` | faults that are counted, and octets that are exposed |
+//! | `Passing` | what passes between the outside and octets that are held |
+//! | `Turns`, `Doors`, `Clocks`, `NamedFile` | the turns of a link, links, moments, files |
+//! | `InMemory`, `Adapter`, `SystemLinks`, `Unread` | what memory forms and adapters hold |
+//! | `Numbers`, `Layout`, `Written` | numbers, fields in order, and the one written form |
+//! | `Reading`, `FirstFault` | reading field by field, and the first fault of a layout |
+//! | `FaultTable`, `Feeding` | faults as tables, and values from octets in pieces |
+//! | `Stamp`, `Escaped`, `Texts` | stamps, printable text, texts that spell values |
+//! | `Spelling`, `Counter` | how the readers of texts go on; counters of 64 bits |
 #![tactic(auto)]
 
 pub mod laws;

@@ -110,7 +110,7 @@ fn copy_directories(directories: &List<DirEntry>) -> Result<List<DirEntry>, Memo
 }
 
 /// The table of directories.
-pub struct DirectoryTable;
+pub(crate) struct DirectoryTable;
 
 impl Mapped for DirectoryTable {
     type Value = DirEntry;

@@ -1,6 +1,6 @@
 //! Reading directories. The functions call one another as deep as the item is.
 //!
-//! They do by hand what `Key` and `MapForm` do for all other maps: the method of a trait has no
+//! They do by hand what `Key` and `MapForm` do for all other maps. The method of a trait has no
 //! proof in a cycle of calls, so the cycle is one of plain functions, and `DirectoryTable` calls
 //! into it. A `Key` of a form in the cycle would be in it too, so the two keys under which the next
 //! level stands, `path-elements` and `directory`, are numbers of `table` here.

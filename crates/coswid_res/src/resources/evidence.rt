@@ -121,9 +121,9 @@ pub fn evidence_of(alloc: Global, item: &Item) -> Result<Evidence, FormRefused>
     MapForm::<EvidenceTable>::read(alloc, item)
 }
 
-/// The item that the evidence is written as; `Memory` where there is no room. A value that was made
-/// by hand and is read from no item, as one with an empty list or with a listed key among its
-/// extras, is written all the same: no clause then says that the item is in its form.
+/// The item that the evidence is written as; `Memory` where there is no room. A value made by hand
+/// may be one that is read from no item, as one with an empty list or with a listed key among its
+/// extras. It is written all the same, and no clause then says that the item is in its form.
 pub fn evidence_item(alloc: Global, evidence: &Evidence) -> Result<Item, Memory>
     requires fits { EvidenceSizesFit evidence.now }
     ensures written { IfOk result (λ made. view made ≡ evidence_item evidence.now) }

@@ -58,7 +58,7 @@ impl TryCopy for FileEntry {
 }
 
 /// The table of files.
-pub struct FileTable;
+pub(crate) struct FileTable;
 
 impl Mapped for FileTable {
     type Value = FileEntry;

@@ -101,9 +101,9 @@ pub fn payload_of(alloc: Global, item: &Item) -> Result<Payload, FormRefused>
     MapForm::<PayloadTable>::read(alloc, item)
 }
 
-/// The item that the payload is written as; `Memory` where there is no room. A value that was made
-/// by hand and is read from no item, as one with an empty list or with a listed key among its
-/// extras, is written all the same: no clause then says that the item is in its form.
+/// The item that the payload is written as; `Memory` where there is no room. A value made by hand
+/// may be one that is read from no item, as one with an empty list or with a listed key among its
+/// extras. It is written all the same, and no clause then says that the item is in its form.
 pub fn payload_item(alloc: Global, payload: &Payload) -> Result<Item, Memory>
     requires fits { PayloadSizesFit payload.now }
     ensures written { IfOk result (λ made. view made ≡ payload_item payload.now) }

@@ -36,7 +36,7 @@ impl TryCopy for ProcessEntry {
 }
 
 /// The table of processes.
-pub struct ProcessTable;
+pub(crate) struct ProcessTable;
 
 impl Mapped for ProcessTable {
     type Value = ProcessEntry;

@@ -34,7 +34,7 @@ impl TryCopy for ResourceEntry {
 }
 
 /// The table of resources.
-pub struct ResourceTable;
+pub(crate) struct ResourceTable;
 
 impl Mapped for ResourceTable {
     type Value = ResourceEntry;

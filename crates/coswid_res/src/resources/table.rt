@@ -17,31 +17,31 @@ use crate::tables::value_forms::{BoolForm, HashForm, IntForm, TextForm, TimeForm
 // Files and directories.
 
 /// `hash`.
-pub type Hash = Key<7, HashForm>;
+pub(crate) type Hash = Key<7, HashForm>;
 
 /// `size`.
-pub type Size = Key<20, UintForm>;
+pub(crate) type Size = Key<20, UintForm>;
 
 /// `file-version`.
-pub type FileVersion = Key<21, TextForm>;
+pub(crate) type FileVersion = Key<21, TextForm>;
 
 /// `key`.
-pub type IsKey = Key<22, BoolForm>;
+pub(crate) type IsKey = Key<22, BoolForm>;
 
 /// `location`, also of evidence.
-pub type Location = Key<23, TextForm>;
+pub(crate) type Location = Key<23, TextForm>;
 
 /// `fs-name`, required.
-pub type FsName = Key<24, TextForm>;
+pub(crate) type FsName = Key<24, TextForm>;
 
 /// `root`.
-pub type Root = Key<25, TextForm>;
+pub(crate) type Root = Key<25, TextForm>;
 
 /// `path-elements`, by its number alone, as `directory_read` says.
-pub const PATH_ELEMENTS: u32 = 26;
+pub(crate) const PATH_ELEMENTS: u32 = 26;
 
 /// The keys that the table of files lists.
-pub fn file_keys() -> [u32; 7]
+pub(crate) fn file_keys() -> [u32; 7]
     ensures keys { result ≡ keys_of (schema.table schema.file) }
 {
     [
@@ -56,7 +56,7 @@ pub fn file_keys() -> [u32; 7]
 }
 
 /// The keys that the table of directories lists.
-pub fn directory_keys() -> [u32; 5]
+pub(crate) fn directory_keys() -> [u32; 5]
     ensures keys { result ≡ keys_of (schema.table schema.directory) }
 {
     [
@@ -71,13 +71,13 @@ pub fn directory_keys() -> [u32; 5]
 // Processes.
 
 /// `process-name`, required.
-pub type ProcessName = Key<27, TextForm>;
+pub(crate) type ProcessName = Key<27, TextForm>;
 
 /// `pid`.
-pub type Pid = Key<28, IntForm>;
+pub(crate) type Pid = Key<28, IntForm>;
 
 /// The keys that the table of processes lists.
-pub fn process_keys() -> [u32; 2]
+pub(crate) fn process_keys() -> [u32; 2]
     ensures keys { result ≡ keys_of (schema.table schema.process) }
 {
     [ProcessName::number(), Pid::number()]
@@ -86,10 +86,10 @@ pub fn process_keys() -> [u32; 2]
 // Other resources.
 
 /// `type`, required.
-pub type ResourceType = Key<29, TextForm>;
+pub(crate) type ResourceType = Key<29, TextForm>;
 
 /// The keys that the table of resources lists.
-pub fn resource_keys() -> [u32; 1]
+pub(crate) fn resource_keys() -> [u32; 1]
     ensures keys { result ≡ keys_of (schema.table schema.resource) }
 {
     [ResourceType::number()]
@@ -99,29 +99,29 @@ pub fn resource_keys() -> [u32; 1]
 
 /// `directory`, by its number alone: what reads and writes directories in directories has no `Key`
 /// of them.
-pub const DIRECTORY: u32 = 16;
+pub(crate) const DIRECTORY: u32 = 16;
 
 /// `directory`, one or more.
-pub type Directory = Key<DIRECTORY, MapForm<DirectoryTable>>;
+pub(crate) type Directory = Key<DIRECTORY, MapForm<DirectoryTable>>;
 
 /// `file`, one or more.
-pub type File = Key<17, MapForm<FileTable>>;
+pub(crate) type File = Key<17, MapForm<FileTable>>;
 
 /// `process`, one or more.
-pub type Process = Key<18, MapForm<ProcessTable>>;
+pub(crate) type Process = Key<18, MapForm<ProcessTable>>;
 
 /// `resource`, one or more.
-pub type Resource = Key<19, MapForm<ResourceTable>>;
+pub(crate) type Resource = Key<19, MapForm<ResourceTable>>;
 
 /// The keys that the table of what a directory holds lists.
-pub fn path_elements_keys() -> [u32; 2]
+pub(crate) fn path_elements_keys() -> [u32; 2]
     ensures keys { result ≡ keys_of (schema.table schema.path_elements) }
 {
     [DIRECTORY, File::number()]
 }
 
 /// The keys that the table of payloads lists.
-pub fn payload_keys() -> [u32; 4]
+pub(crate) fn payload_keys() -> [u32; 4]
     ensures keys { result ≡ keys_of (schema.table schema.payload) }
 {
     [
@@ -135,13 +135,13 @@ pub fn payload_keys() -> [u32; 4]
 // Evidence alone, and `Location`.
 
 /// `date`.
-pub type Date = Key<35, TimeForm>;
+pub(crate) type Date = Key<35, TimeForm>;
 
 /// `device-id`.
-pub type DeviceId = Key<36, TextForm>;
+pub(crate) type DeviceId = Key<36, TextForm>;
 
 /// The keys that the table of evidence lists.
-pub fn evidence_keys() -> [u32; 7]
+pub(crate) fn evidence_keys() -> [u32; 7]
     ensures keys { result ≡ keys_of (schema.table schema.evidence) }
 {
     [

@@ -66,7 +66,7 @@ fn check_payload<F: Files>(
     payload: &Payload,
     verdicts: &mut Verdicts,
 ) -> Result<(), VerifyRefused>
-    ensures verdicts { OnOk result (AddsVerdicts (F.contents files.old) (listed payload.now) verdicts.old verdicts.new) }
+    ensures appended { OnOk result (AddsVerdicts (F.contents files.old) (listed payload.now) verdicts.old verdicts.new) }
     ensures contents { F.contents files.new ≡ F.contents files.old }
     ensures cause { HasCause (F.faults files.old) (F.faults files.new) (is_fault result) }
     ensures reads { Reads (listed payload.now) result (F.reads files.old) (F.reads files.new) }
@@ -86,7 +86,7 @@ fn check_files<F: Files>(
     entries: &Option<List<FileEntry>>,
     verdicts: &mut Verdicts,
 ) -> Result<(), VerifyRefused>
-    ensures verdicts { OnOk result (AddsVerdicts (F.contents files.old) (files_listing entries.now around.now) verdicts.old verdicts.new) }
+    ensures appended { OnOk result (AddsVerdicts (F.contents files.old) (files_listing entries.now around.now) verdicts.old verdicts.new) }
     ensures contents { F.contents files.new ≡ F.contents files.old }
     ensures cause { HasCause (F.faults files.old) (F.faults files.new) (is_fault result) }
     ensures reads { Reads (files_listing entries.now around.now) result (F.reads files.old) (F.reads files.new) }
@@ -107,7 +107,7 @@ fn check_file<F: Files>(
     file: &FileEntry,
     verdicts: &mut Verdicts,
 ) -> Result<(), VerifyRefused>
-    ensures verdicts { OnOk result (AddsVerdicts (F.contents files.old) (listed_file around.now file.now ∷ []) verdicts.old verdicts.new) }
+    ensures appended { OnOk result (AddsVerdicts (F.contents files.old) (listed_file around.now file.now ∷ []) verdicts.old verdicts.new) }
     ensures contents { F.contents files.new ≡ F.contents files.old }
     ensures cause { HasCause (F.faults files.old) (F.faults files.new) (is_fault result) }
     ensures reads { Reads (listed_file around.now file.now ∷ []) result (F.reads files.old) (F.reads files.new) }
@@ -145,7 +145,7 @@ fn check_directory<F: Files>(
     directory: &DirEntry,
     verdicts: &mut Verdicts,
 ) -> Result<(), VerifyRefused>
-    ensures verdicts { OnOk result (AddsVerdicts (F.contents files.old) (directory_listing directory.now around.old) verdicts.old verdicts.new) }
+    ensures appended { OnOk result (AddsVerdicts (F.contents files.old) (directory_listing directory.now around.old) verdicts.old verdicts.new) }
     ensures contents { F.contents files.new ≡ F.contents files.old }
     ensures cause { HasCause (F.faults files.old) (F.faults files.new) (is_fault result) }
     ensures reads { Reads (directory_listing directory.now around.old) result (F.reads files.old) (F.reads files.new) }
@@ -167,7 +167,7 @@ fn check_path<F: Files>(
     held: &PathElements,
     verdicts: &mut Verdicts,
 ) -> Result<(), VerifyRefused>
-    ensures verdicts { OnOk result (AddsVerdicts (F.contents files.old) (path_listing held.now around.old) verdicts.old verdicts.new) }
+    ensures appended { OnOk result (AddsVerdicts (F.contents files.old) (path_listing held.now around.old) verdicts.old verdicts.new) }
     ensures contents { F.contents files.new ≡ F.contents files.old }
     ensures cause { HasCause (F.faults files.old) (F.faults files.new) (is_fault result) }
     ensures reads { Reads (path_listing held.now around.old) result (F.reads files.old) (F.reads files.new) }
@@ -187,7 +187,7 @@ fn check_directories<F: Files>(
     directories: &List<DirEntry>,
     verdicts: &mut Verdicts,
 ) -> Result<(), VerifyRefused>
-    ensures verdicts { OnOk result (AddsVerdicts (F.contents files.old) (flat_map (λ d. directory_listing d around.old) directories.now) verdicts.old verdicts.new) }
+    ensures appended { OnOk result (AddsVerdicts (F.contents files.old) (flat_map (λ d. directory_listing d around.old) directories.now) verdicts.old verdicts.new) }
     ensures contents { F.contents files.new ≡ F.contents files.old }
     ensures cause { HasCause (F.faults files.old) (F.faults files.new) (is_fault result) }
     ensures reads { Reads (flat_map (λ d. directory_listing d around.old) directories.now) result (F.reads files.old) (F.reads files.new) }

@@ -12,7 +12,7 @@ use wire_base::{List, Memory, Octets};
 const LINE_OCTETS: usize = 20;
 
 /// How many tags there are, and a line for each finding between them.
-pub fn findings_text(alloc: Global, count: u64, found: &[LinkFinding]) -> Result<Octets, Memory>
+pub(crate) fn findings_text(alloc: Global, count: u64, found: &[LinkFinding]) -> Result<Octets, Memory>
     ensures text { IfOk result (λ made. made ≡ findings_text count found.now) }
 {
     let first = format!(in alloc; "tags {count}\n")?;
@@ -43,7 +43,7 @@ fn push_finding(alloc: Global, out: &mut Octets, finding: LinkFinding) -> Result
 }
 
 /// The line of a refusal of the tag of this number, whose own line is `refusal`.
-pub fn at_tag(alloc: Global, number: u64, refusal: Octets) -> Result<Octets, Memory>
+pub(crate) fn at_tag(alloc: Global, number: u64, refusal: Octets) -> Result<Octets, Memory>
     ensures line { IfOk result (λ made. made ≡ at_tag number refusal) }
 {
     let mut out = List::new(alloc);

@@ -15,11 +15,11 @@ use std::alloc::Global;
 use wire_base::{List, Memory};
 
 /// The most tags of a list.
-pub const MOST_TAGS: usize = 10_000;
+pub(crate) const MOST_TAGS: usize = 10_000;
 
 /// Tags that octets begin with, one after another, and what stands after them.
 #[derive(Debug, Drop)]
-pub struct TagList {
+pub(crate) struct TagList {
     /// The tags.
     pub tags: List<Tag>,
     /// What stands after the last.
@@ -28,7 +28,7 @@ pub struct TagList {
 
 /// What stands after the last tag of a list.
 #[derive(Debug, Drop)]
-pub enum Behind {
+pub(crate) enum Behind {
     /// Nothing.
     Nothing,
     /// Some octet, after as many tags as a list may have.
@@ -41,7 +41,7 @@ pub enum Behind {
 
 /// The tags that the octets begin with, one after another, at most 10000; `Memory` where there is
 /// no room.
-pub fn read_tags(alloc: Global, octets: &[u8]) -> Result<TagList, Memory>
+pub(crate) fn read_tags(alloc: Global, octets: &[u8]) -> Result<TagList, Memory>
     ensures list { IfOk result (λ read. IsTagList octets.now read) }
     ensures within { IfOk result (λ read. length read.tags ≤ LIST_TAGS) }
     ensures shallow { IfOk result (λ read. All (λ g. depth (tag_item g) ≤ 64) read.tags) }

@@ -19,7 +19,7 @@ const PIECE: usize = 4096;
 
 /// What stands first in what is left of the input.
 #[derive(Debug, Drop)]
-pub enum Front {
+pub(crate) enum Front {
     /// Nothing is left.
     End,
     /// The input ends inside an attribute, after that many octets of it.
@@ -35,7 +35,7 @@ pub enum Front {
 
 /// Takes the first attribute of what is left of the input, of which `room` octets may be looked at.
 /// It reads no octet after what it has to look at, and holds no more than that attribute.
-pub fn take_front<S: Source>(alloc: Global, input: &mut S, room: usize) -> Result<Front, Stopped>
+pub(crate) fn take_front<S: Source>(alloc: Global, input: &mut S, room: usize) -> Result<Front, Stopped>
     requires { room ≤ INPUT_OCTETS }
     ensures front { IfOk result
         (λ first. TakesFront room (S.left input.old) (S.left input.new) first) }

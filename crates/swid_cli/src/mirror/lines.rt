@@ -16,7 +16,7 @@ use validator_core::{Mirror, Taken};
 use wire_base::{Memory, Octets, push_escaped};
 
 /// The point of a report, and how many records or events it has.
-pub fn point_and_count(report: &Report) -> (Point, usize)
+pub(crate) fn point_and_count(report: &Report) -> (Point, usize)
     ensures told { (answer : TakenValue) → took result.0 result.1 answer ≡ took_line report.now answer }
 {
     match report {
@@ -27,7 +27,7 @@ pub fn point_and_count(report: &Report) -> (Point, usize)
 
 /// The line that says what a mirror answered to a report of that many records or events at a point;
 /// `Memory` has none.
-pub fn took_line(alloc: Global, point: Point, count: usize, taken: Taken) -> Result<Octets, Memory>
+pub(crate) fn took_line(alloc: Global, point: Point, count: usize, taken: Taken) -> Result<Octets, Memory>
     ensures line { IfOk result (λ made. made ≡ took point count taken) }
     ensures answered { OnOk result (taken ≢ Taken.Memory) }
 {
@@ -66,14 +66,14 @@ fn other_epoch(alloc: Global, have: Option<u32>, got: u32) -> Result<Octets, Mem
 }
 
 /// The line of an attribute that was skipped.
-pub fn skipped_line(alloc: Global, vendor: u32, attr_type: u32) -> Result<Octets, Memory>
+pub(crate) fn skipped_line(alloc: Global, vendor: u32, attr_type: u32) -> Result<Octets, Memory>
     ensures line { IfOk result (λ made. made ≡ skipped_line vendor attr_type) }
 {
     Ok(from_string(format!(in alloc; "skipped {vendor} {attr_type}\n")?))
 }
 
 /// What a mirror holds: its point and how many records, and a line for each record.
-pub fn mirror_text(alloc: Global, mirror: &Mirror) -> Result<Octets, Memory>
+pub(crate) fn mirror_text(alloc: Global, mirror: &Mirror) -> Result<Octets, Memory>
     ensures text { IfOk result (λ made. made ≡ mirror_text mirror.now) }
 {
     let Some(point) = mirror.point() else {
@@ -89,7 +89,7 @@ pub fn mirror_text(alloc: Global, mirror: &Mirror) -> Result<Octets, Memory>
 
 /// Puts a line for each record of a mirror at the end of `out`.
 fn push_records(out: &mut Octets, mirror: &Mirror) -> Result<(), Memory>
-    ensures lines { OnOk result
+    ensures appended { OnOk result
         (out.new ≡ out.old ++ flat_map (record_line mirror.now.kind) mirror.now.records) }
 {
     for place in 0..mirror.count() {

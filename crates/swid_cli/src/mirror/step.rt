@@ -23,11 +23,11 @@ use validator_core::Mirror;
 use wire_base::{FieldRefused, Memory, Octets, Source, Stopped};
 
 /// The most octets of the input.
-pub const MOST_INPUT_OCTETS: u32 = 1073741824;
+pub(crate) const MOST_INPUT_OCTETS: u32 = 1073741824;
 
 /// What is printed next.
 #[derive(Debug, Drop)]
-pub enum Step {
+pub(crate) enum Step {
     /// A line, and then what the octets after an attribute of this length make.
     Goes(Octets, u32),
     /// The last text.
@@ -35,7 +35,7 @@ pub enum Step {
 }
 
 /// Takes the first attribute of what is left of the input, which begins at `at`, into the mirror.
-pub fn next_step<S: Source>(
+pub(crate) fn next_step<S: Source>(
     alloc: Global,
     input: &mut S,
     at: u32,

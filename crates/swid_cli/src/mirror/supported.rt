@@ -12,7 +12,7 @@ use swima_reports::{
 };
 
 /// Whether an attribute of the vendor and the type carries a report (RFC 8412, section 5.2).
-pub fn carries_report(vendor: u32, kind: u32) -> bool
+pub(crate) fn carries_report(vendor: u32, kind: u32) -> bool
     ensures report { result ≡ carries_report vendor kind }
     ensures listed { IsTrue result → IsReportType kind }
 {
@@ -21,7 +21,7 @@ pub fn carries_report(vendor: u32, kind: u32) -> bool
 
 /// Whether an attribute with the header carries no report and may not be passed over (RFC 5792,
 /// section 4.1).
-pub fn is_refused(header: Header) -> bool
+pub(crate) fn is_refused(header: Header) -> bool
     ensures refused { result ≡ is_refused REPORT_TYPES header }
 {
     header.noskip && !carries_report(header.vendor, header.kind)

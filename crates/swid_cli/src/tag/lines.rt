@@ -10,7 +10,7 @@ use std::alloc::Global;
 use wire_base::{List, Memory, Octets};
 
 /// The line of a form fault: its kind, and the path to it.
-pub fn form_line(alloc: Global, fault: &FormFault) -> Result<Octets, Memory>
+pub(crate) fn form_line(alloc: Global, fault: &FormFault) -> Result<Octets, Memory>
     ensures line { IfOk result (λ made. made ≡ form_line fault.now) }
 {
     let kind = fault.kind;

@@ -9,7 +9,7 @@ use std::alloc::Global;
 use wire_base::{Memory, Octets, Text, push_escaped};
 
 /// Puts a line for each file at the end of `out`: the verdict on it, and its path.
-pub fn push_files(alloc: Global, out: &mut Octets, files: &[(Text, Verdict)]) -> Result<(), Memory>
+pub(crate) fn push_files(alloc: Global, out: &mut Octets, files: &[(Text, Verdict)]) -> Result<(), Memory>
     ensures appended { OnOk result (out.new ≡ out.old ++ flat_map file_line files.now) }
 {
     for file in files {
@@ -49,7 +49,7 @@ fn push_verdict(alloc: Global, out: &mut Octets, verdict: Verdict) -> Result<(),
 }
 
 /// Whether a file is not as the tag states, or that can't be determined.
-pub fn has_wrong(files: &[(Text, Verdict)]) -> bool
+pub(crate) fn has_wrong(files: &[(Text, Verdict)]) -> bool
     ensures wrong { result ≡ list_any (λ file. is_wrong file.1) files.now }
 {
     files.iter().any(|file| is_wrong(file.1))

@@ -36,7 +36,7 @@ impl FailingCalls {
         ensures failing { IfOk result (λ calls. calls.failing ≡ failing.now) }
         ensures faults { IfOk result (λ calls. calls.faults ≡ 0) }
     {
-        let failing = List::from_vec(Vec::from_slice(alloc, failing)?);
+        let failing = List::from_slice(alloc, failing)?;
         Ok(FailingCalls {
             made: 0,
             failing,

@@ -157,7 +157,7 @@ impl Link for MemLink {
         ensures fails { is_err result ≡ (self.old.room == 0 || next_fails self.old.made self.old.failing) }
         ensures all { IfOk result (λ count. count ≡ min (min (length piece.now) self.old.room) self.old.most) }
         ensures room { IfOk result (λ count. self.new.room ≡ self.old.room - count) }
-        ensures kept { OnErr result (self.new.room ≡ self.old.room) }
+        ensures unchanged { OnErr result (self.new.room ≡ self.old.room) }
         ensures ends { (self.new.ends ≡ self.old.ends) × (self.new.most ≡ self.old.most) }
         ensures faults { self.new.faults ≡ (if is_err result then next self.old.faults else self.old.faults) }
         ensures calls { (self.new.made ≡ next self.old.made) × (self.new.failing ≡ self.old.failing) }

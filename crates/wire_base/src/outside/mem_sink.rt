@@ -72,7 +72,7 @@ impl Sink for MemSink {
         ensures fails { is_err result ≡ (self.old.room == 0 || next_fails self.old.made self.old.failing) }
         ensures all { IfOk result (λ count. count ≡ min (length piece.now) self.old.room) }
         ensures room { IfOk result (λ count. self.new.room ≡ self.old.room - count) }
-        ensures kept { OnErr result (self.new.room ≡ self.old.room) }
+        ensures unchanged { OnErr result (self.new.room ≡ self.old.room) }
         ensures faults { self.new.faults ≡ (if is_err result then next self.old.faults else self.old.faults) }
         ensures calls { (self.new.made ≡ next self.old.made) × (self.new.failing ≡ self.old.failing) }
     {

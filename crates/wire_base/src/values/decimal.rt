@@ -8,9 +8,9 @@ ghost use Rattle.wire_base.specs.Spelling.{digit_value, with_digit};
 use crate::values::text_refused::TextRefused;
 
 /// The number whose decimal digits the text is, or the place of the first octet with which the text
-/// is no number below 2^32: a sign, a digit after a leading zero, another character than a digit,
-/// or a digit too many. The empty text has its fault at 0. It takes no memory and gives no
-/// `Memory`.
+/// is no number below 2^32. That octet is a sign, a digit after a leading zero, another character
+/// than a digit, or a digit too many. The empty text has its fault at 0. It takes no memory and
+/// gives no `Memory`.
 pub fn read_decimal(text: &[u8]) -> Result<u32, TextRefused>
     ensures number { ReadsTextExactly decimal IsU32 text.now result }
 {

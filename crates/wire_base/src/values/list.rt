@@ -189,6 +189,13 @@ impl<T: Drop> List<T> {
         self.items.truncate(len);
     }
 
+    /// Gives back the memory that is kept for further items, where the system takes it.
+    pub fn shrink_to_fit(&mut self)
+        ensures unchanged { self.new ≡ self.old }
+    {
+        self.items.shrink_to_fit();
+    }
+
     /// Removes the first `count` items, of which there are at least that many. It takes no memory.
     pub fn drop_front(&mut self, count: usize)
         requires within { count ≤ length self.old }

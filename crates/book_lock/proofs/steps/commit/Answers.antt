@@ -1,5 +1,5 @@
 use Rattle.std.proofs.Common.{rules}
-use Rattle.book_lock.proofs.Turns.{commits}
+use Rattle.book_lock.proofs.AtTurn.{commits}
 use Rattle.book_lock.proofs.steps.commit.Goals as goal
 
 pub fetch_add-requires : goal.fetch_add-requires

@@ -2,7 +2,7 @@ use Rattle.std.proofs.Common.{rules, ◌≡◌, ℕ, [], List, ◌∷◌, Option
 use Rattle.atomic_table.specs.Table.{rest}
 use Rattle.collector_core.specs.Standing.{BookView}
 use Rattle.book_lock.specs.Plays.{Seated, resting}
-use Rattle.book_lock.proofs.Turns.{passes_on}
+use Rattle.book_lock.proofs.AtTurn.{passes_on}
 use Rattle.book_lock.proofs.steps.give.Goals as goal
 
 pub exchange-requires : goal.exchange-requires

@@ -3,7 +3,7 @@ use Rattle.atomic_table.specs.Table.{rest}
 use Rattle.collector_core.specs.Standing.{BookView}
 use Rattle.book_lock.specs.Plays.{Seated}
 use Rattle.book_lock.proofs.Calls.{took_book}
-use Rattle.book_lock.proofs.Turns.{takes_book}
+use Rattle.book_lock.proofs.AtTurn.{takes_book}
 use Rattle.book_lock.proofs.steps.take.Goals as goal
 
 pub load-requires : goal.load-requires

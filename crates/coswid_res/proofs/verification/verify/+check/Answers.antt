@@ -19,7 +19,7 @@ check_directories-loop-directory-preserved g t c =
     let d = c.directory-item.result in
     let within : c.loop-directory.directory-index < length items = search rules in
     let here = c.loop-directory.invariant.around in
-    let adds = subst (λ (around : List ℕ). AddsVerdicts (g.F.Files.contents c.loop-directory.files) (directory_listing d around) c.loop-directory.verdicts c.check_directory.new.verdicts) here c.in_ok-check_directory.ensures.verdicts in
+    let adds = subst (λ (around : List ℕ). AddsVerdicts (g.F.Files.contents c.loop-directory.files) (directory_listing d around) c.loop-directory.verdicts c.check_directory.new.verdicts) here c.in_ok-check_directory.ensures.appended in
     let reads = subst (λ (around : List ℕ). Reads (directory_listing d around) (Ok c.in_ok-check_directory.field-0) (g.F.Files.reads c.loop-directory.files) (g.F.Files.reads c.check_directory.new.files)) here c.in_ok-check_directory.ensures.reads in
     record {
       verdicts = verdicts_more of items c.loop-directory.directory-index d within c.directory-item.is _ _ _ _ _ c.loop-directory.invariant.contents c.loop-directory.invariant.verdicts adds;
@@ -49,11 +49,11 @@ check_path-returns-in_err-check_files-clause-reads g t c =
     handed_on (Unit {0}) (path_listing c.args.held.now c.args.around.now) _ _ refusal c.from_residual.result c.from_residual.ensures.1
     (path_refused c.args.held.now c.args.around.now (Unit {0}) (Unit {0}) _ _ refusal c.in_err-check_files.ensures.reads)
 
-pub check_path-returns-in-Some-clause-verdicts : goal.check_path-returns-in-Some-clause-verdicts
-check_path-returns-in-Some-clause-verdicts g t c =
+pub check_path-returns-in-Some-clause-appended : goal.check_path-returns-in-Some-clause-appended
+check_path-returns-in-Some-clause-appended g t c =
     on_ok_weaker c.check_directories.result
-    (path_added c.args.held.now c.args.around.now c.in-Some.directories c.in-Some.is _ _ _ _ _ c.in_ok-check_files.ensures.contents c.in_ok-check_files.ensures.verdicts)
-    c.check_directories.ensures.verdicts
+    (path_added c.args.held.now c.args.around.now c.in-Some.directories c.in-Some.is _ _ _ _ _ c.in_ok-check_files.ensures.contents c.in_ok-check_files.ensures.appended)
+    c.check_directories.ensures.appended
 
 pub check_path-returns-in-Some-clause-reads : goal.check_path-returns-in-Some-clause-reads
 check_path-returns-in-Some-clause-reads g t c =

@@ -15,7 +15,7 @@ loop-file-preserved g c =
     let items = c.as_slice-file-items.result.now in
     let within : c.loop-file.file-index < length items = search rules in
     record {
-      verdicts = verdicts_more of items c.loop-file.file-index c.file-item.result within c.file-item.is _ _ _ _ _ c.loop-file.invariant.contents c.loop-file.invariant.verdicts c.in_ok-check_file.ensures.verdicts;
+      verdicts = verdicts_more of items c.loop-file.file-index c.file-item.result within c.file-item.is _ _ _ _ _ c.loop-file.invariant.contents c.loop-file.invariant.verdicts c.in_ok-check_file.ensures.appended;
       contents = c.in_ok-check_file.ensures.contents ∙ c.loop-file.invariant.contents;
       faults = c.in_ok-check_file.ensures.cause.cause ∙ c.loop-file.invariant.faults;
       reads = reads_more of items c.loop-file.file-index c.file-item.result within c.file-item.is _ _ _ _ c.loop-file.invariant.reads c.in_ok-check_file.field-0 c.in_ok-check_file.ensures.reads;

@@ -1,0 +1,160 @@
+-- Each request of a session asks for what the mirror wants that is noted then.
+use Rattle.std.proofs.Common.{◌≡◌, ℕ, ◌+◌, Bool, true, false, cond, nat_le, nat_lt, length, List, [], ◌∷◌, ◌++◌, Option, Some, None, inl, inr, refl, sym, ap}
+use Rattle.std.specs.List.{AllByRecursion}
+use Rattle.pb_batch.specs.declared.batch.Batch.{Batch}
+use Rattle.pb_batch.specs.declared.batch.Message.{Message}
+use Rattle.pb_batch.specs.declared.batch.Message.TheVariants.{Assessment}
+use Rattle.pb_batch.specs.declared.fault.PbFault.{PbFault}
+use Rattle.pb_batch.specs.declared.kind.BatchKind.{BatchKind}
+use Rattle.pb_batch.specs.declared.kind.BatchKind.TheVariants as kinds
+use Rattle.pb_batch.specs.Written.{fault_batch_of, written}
+use Rattle.pb_machine.specs.declared.machine.State.{State}
+use Rattle.pb_machine.specs.declared.machine.State.TheVariants.{Init, ServerWorking, ClientWorking, Decided, End}
+use Rattle.pb_machine.specs.Table.{received}
+use Rattle.validator_core.specs.Held.{Held}
+use Rattle.validator_core.specs.Want.{want}
+use Rattle.session_talk.specs.Talk.{Talk, Done, Note}
+use Rattle.session_talk.specs.Keeping.{Writes}
+use Rattle.session_talk.proofs.Writing.{writes_then, writes_each}
+use Rattle.session_hear.specs.Step.{Step, Came, Faulty, Quiet, Spent, Cut}
+use Rattle.session_hear.specs.Hearing.{heard}
+use Rattle.session_hear.specs.Serving.{serve}
+use Rattle.session_rules.specs.declared.config.FollowConfig.{FollowConfig}
+use Rattle.session_rules.specs.declared.end.SessionEnd.TheVariants as end
+use Rattle.session_rules.specs.declared.verdict.Verdict.{Verdict}
+use Rattle.session_rules.specs.declared.verdict.Verdict.TheVariants.{PassesOver, Refuses, EndsBy, GoesOn}
+use Rattle.session_rules.specs.declared.word.ValidatorWord.{ValidatorWord as Word}
+use Rattle.session_rules.specs.declared.word.ValidatorWord.TheVariants.{Reports, Lists, Failure}
+use Rattle.session_rules.specs.Following.{Notes, Stand, Draft, begin, draft, ends, nothing_noted}
+use Rattle.session_rules.specs.FollowRules as following
+use Rattle.session_rules.specs.Messages.{error_attribute, pa_message, server_batch}
+use Rattle.session_rules.specs.Numbers.{DO_NOT_KNOW, next_number}
+use Rattle.session_rules.specs.Saying.{Said, Says, Refused, says, swima_body}
+use Rattle.session_rules.specs.Taking.{NoQuestion, NoReply, speaks, takes_said, takes_body, takes_message, drafts, SUPPORTED, word_of}
+use Rattle.session_rules.specs.Verdict.{verdict}
+use Rattle.session_rules.specs.Wanted.{AsksNothing, AsksNot, AsksFor, AsksOf, NotesMirror, RequestsAreWanted}
+
+-- ---- a batch that is being written
+
+all_append : {X : Type 0} (P : X → Type 0) (xs ys : List X) → AllByRecursion P xs → AllByRecursion P ys → AllByRecursion P (xs ++ ys)
+all_append P [] ys first second = second
+all_append P (x ∷ xs) ys first second = (first.0, all_append P xs ys first.1 second)
+
+-- The mirror that was noted last is that of the draft, and no answer asks for anything.
+abbrev DraftSo : Notes → Draft → Type 0
+DraftSo notes d = (notes.mirror ≡ d.notes.mirror) × AllByRecursion AsksNothing d.answers
+
+abbrev WritesDraft : Notes → Talk NoQuestion NoReply Notes Draft → Type 0
+WritesDraft last talk = Writes AsksOf DraftSo last talk
+
+draft_if : (last : Notes) (test : Bool) (one other : Draft) → DraftSo last one → DraftSo last other → DraftSo last (cond test one other)
+draft_if last true one other first second = first
+draft_if last false one other first second = second
+
+speaks_writes : (last : Notes) (d : Draft) (word : Word) → DraftSo last d → WritesDraft last (speaks d word)
+speaks_writes last d (Reports report) here = (refl, here.1)
+speaks_writes last d (Lists requests) here = here
+speaks_writes last d (Failure code) here = here
+
+said_writes : (last : Notes) (d : Draft) (said : Said Word) → DraftSo last d → WritesDraft last (takes_said d said)
+said_writes last d (Says words) here = writes_each AsksOf DraftSo speaks last d words speaks_writes here
+said_writes last d (Refused (Some error)) here =
+    draft_if last (nat_lt (length d.answers) 63) (record d { answers = d.answers ++ pa_message (next_number d.numbered) (error_attribute error ∷ []) ∷ []; numbered = next_number d.numbered }) d
+    (here.0, all_append AsksNothing d.answers (pa_message (next_number d.numbered) (error_attribute error ∷ []) ∷ []) here.1 (record { number = next_number d.numbered; error = error; is = refl }, tt)) here
+said_writes last d (Refused None) here = here
+
+body_writes : (last : Notes) (d : Draft) (body : Option (List ℕ)) → DraftSo last d → WritesDraft last (takes_body d body)
+body_writes last d (Some body) here = said_writes last d (says SUPPORTED word_of body) here
+body_writes last d None here = here
+
+drafts_writes : (last : Notes) (s : Stand) (messages : List Message) → NotesMirror last s → WritesDraft last (drafts s messages)
+drafts_writes last s messages here = writes_each AsksOf DraftSo takes_message last (draft s) messages (λ noted d message there. body_writes noted d (swima_body message) there) (here, tt)
+
+-- ---- a step
+
+abbrev WritesStand : Notes → Talk NoQuestion NoReply Notes Stand → Type 0
+WritesStand last talk = Writes AsksOf NotesMirror last talk
+
+stand_if : (last : Notes) (test : Bool) (one other : Talk NoQuestion NoReply Notes Stand) → WritesStand last one → WritesStand last other → WritesStand last (cond test one other)
+stand_if last true one other first second = first
+stand_if last false one other first second = second
+
+asked : (last : Notes) (c : FollowConfig) (s : Stand) (kind : BatchKind) (answers : List Message) → NotesMirror last s → AllByRecursion AsksNothing answers
+    → AsksFor last.mirror (written (server_batch kind (answers ++ following.request_message c s ∷ [])))
+asked last c s kind answers here none = record {
+  kind = kind;
+  answers = answers;
+  number = next_number s.numbered;
+  request = following.next_request c s;
+  is = refl;
+  none = none;
+  wants = ap (λ (mirror : Held). following.earliest_of (want mirror)) (sym here);
+  of_kind = ap (λ (mirror : Held). mirror.kind) (sym here);
+}
+
+asked_not : (kind : BatchKind) (messages : List Message) → AllByRecursion AsksNothing messages → AsksNot (written (server_batch kind messages))
+asked_not kind messages none = record { kind = kind; messages = messages; is = refl; none = none }
+
+closes_writes : (last : Notes) (s : Stand) (enough : Bool) → NotesMirror last s → WritesStand last (following.closes_if s enough)
+closes_writes last s true here = (inr (asked_not kinds.Close [] tt), here)
+closes_writes last s false here = here
+
+data_writes : (last : Notes) (c : FollowConfig) (s : Stand) (answers : List Message) (more : Bool) → NotesMirror last s → AllByRecursion AsksNothing answers → WritesStand last (following.answers_data c s answers more)
+data_writes last c s answers true here none = (inl (asked last c s kinds.Sdata answers here none), here)
+data_writes last c s answers false here none = (
+  inr (asked_not kinds.Outcome (Assessment DO_NOT_KNOW ∷ answers) (tt, none)),
+  closes_writes s.notes (record (following.sends s kinds.Outcome) { tries = None; rounds = s.rounds + 1 }) (nat_le c.rounds (s.rounds + 1)) refl,
+)
+
+retry_writes : (last : Notes) (c : FollowConfig) (s : Stand) (answers : List Message) (more : Bool) → NotesMirror last s → AllByRecursion AsksNothing answers → WritesStand last (following.answers_retry c s answers more)
+retry_writes last c s answers true here none = (inl (asked last c s kinds.Sdata answers here none), here)
+retry_writes last c s answers false here none = (inr (asked_not kinds.Sdata answers none), here)
+
+obeys_writes : (last : Notes) (c : FollowConfig) (s : Stand) (kind : BatchKind) (messages : List Message) → NotesMirror last s → WritesStand last (following.obeys c s kind messages)
+obeys_writes last c s kinds.Cdata messages here =
+    writes_then AsksOf DraftSo NotesMirror last (drafts s messages) (λ (d : Draft). following.after_data c s d) (drafts_writes last s messages here)
+    (λ noted d there. data_writes noted c (record (following.drafted s d) { retried = false }) d.answers (following.asks_more (record (following.drafted s d) { retried = false })) there.0 there.1)
+obeys_writes last c s kinds.Cretry messages here =
+    writes_then AsksOf DraftSo NotesMirror last (drafts s messages) (λ (d : Draft). following.after_retry c s d) (drafts_writes last s messages here)
+    (λ noted d there. retry_writes noted c (following.drafted s d) d.answers s.retried there.0 there.1)
+obeys_writes last c s kinds.Sdata messages here = here
+obeys_writes last c s kinds.Outcome messages here = here
+obeys_writes last c s kinds.Sretry messages here = here
+obeys_writes last c s kinds.Close messages here = here
+
+refuses_writes : (last : Notes) (s : Stand) (fault : PbFault) → NotesMirror last s → WritesStand last (following.refuses s fault)
+refuses_writes last s fault here = (inr (asked_not kinds.Close (fault_batch_of true fault).messages (tt, tt)), here)
+
+judged_writes : (last : Notes) (c : FollowConfig) (s : Stand) (batch : Batch) (by : Verdict) → NotesMirror last s → WritesStand last (following.judged c s batch by)
+judged_writes last c s batch PassesOver here = here
+judged_writes last c s batch (Refuses fault) here = refuses_writes last s fault here
+judged_writes last c s batch (EndsBy by) here = here
+judged_writes last c s batch GoesOn here = obeys_writes last c s batch.kind batch.messages here
+
+rests_writes : (last : Notes) (c : FollowConfig) (s : Stand) (state : State) → NotesMirror last s → WritesStand last (following.rests c s state)
+rests_writes last c s Decided here = stand_if last c.subscribe (Done s) (following.retries c s) here (inl (asked last c (record s { retried = true }) kinds.Sretry [] here tt), here)
+rests_writes last c s Init here = here
+rests_writes last c s ServerWorking here = here
+rests_writes last c s ClientWorking here = here
+rests_writes last c s End here = here
+
+steps_writes : (last : Notes) (c : FollowConfig) (s : Stand) (step : Step) → NotesMirror last s → WritesStand last (following.steps c s step)
+steps_writes last c s (Came batch) here = judged_writes last c (record s { machine = (received s.machine batch.kind).1 }) batch (verdict (received s.machine batch.kind).0 batch) here
+steps_writes last c s (Faulty fault) here = refuses_writes last s fault here
+steps_writes last c s (Quiet turns) here =
+    stand_if last (nat_le c.idle turns) (Done (ends s (end.IdleOut turns))) (following.rests c s s.machine.state) here (rests_writes last c s s.machine.state here)
+steps_writes last c s Spent here = here
+steps_writes last c s (Cut have) here = here
+
+unless_writes : {E : Type 0} (last : Notes) (c : FollowConfig) (s : Stand) (step : Step) (over : Option E) → NotesMirror last s → WritesStand last (following.steps_unless c s step over)
+unless_writes last c s step None here = steps_writes last c s step here
+unless_writes last c s step (Some over) here = here
+
+serve_writes : (last : Notes) (c : FollowConfig) (s : Stand) (steps : List Step) → NotesMirror last s → WritesStand last (serve (following.react c) following.note s steps)
+serve_writes last c s [] here = here
+serve_writes last c s (step ∷ steps) here =
+    writes_then AsksOf NotesMirror NotesMirror last (following.react c s step) (λ next. Note (following.note next) (serve (following.react c) following.note next steps))
+    (unless_writes last c s step s.over here) (λ noted next there. serve_writes (following.note next) c next steps refl)
+
+pub requests_are_wanted : RequestsAreWanted
+requests_are_wanted c mirror turns = serve_writes (nothing_noted mirror) c (begin mirror) (heard false c.octets turns).0 refl

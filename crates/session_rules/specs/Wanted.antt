@@ -1,0 +1,61 @@
+-- What a validator asks for, in every session: what the mirror wants that is noted at that time. So
+-- after a gap each request is for the inventory, in this session and in the next ones, until a report
+-- clears the mark.
+use Rattle.std.specs.Prelude.{◌≡◌, ◌⊎◌, ℕ, List, [], ◌∷◌, ◌++◌}
+use Rattle.std.specs.List.{AllByRecursion}
+use Rattle.wire_base.specs.Turns.{Turn}
+use Rattle.swima_request.specs.declared.request.Request.{Request}
+use Rattle.swima_request.specs.RequestForm.{written_request}
+use Rattle.pa_attrs.specs.declared.error.PaError.{PaError}
+use Rattle.pb_batch.specs.declared.batch.Message.{Message}
+use Rattle.pb_batch.specs.declared.batch.Message.TheVariants.{Pa}
+use Rattle.pb_batch.specs.declared.kind.BatchKind.{BatchKind}
+use Rattle.pb_batch.specs.Written.{written}
+use Rattle.validator_core.specs.Held.{Held}
+use Rattle.validator_core.specs.Want.{want}
+use Rattle.session_talk.specs.Keeping.{Writes}
+use Rattle.session_rules.specs.declared.config.FollowConfig.{FollowConfig}
+use Rattle.session_rules.specs.Following.{Notes, Stand, nothing_noted}
+use Rattle.session_rules.specs.FollowRules.{earliest_of, session}
+use Rattle.session_rules.specs.Messages.{attribute, error_attribute, pa_message, server_batch}
+use Rattle.swima_request.specs.AttributeTypes.{SWIMA_REQUEST}
+
+-- A message with an Error alone.
+pub record IsError (message : Message) : Type 0 where
+  pub number : ℕ
+  pub error : PaError
+  pub is : message ≡ pa_message number (error_attribute error ∷ [])
+
+-- A message that asks for nothing: a PB-PA message only with an Error.
+abbrev pub AsksNothing : Message → Type 0
+AsksNothing (Pa excl vendor subtype collector validator body) = IsError (Pa excl vendor subtype collector validator body)
+AsksNothing message = Unit {0}
+
+-- A batch without a request.
+pub record AsksNot (octets : List ℕ) : Type 0 where
+  pub kind : BatchKind
+  pub messages : List Message
+  pub is : octets ≡ written (server_batch kind messages)
+  pub none : AllByRecursion AsksNothing messages
+
+-- A batch with one request, in its last message: for what the mirror wants, and in its kind.
+pub record AsksFor (mirror : Held) (octets : List ℕ) : Type 0 where
+  pub kind : BatchKind
+  pub answers : List Message
+  pub number : ℕ
+  pub request : Request
+  pub is : octets ≡ written (server_batch kind (answers ++ pa_message number (attribute SWIMA_REQUEST (written_request request) ∷ []) ∷ []))
+  pub none : AllByRecursion AsksNothing answers
+  pub wants : request.earliest ≡ earliest_of (want mirror)
+  pub of_kind : request.kind ≡ mirror.kind
+
+abbrev pub AsksOf : Notes → List ℕ → Type 0
+AsksOf notes octets = AsksFor notes.mirror octets ⊎ AsksNot octets
+
+-- The mirror that was noted last is the one that the end holds.
+abbrev pub NotesMirror : Notes → Stand → Type 0
+NotesMirror notes stand = notes.mirror ≡ stand.notes.mirror
+
+-- Each batch of a session is such a batch, and after it the mirror is the one that was noted last.
+abbrev pub RequestsAreWanted : Type 0
+RequestsAreWanted = (c : FollowConfig) (mirror : Held) (turns : List Turn) → Writes AsksOf NotesMirror (nothing_noted mirror) (session c mirror turns)
