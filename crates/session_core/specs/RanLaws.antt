@@ -13,7 +13,7 @@ use Rattle.validator_core.specs.Held.{Held}
 use Rattle.session_rules.specs.declared.config.FollowConfig.{FollowConfig}
 use Rattle.session_rules.specs.declared.end.SessionEnd.{SessionEnd}
 use Rattle.session_rules.specs.declared.end.SessionEnd.TheVariants as end
-use Rattle.collector_session.specs.Cores.{Core, Stands, StandsBy, Stood, over}
+use Rattle.collector_session.specs.Cores.{Core, Stands, StandsBy, Stood, Turned, over}
 use Rattle.collector_session.proofs.Coring.{stands_by}
 use Rattle.validator_session.specs.declared.inner.Inner.{Inner}
 use Rattle.validator_session.specs.Core.{over_of}
@@ -46,29 +46,53 @@ places_append chronicle xs steps later =
     ap (λ (ps : List ℕ). behind chronicle steps ++ ps) (behind_more chronicle xs later)
     ∙ sym (map-append (λ (step : ℕ). length chronicle.entries + step) steps (map (λ (q : ℕ). length xs + q) later))
 
--- The same with nothing more at the end of each list.
-as_they_are : (chronicle : Chronicle) (places : List ℕ) (turns : List Turn) (carried : List ℕ) (core : Core) → Stands chronicle places turns carried core → Stands (extended chronicle []) (places ++ []) (turns ++ []) (carried ++ []) core
+-- With no more entries and places.
+as_they_are : (chronicle : Chronicle) (places : List ℕ) (turns : List Turn) (carried : List ℕ) (core : Core) → Stands chronicle places turns carried core → Stands (extended chronicle []) (places ++ []) turns carried core
 as_they_are chronicle places turns carried core s =
-    subst (λ (es : List Entry). Stands (record chronicle { entries = es }) (places ++ []) (turns ++ []) (carried ++ []) core) (sym (append-nil chronicle.entries))
-    (subst₂ (λ (ps os : List ℕ). Stands chronicle ps (turns ++ []) os core) (sym (append-nil places)) (sym (append-nil carried))
-    (subst (λ (ts : List Turn). Stands chronicle places ts carried core) (sym (append-nil turns)) s))
+    subst (λ (es : List Entry). Stands (record chronicle { entries = es }) (places ++ []) turns carried core) (sym (append-nil chronicle.entries))
+    (subst (λ (ps : List ℕ). Stands chronicle ps turns carried core) (sym (append-nil places)) s)
+
+module _ {D : Type 0} (stands : D → Chronicle → Type 0) (went : D → List Mark → D → Type 0) where
+  -- A turn of the core.
+  pub serve_turned : (old new : D) (before after : Core) (turns : List Turn) → after.end.config ≡ before.end.config → Turned stands went old new before turns after → ServeRan stands went before old turns [] after new
+  serve_turned old new before after turns config t = record {
+    config = config;
+    grows = record {
+      others = t.others;
+      theirs = t.theirs;
+      grows = t.grows;
+      steps = t.steps;
+      rise = t.rise;
+      holds = λ chronicle places begun carried stood s.
+          subst (λ (os : List ℕ). Stands (extended chronicle (entries t.others)) (places ++ behind chronicle t.steps) (begun ++ turns) os after) (sym (append-nil carried)) (t.holds chronicle places begun carried stood s);
+    };
+  }
 
 module _ {D : Type 0} (stands : D → Chronicle → Type 0) (went : D → List Mark → D → Type 0)
     (stays : (desk : D) → went desk [] desk) (follows : (one two three : D) (first second : List Mark) → went one first two → went two second three → went one (first ++ second) three)
     (carries : (old new : D) (marks : List Mark) (chronicle : Chronicle) → went old marks new → stands old chronicle → stands new (extended chronicle (entries marks))) where
-  -- Nothing came of nothing.
-  pub serve_none : (core : Core) (desk : D) → ServeRan stands went core desk [] [] core desk
-  serve_none core desk = record {
-    config = refl;
+  -- The desk was not asked.
+  pub serve_still : (before after : Core) (desk : D) (turns : List Turn) (octets : List ℕ) → after.end.config ≡ before.end.config
+      → ((chronicle : Chronicle) (places : List ℕ) (begun : List Turn) (carried : List ℕ) → Stood chronicle places begun carried before → Stands chronicle places (begun ++ turns) (carried ++ octets) after)
+      → ServeRan stands went before desk turns octets after desk
+  serve_still before after desk turns octets config so = record {
+    config = config;
     grows = record {
       others = [];
       theirs = tt;
       grows = stays desk;
       steps = [];
       rise = tt;
-      holds = λ chronicle places turns carried stood s. as_they_are chronicle places turns carried core (stands_by chronicle places turns carried core (over core) s);
+      holds = λ chronicle places begun carried stood s. as_they_are chronicle places (begun ++ turns) (carried ++ octets) after (so chronicle places begun carried s);
     };
   }
+
+  -- Nothing came of nothing.
+  pub serve_none : (core : Core) (desk : D) → ServeRan stands went core desk [] [] core desk
+  serve_none core desk =
+      serve_still core core desk [] [] refl
+      (λ chronicle places begun carried s.
+      subst₂ (λ (ts : List Turn) (os : List ℕ). Stands chronicle places ts os core) (sym (append-nil begun)) (sym (append-nil carried)) (stands_by chronicle places begun carried core (over core) s))
 
   -- What came of both.
   pub serve_then : (one two three : Core) (first second third : D) (turns more : List Turn) (octets rest : List ℕ) → ServeRan stands went one first turns octets two second → over two ≢ Some end.Memory
@@ -105,6 +129,13 @@ module _ {D : Type 0} (stands : D → Chronicle → Type 0) (went : D → List M
           there))
 
 -- ---- a validator
+
+-- A turn of the core.
+pub follow_turned : (old new : Held) (before after : Inner) (turns : List Turn) → after.end.config ≡ before.end.config → follow.Turned before old turns after new → FollowRan before old turns [] after new
+follow_turned old new before after turns config t = record {
+  config = config;
+  stands = λ mirror begun carried s. subst (λ (os : List ℕ). StoodOrFell before.end.config mirror (begun ++ turns) os after new) (sym (append-nil carried)) (t mirror begun carried s);
+}
 
 pub follow_none : (core : Inner) (mirror : Held) → FollowRan core mirror [] [] core mirror
 follow_none core mirror = record {

@@ -1,0 +1,73 @@
+-- What the loop over a link did, call by call.
+use Rattle.std.proofs.Common.{◌≡◌, ◌≢◌, ◌≤◌, ◌+◌, ℕ, List, [], ◌++◌, Option, Some, None, length, take, drop, refl, sym, ap, subst, ◌∙◌, arith}
+use Rattle.std.proofs.lemmas.List.{take-append-drop}
+use Rattle.wire_base.specs.Outside.{Adds}
+use Rattle.wire_base.specs.Turns.{Turn}
+use Rattle.wire_base.proofs.Streams.{adds_none, adds_more}
+use Rattle.session_rules.specs.declared.end.SessionEnd.{SessionEnd}
+use Rattle.session_rules.specs.declared.end.SessionEnd.TheVariants as end
+use Rattle.session_core.specs.Driving.{Drives}
+
+module _ {C O : Type 0} (ran : C → O → List Turn → List ℕ → C → O → Type 0) where
+  -- Nothing was done.
+  pub drives_none : (core : C) (beside : O) (taken taken-after : Option (List Turn)) (given given-after : Option (List ℕ)) → taken-after ≡ taken → given-after ≡ given → ran core beside [] [] core beside
+      → Drives ran core beside core beside taken taken-after given given-after
+  drives_none core beside taken taken-after given given-after same alike so = record {
+    turns = [];
+    octets = [];
+    took = same ∙ adds_none taken;
+    gave = alike ∙ adds_none given;
+    so = so;
+  }
+
+  -- Octets were given.
+  pub drives_given : (core after : C) (beside : O) (taken taken-after : Option (List Turn)) (given given-after : Option (List ℕ)) (octets : List ℕ) → taken-after ≡ taken → Adds given given-after octets
+      → ran core beside [] octets after beside → Drives ran core beside after beside taken taken-after given given-after
+  drives_given core after beside taken taken-after given given-after octets same gave so = record {
+    turns = [];
+    octets = octets;
+    took = same ∙ adds_none taken;
+    gave = gave;
+    so = so;
+  }
+
+  -- Turns were taken.
+  pub drives_taken : (core after : C) (beside beside-after : O) (taken taken-after : Option (List Turn)) (given given-after : Option (List ℕ)) (turns : List Turn) → Adds taken taken-after turns → given-after ≡ given
+      → ran core beside turns [] after beside-after → Drives ran core beside after beside-after taken taken-after given given-after
+  drives_taken core after beside beside-after taken taken-after given given-after turns took alike so = record {
+    turns = turns;
+    octets = [];
+    took = took;
+    gave = alike ∙ adds_none given;
+    so = so;
+  }
+
+  module _ (over : C → Option SessionEnd)
+      (joins : (one two three : C) (first second third : O) (turns more : List Turn) (octets rest : List ℕ) → ran one first turns octets two second → over two ≢ Some end.Memory → ran two second more rest three third
+      → ran one first (turns ++ more) (octets ++ rest) three third) where
+    -- One after the other.
+    pub drives_then : (one two three : C) (first second third : O) (taken taken-mid taken-after : Option (List Turn)) (given given-mid given-after : Option (List ℕ)) → over two ≢ Some end.Memory
+        → Drives ran one first two second taken taken-mid given given-mid → Drives ran two second three third taken-mid taken-after given-mid given-after
+        → Drives ran one first three third taken taken-after given given-after
+    drives_then one two three first second third taken taken-mid taken-after given given-mid given-after other a b = record {
+      turns = a.turns ++ b.turns;
+      octets = a.octets ++ b.octets;
+      took = adds_more taken taken-mid taken-after a.turns b.turns a.took b.took;
+      gave = adds_more given given-mid given-after a.octets b.octets a.gave b.gave;
+      so = joins one two three first second third a.turns b.turns a.octets b.octets a.so other b.so;
+    }
+
+-- Of what is there or not.
+pub live_is : (by : Option SessionEnd) → by ≡ None → by ≢ Some end.Memory
+live_is by live memory = let both : None ≡ Some end.Memory = sym live ∙ memory in absurd cc
+
+-- ---- octets that are given
+
+take_more : (text : List ℕ) (count more : ℕ) → take count text ++ take more (drop count text) ≡ take (count + more) text
+take_more text 0 more = refl
+take_more [] (suc count) more = refl
+take_more (octet ∷ text) (suc count) more = ap (λ (o : List ℕ). octet ∷ o) (take_more text count more)
+
+pub gave_more : (before mid after : Option (List ℕ)) (text : List ℕ) (count more : ℕ) → Adds before mid (take count text) → Adds mid after (take more (drop count text)) → Adds before after (take (count + more) text)
+gave_more before mid after text count more first second =
+    subst (λ (o : List ℕ). Adds before after o) (take_more text count more) (adds_more before mid after (take count text) (take more (drop count text)) first second)
