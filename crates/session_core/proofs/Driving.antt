@@ -1,12 +1,14 @@
 -- What the loop over a link did, call by call.
-use Rattle.std.proofs.Common.{◌≡◌, ◌≢◌, ◌≤◌, ◌+◌, ℕ, List, [], ◌++◌, Option, Some, None, length, take, drop, refl, sym, ap, subst, ◌∙◌, arith}
+use Rattle.std.proofs.Common.{◌≡◌, ◌≢◌, ◌+◌, ℕ, Bool, true, false, List, [], ◌++◌, Option, Some, None, length, take, drop, refl, sym, ap, subst, ◌∙◌, arith}
 use Rattle.std.proofs.lemmas.List.{take-append-drop}
 use Rattle.wire_base.specs.Outside.{Adds}
 use Rattle.wire_base.specs.Turns.{Turn}
 use Rattle.wire_base.proofs.Streams.{adds_none, adds_more}
 use Rattle.session_rules.specs.declared.end.SessionEnd.{SessionEnd}
 use Rattle.session_rules.specs.declared.end.SessionEnd.TheVariants as end
-use Rattle.session_core.specs.Driving.{Drives}
+use Rattle.session_rules.specs.declared.end.Turn.{Turn as Answer}
+use Rattle.session_rules.specs.declared.end.Turn.TheVariants as answer
+use Rattle.session_core.specs.Driving.{Drives, answer_of, is_memory}
 
 module _ {C O : Type 0} (ran : C → O → List Turn → List ℕ → C → O → Type 0) where
   -- Nothing was done.
@@ -71,3 +73,28 @@ take_more (octet ∷ text) (suc count) more = ap (λ (o : List ℕ). octet ∷ o
 pub gave_more : (before mid after : Option (List ℕ)) (text : List ℕ) (count more : ℕ) → Adds before mid (take count text) → Adds mid after (take more (drop count text)) → Adds before after (take (count + more) text)
 gave_more before mid after text count more first second =
     subst (λ (o : List ℕ). Adds before after o) (take_more text count more) (adds_more before mid after (take count text) (take more (drop count text)) first second)
+
+-- ---- turns
+
+-- The session goes on, or it ended so.
+pub goes_on : (by : Option SessionEnd) → answer.Goes ≡ answer_of by → by ≡ None
+goes_on None is = refl
+goes_on (Some by) is = absurd cc
+
+pub is_over : (by : SessionEnd) (over : Option SessionEnd) → answer.Over by ≡ answer_of over → over ≡ Some by
+is_over by None is = absurd cc
+is_over by (Some other) is = ap (λ (a : Answer). ended_by a) (sym is)
+  where
+    ended_by : Answer → Option SessionEnd
+    ended_by answer.Goes = None
+    ended_by (answer.Over by) = Some by
+
+-- Memory did not run out.
+pub other_is : (by : SessionEnd) (over : Option SessionEnd) → over ≡ Some by → is_memory by ≡ false → over ≢ Some end.Memory
+other_is by over is other memory =
+    let both : Some by ≡ Some end.Memory = sym is ∙ memory in
+    let lost : true ≡ false = ap (λ (o : Option SessionEnd). of_some o) (sym both) ∙ other in absurd cc
+  where
+    of_some : Option SessionEnd → Bool
+    of_some (Some by) = is_memory by
+    of_some None = false

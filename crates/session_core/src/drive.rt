@@ -1,9 +1,10 @@
 //! The loop over a link, for either end.
 
-ghost use Rattle.std.specs.Prelude.{◌≡◌, ◌≢◌, ◌<◌, ◌≤◌, [], None, Some, IfOk, OnErr, OnOk, is_err, false, length, take};
+ghost use Rattle.std.specs.Prelude.{◌≡◌, ◌≢◌, ◌<◌, ◌≤◌, [], List, ℕ, Option, None, Some, IfOk, OnErr, OnOk, is_err, false, length, take};
 ghost use Rattle.session_core.specs.Driving.{Drives, answer_of, is_memory};
 ghost use Rattle.session_rules.specs.declared.end.SessionEnd.TheVariants as end;
 ghost use Rattle.wire_base.specs.Outside.{Adds, HasCause};
+ghost use Rattle.wire_base.specs.Turns.{Turn as LinkTurn};
 
 use crate::session_core::SessionCore;
 use session_rules::{SessionEnd, Turn};
@@ -31,9 +32,9 @@ pub(crate) fn drive<O, C: SessionCore<O>, L: Link>(
 {
     let mut buf = [0u8; PIECE];
     loop {
-        match round(alloc, core, beside, link, &mut buf)? {
-            Turn::Goes => {}
-            Turn::Over(by) => return finish(core, link, by),
+        let turn = round(alloc, core, beside, link, &mut buf)?;
+        if let Turn::Over(by) = turn {
+            return finish(core, link, by);
         }
     }
 }
@@ -91,15 +92,18 @@ fn finish<O, C: SessionCore<O>, L: Link>(
     by: SessionEnd,
 ) -> Result<SessionEnd, Failed>
     requires over { C.over core.old ≡ Some by }
-    ensures drives { (beside : O) → Drives C.ran core.old beside core.new beside (L.taken link.old) (L.taken link.new) (L.given link.old) (L.given link.new) }
+    ensures drives { (start : C) (begun beside : O) (taken : Option (List LinkTurn)) (given : Option (List ℕ))
+        → Drives C.ran start begun core.old beside taken (L.taken link.old) given (L.given link.old)
+        → Drives C.ran start begun core.new beside taken (L.taken link.new) given (L.given link.new) }
     ensures over { IfOk result (λ last. C.over core.new ≡ Some last) }
     ensures given { IfOk result (λ last. is_memory last ≡ false → C.waits core.new ≡ []) }
     ensures memory { OnErr result (C.over core.new ≢ Some end.Memory) }
     ensures cause { HasCause (L.faults link.old) (L.faults link.new) (is_err result) }
 {
-    if !is_memory(by) {
-        give_waiting(core, link)?;
+    if is_memory(by) {
+        return Ok(by);
     }
+    give_waiting(core, link)?;
     Ok(by)
 }
 
@@ -146,7 +150,8 @@ fn give_all<L: Link>(link: &mut L, text: &[u8], count: &mut usize) -> Result<(),
     ensures cause { HasCause (L.faults link.old) (L.faults link.new) (is_err result) }
 {
     while *count < text.len() {
-        *count += link.give(&text[*count..])?;
+        let more = link.give(&text[*count..])?;
+        *count += more;
     }
     Ok(())
 }
