@@ -11,7 +11,7 @@ use swima_request::Request;
 use wire_base::{List, TryCopy, is_stamp};
 
 /// How many events the book keeps.
-const KEPT: u32 = 4096;
+pub(crate) const KEPT: u32 = 4096;
 
 /// How many events are asked for.
 const EVENTS: u32 = 100;

@@ -6,14 +6,18 @@
 //!   octets, in pieces of that many octets;
 //! - `shelf alone TASK TIMES`, `shelf THREADS TASK TIMES`: a book alone, or on a shelf in 1, 2 or 4
 //!   threads; the tasks are `change`, `read` and `both`;
+//! - `sessions first RECORDS SIZE`: the first session over a book, in pieces of that many octets;
+//! - `sessions alone RECORDS`: the same report, without a session;
+//! - `sessions update RECORDS EVENTS TIMES`: that many sessions more, each after that many events;
 //! - `cbor read`, `cbor write`, `cbor feed SIZE`: the items on standard input, one after another;
 //! - `links read`, `links check`: the tags on standard input as a list, and the findings on it;
 //! - `tags read`, `tags write`, `tags both`: the tags on standard input, one after another.
 //!
 //! Where nothing is printed, standard error has the reason.
 //!
-//! It stands on `coswid_links`, `coswid_codec`, `coswid_tag`, `cbor_det`, `pb_batch`, `book_lock`,
-//! `collector_core`, `swima_request`, `swima_model` and `wire_base`.
+//! It stands on `collector_session`, `validator_session` and `session_rules`, on `book_lock`,
+//! `collector_core`, `validator_core`, `swima_request` and `swima_model`, on `pb_batch`, on
+//! `coswid_links`, `coswid_codec`, `coswid_tag` and `cbor_det`, and on `wire_base`.
 #![tactic(auto)]
 
 mod batches;
@@ -22,6 +26,7 @@ mod cbor;
 mod figures;
 mod links;
 mod reading;
+mod sessions;
 mod shelf;
 mod tags;
 mod trouble;
@@ -96,6 +101,16 @@ fn figure(rt: &HostRuntime, words: &[&str]) -> Result<u64, Trouble> {
         ),
         ["batches", piece, "large"] => batches::large(rt.alloc(), size(piece)?),
         ["batches", piece, "small"] => batches::small(rt.alloc(), size(piece)?),
+        ["sessions", "first", records, piece] => {
+            sessions::first(rt.alloc(), number(records)?, size(piece)?)
+        }
+        ["sessions", "alone", records] => sessions::alone(rt.alloc(), number(records)?),
+        ["sessions", "update", records, events, times] => sessions::updates(
+            rt.alloc(),
+            number(records)?,
+            number(events)?,
+            number(times)?,
+        ),
         ["cbor", "read"] => cbor::read(rt),
         ["cbor", "write"] => cbor::write(rt),
         ["cbor", "feed", piece] => cbor::feed(rt, size(piece)?),

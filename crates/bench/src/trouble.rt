@@ -35,6 +35,9 @@ const WORDS: &str = "\
 the words are none of these:
   bench book RECORDS answer|events|change|last|middle TIMES
   bench shelf alone|1|2|4 change|read|both TIMES
+  bench sessions first RECORDS SIZE
+  bench sessions alone RECORDS
+  bench sessions update RECORDS EVENTS TIMES
   bench batches SIZE large|small
   bench cbor read|write
   bench cbor feed SIZE

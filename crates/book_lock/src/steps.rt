@@ -8,10 +8,9 @@ ghost use Rattle.book_lock.specs.Plays.{HasBook, IsAt, Settled, Stays, committin
 use crate::rule::{Commit, Draw, Look, PassOn, Said, Settle, Take};
 use crate::view::{Board, Place};
 use collector_core::{Book, Edit};
-use std::hint;
 use std::snapshot::Snapshot;
 use std::sync::Wait;
-use std::thread;
+use std::{hint, thread};
 
 /// The word that counts the entries.
 const COUNT: usize = 0;

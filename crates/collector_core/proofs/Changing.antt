@@ -1,12 +1,10 @@
 -- What a book holds after a change of one record.
-use Rattle.std.proofs.Common.{◌≡◌, ℕ, ◌+◌, ◌-◌, ◌<◌, ◌≤◌, eqb, leb, ltb, cond, not, Bool, true, false, Option, Some, None, List, [], ◌∷◌, ◌++◌, length, get_or, set, take, drop, refl, sym, ap, ◌∙◌, subst, arith, length-append, leb-false, ltb-false, ne_eqb}
-use Rattle.std.specs.Prelude.{is_some, remove}
+use Rattle.std.proofs.Common.{◌≡◌, ℕ, ◌+◌, ◌-◌, ◌<◌, ◌≤◌, eqb, leb, ltb, cond, not, Bool, true, false, Option, Some, None, List, [], ◌∷◌, ◌++◌, length, suc, refl, sym, ap, ◌∙◌, subst, arith, length-append, leb-false, ltb-false, eqb-true, ne_eqb}
+use Rattle.std.specs.Prelude.{is_some}
 use Rattle.std.specs.List.Sorted.{IsStrictlyIncreasing}
-use Rattle.std.proofs.Math.Seq.{get_or-append_seam}
 use Rattle.std.proofs.lemmas.Bool.{cond-false, le-ltb, or_from, or_parts, eqb-false}
-use Rattle.std.proofs.lemmas.List.{map-append, length-take}
+use Rattle.std.proofs.lemmas.List.{map-append}
 use Rattle.swima_model.specs.declared.event.Action.TheVariants.{Creation, Deletion, Alteration}
-use Rattle.swima_model.specs.declared.event.Event.{Event}
 use Rattle.swima_model.specs.declared.record.Content.{Content}
 use Rattle.swima_model.specs.declared.record.Record.{Record}
 use Rattle.swima_model.specs.InOrder.{ids}
@@ -20,8 +18,9 @@ use Rattle.collector_core.specs.declared.error.BookError.TheVariants as refused
 use Rattle.swima_model.specs.Places.{IsPlaceOf}
 use Rattle.collector_core.specs.Book.{IsBook, IsExchange}
 use Rattle.collector_core.specs.Refusals.{LAST, create_refusal, alter_refusal, delete_refusal, others_than}
+use Rattle.collector_core.specs.Places.{Puts, Takes}
 use Rattle.collector_core.specs.Standing.{BookView, book_after, creation, alteration, deletion, IsDeletion}
-use Rattle.swima_model.proofs.Places.{Climbs, climbs, climbed, climbs_push, none_before, at_place}
+use Rattle.swima_model.proofs.Places.{Climbs, climbs, climbed, climbs_push, none_before}
 use Rattle.collector_core.proofs.Places.{climbs_exchanged, climbs_removed, live_created, live_altered, live_deleted, found_here, others_are, octets_append, octets_seam}
 
 -- ---- what is not refused
@@ -88,45 +87,72 @@ add_after book octets new stamp copy told content log eid is same same_told whol
     ap (λ (rs : List Record). record { epoch = book.epoch; next = book.next + 1; records = rs; log = log }) records_are
     ∙ ap (λ (l : Log). record { epoch = book.epoch; next = book.next + 1; records = live book.records (creation book.log.last book.next stamp content ∷ []); log = l }) log_is
 
--- ---- the record at a place
+-- ---- what a book finds
 
-pub split_at : (rs : List Record) (place : ℕ) → place < length rs → (before : List Record) × (held : Record) × (after : List Record) × (rs ≡ before ++ held ∷ after) × (place ≡ length before)
-split_at [] place lt = absurd (omega arith)
-split_at (r ∷ rs) place lt = (take place (r ∷ rs), get_or (r ∷ rs) place r, drop (place + 1) (r ∷ rs), at_place (r ∷ rs) place r lt, omega (arith, lt, length-take place (r ∷ rs)))
+pub held_is : (next octets id place : ℕ) (rs : List Record) → IsBook next octets rs → (at : IsPlaceOf rs id (Some place)) → record_of id rs ≡ Some at.1
+held_is next octets id place rs is at =
+    let up : Climbs (ids (at.0 ++ at.1 ∷ at.2) ++ next ∷ []) = climbs (ids (at.0 ++ at.1 ∷ at.2) ++ next ∷ []) (subst (λ (l : List Record). IsStrictlyIncreasing (ids l ++ next ∷ [])) at.3 is.rising) in
+    ap (record_of id) at.3 ∙ ap (λ (n : ℕ). record_of n (at.0 ++ at.1 ∷ at.2)) (sym at.5) ∙ found_here at.0 at.1 at.2 next up
 
-pub set_at : (rs : List Record) (place : ℕ) (item new : Record) (before : List Record) (held : Record) (after : List Record) → rs ≡ before ++ held ∷ after → place ≡ length before → set rs place new ≡ before ++ new ∷ after
-set_at rs place item new before held after is at = ap (λ (l : List Record). set l place new) is ∙ ap (λ (k : ℕ). set (before ++ held ∷ after) k new) at ∙ seam before
+-- The other records are those before and after its place.
+pub others_at : (next octets id place : ℕ) (rs : List Record) → IsBook next octets rs → (at : IsPlaceOf rs id (Some place)) → others_than id rs ≡ at.0 ++ at.2
+others_at next octets id place rs is at =
+    let up : Climbs (ids (at.0 ++ at.1 ∷ at.2) ++ next ∷ []) = climbs (ids (at.0 ++ at.1 ∷ at.2) ++ next ∷ []) (subst (λ (l : List Record). IsStrictlyIncreasing (ids l ++ next ∷ [])) at.3 is.rising) in
+    ap (others_than id) at.3 ∙ ap (λ (n : ℕ). others_than n (at.0 ++ at.1 ∷ at.2)) (sym at.5) ∙ others_are at.0 at.1 at.2 next up
+
+found_step : (b : Bool) (id : ℕ) (r : Record) (rs : List Record) (held : Record) → eqb r.id id ≡ b → cond b (Some r) (record_of id rs) ≡ Some held
+    → (record_of id rs ≡ Some held → (place : ℕ) × IsPlaceOf rs id (Some place)) → (place : ℕ) × IsPlaceOf (r ∷ rs) id (Some place)
+found_step true id r rs held here is later = (0, ([], r, rs, refl, refl, eqb-true r.id id here))
+found_step false id r rs held here is later =
+    let at = later is in
+    (suc at.0, (r ∷ at.1.0, at.1.1, at.1.2, ap (λ (l : List Record). r ∷ l) at.1.3, ap suc at.1.4, at.1.5))
+
+-- A record that is found stands among the records.
+pub found_place : (id : ℕ) (rs : List Record) (held : Record) → record_of id rs ≡ Some held → (place : ℕ) × IsPlaceOf rs id (Some place)
+found_place id [] held is = absurd cc
+found_place id (r ∷ rs) held is = found_step (eqb r.id id) id r rs held refl is (λ e. found_place id rs held e)
+
+-- The octets of the other records.
+pub beside : (next octets id place : ℕ) (rs : List Record) (held : Record) → IsBook next octets rs → IsPlaceOf rs id (Some place) → record_of id rs ≡ Some held
+    → octets - content_octets held.content ≡ records_octets (others_than id rs)
+beside next octets id place rs held is at found =
+    let others : others_than id rs ≡ at.0 ++ at.2 = others_at next octets id place rs is at in
+    let whole : records_octets rs ≡ records_octets (at.0 ++ at.2) + content_octets at.1.content = ap records_octets at.3 ∙ octets_seam at.0 at.1 at.2 in
+    let same : content_octets held.content ≡ content_octets at.1.content = ap (λ (r : Record). content_octets r.content) (some_same held at.1 (sym found ∙ held_is next octets id place rs is at)) in
+    omega (arith, is.counted, whole, same, ap records_octets others)
   where
-    seam : (xs : List Record) → set (xs ++ held ∷ after) (length xs) new ≡ xs ++ new ∷ after
-    seam [] = refl
-    seam (x ∷ xs) = ap (λ (l : List Record). x ∷ l) (seam xs)
+    some_same : (a b : Record) → Some a ≡ Some b → a ≡ b
+    some_same a b e = cc
 
-pub item_at : (rs : List Record) (place : ℕ) (item : Record) (before : List Record) (held : Record) (after : List Record) → rs ≡ before ++ held ∷ after → place ≡ length before → item ≡ get_or rs place item → item ≡ held
-item_at rs place item before held after is at got =
-    got ∙ ap (λ (l : List Record). get_or l place item) is ∙ ap (λ (k : ℕ). get_or (before ++ held ∷ after) k item) at ∙ get_or-append_seam before held after item
-
-pub removed_at : (rs : List Record) (place : ℕ) (before : List Record) (held : Record) (after : List Record) → rs ≡ before ++ held ∷ after → place ≡ length before → remove rs place ≡ before ++ after
-removed_at rs place before held after is at = ap (λ (l : List Record). remove l place) is ∙ ap (remove (before ++ held ∷ after)) at ∙ seam before
+pub enough : (next octets id place : ℕ) (rs : List Record) (held : Record) → IsBook next octets rs → IsPlaceOf rs id (Some place) → record_of id rs ≡ Some held → content_octets held.content ≤ octets
+enough next octets id place rs held is at found =
+    let whole : records_octets rs ≡ records_octets (at.0 ++ at.2) + content_octets at.1.content = ap records_octets at.3 ∙ octets_seam at.0 at.1 at.2 in
+    let same : content_octets held.content ≡ content_octets at.1.content = ap (λ (r : Record). content_octets r.content) (some_same held at.1 (sym found ∙ held_is next octets id place rs is at)) in
+    omega (arith, is.counted, whole, same)
   where
-    seam : (xs : List Record) → remove (xs ++ held ∷ after) (length xs) ≡ xs ++ after
-    seam [] = refl
-    seam (x ∷ xs) = ap (λ (l : List Record). x ∷ l) (seam xs)
+    some_same : (a b : Record) → Some a ≡ Some b → a ≡ b
+    some_same a b e = cc
 
-abbrev pub Puts : List Record → ℕ → Content → List Record → Type 0
-Puts rs place content new = (before : List Record) (held : Record) (after : List Record) → rs ≡ before ++ held ∷ after → place ≡ length before → new ≡ before ++ record { id = held.id; content = content } ∷ after
+-- ---- the record of an identifier
 
-pub replace_invariant : (next octets now place : ℕ) (rs new : List Record) (copy content : Content) → IsBook next octets rs → place < length rs → IsExchange rs place content now → copy ≡ content → Puts rs place copy new → IsBook next now new
-replace_invariant next octets now place rs new copy content is lt exchange same puts =
-    let at = split_at rs place lt in
-    let before = at.0 in
-    let held = at.1 in
-    let after = at.2 in
+-- Where it stands.
+pub put_at : (id : ℕ) (content : Content) (rs new : List Record) (puts : Puts id content rs new) → IsPlaceOf rs id (Some (length puts.0))
+put_at id content rs new puts = (puts.0, puts.1, puts.2, puts.3, refl, puts.4)
+
+pub taken_at : (id : ℕ) (taken : Record) (rs new : List Record) (takes : Takes id rs (Some taken) new) → IsPlaceOf rs id (Some (length takes.0))
+taken_at id taken rs new takes = (takes.0, taken, takes.1, takes.2, refl, takes.3)
+
+pub replace_invariant : (next octets now id : ℕ) (rs new : List Record) (copy content : Content) → IsBook next octets rs → IsExchange rs id content now → copy ≡ content → Puts id copy rs new → IsBook next now new
+unfolding put_at
+replace_invariant next octets now id rs new copy content is exchange same puts =
+    let at = put_at id copy rs new puts in
     let whole : rs ≡ at.0 ++ at.1 ∷ at.2 = at.3 in
-    let new_is : new ≡ at.0 ++ record { id = at.1.id; content = copy } ∷ at.2 = puts at.0 at.1 at.2 at.3 at.4 in
+    let new_is : new ≡ at.0 ++ record { id = at.1.id; content = copy } ∷ at.2 = puts.5 in
     let up : Climbs (ids (at.0 ++ at.1 ∷ at.2) ++ next ∷ []) = climbs (ids (at.0 ++ at.1 ∷ at.2) ++ next ∷ []) (subst (λ (l : List Record). IsStrictlyIncreasing (ids l ++ next ∷ [])) whole is.rising) in
     let counted : records_octets new ≡ records_octets (at.0 ++ at.2) + content_octets copy = ap records_octets new_is ∙ octets_seam at.0 (record { id = at.1.id; content = copy }) at.2 in
+    let others : records_octets (others_than id rs) ≡ records_octets (at.0 ++ at.2) = ap records_octets (others_at next octets id (length at.0) rs is at) in
     let size : content_octets copy ≡ content_octets content = ap content_octets same in
-    let is_now : now ≡ records_octets new = omega (arith, counted, size, exchange.1 at.0 at.1 at.2 at.3 at.4) in
+    let is_now : now ≡ records_octets new = omega (arith, counted, size, others, exchange.1) in
     let long : length new ≡ length rs =
     ap length new_is ∙ length-append at.0 (record { id = at.1.id; content = copy } ∷ at.2) ∙ sym (length-append at.0 (at.1 ∷ at.2)) ∙ sym (ap length whole) in
     record {
@@ -136,80 +162,61 @@ replace_invariant next octets now place rs new copy content is lt exchange same 
       fits = not_large new (omega (arith, long, (large_parts rs is.fits).0)) (omega (arith, is_now, exchange.0));
     }
 
-pub replace_after : (book : BookView) (octets place : ℕ) (new : List Record) (stamp : List ℕ) (item : Record) (copy told content : Content) (log : Log) (eid id : ℕ) → IsBook book.next octets book.records
-    → IsPlaceOf book.records id (Some place) → item ≡ get_or book.records place item → copy ≡ content → told ≡ content → Puts book.records place copy new → eid ≡ book.log.last + 1
-    → log ≡ pushed book.log (record { eid = eid; stamp = stamp; action = Alteration; subject = record { id = item.id; content = told } })
+pub replace_after : (book : BookView) (octets : ℕ) (new : List Record) (stamp : List ℕ) (copy told content : Content) (log : Log) (eid id : ℕ) → IsBook book.next octets book.records
+    → copy ≡ content → told ≡ content → Puts id copy book.records new → eid ≡ book.log.last + 1
+    → log ≡ pushed book.log (record { eid = eid; stamp = stamp; action = Alteration; subject = record { id = id; content = told } })
     → record { epoch = book.epoch; next = book.next; records = new; log = log } ≡ book_after book (entry.Event (alteration book.log.last stamp id content))
-replace_after book octets place new stamp item copy told content log eid id is at got same same_told puts next logged =
-    let held_is : item ≡ at.1 = item_at book.records place item at.0 at.1 at.2 at.3 at.4 got in
+unfolding put_at
+replace_after book octets new stamp copy told content log eid id is same same_told puts next logged =
+    let at = put_at id copy book.records new puts in
     let up : Climbs (ids (at.0 ++ at.1 ∷ at.2) ++ book.next ∷ []) = climbs (ids (at.0 ++ at.1 ∷ at.2) ++ book.next ∷ []) (subst (λ (l : List Record). IsStrictlyIncreasing (ids l ++ book.next ∷ [])) at.3 is.rising) in
-    let e : Event = alteration book.log.last stamp id content in
     let live_is : live book.records (alteration book.log.last stamp id content ∷ []) ≡ at.0 ++ record { id = id; content = content } ∷ at.2 =
     ap (λ (l : List Record). live l (alteration book.log.last stamp id content ∷ [])) at.3 ∙ live_altered at.0 at.1 at.2 book.next up (alteration book.log.last stamp id content) (sym at.5) refl in
     let records_are : new ≡ live book.records (alteration book.log.last stamp id content ∷ []) =
-    puts at.0 at.1 at.2 at.3 at.4
+    puts.5
     ∙ ap (λ (n : ℕ). at.0 ++ record { id = n; content = copy } ∷ at.2) at.5
     ∙ ap (λ (c : Content). at.0 ++ record { id = id; content = c } ∷ at.2) same ∙ sym live_is in
     let log_is : log ≡ pushed book.log (alteration book.log.last stamp id content) =
     logged
-    ∙ ap (λ (n : ℕ). pushed book.log (record { eid = n; stamp = stamp; action = Alteration; subject = record { id = item.id; content = told } })) next
-    ∙ ap (λ (n : ℕ). pushed book.log (alteration book.log.last stamp n told)) (ap (λ (r : Record). r.id) held_is ∙ at.5)
+    ∙ ap (λ (n : ℕ). pushed book.log (record { eid = n; stamp = stamp; action = Alteration; subject = record { id = id; content = told } })) next
     ∙ ap (λ (c : Content). pushed book.log (alteration book.log.last stamp id c)) same_told in
     ap (λ (rs : List Record). record { epoch = book.epoch; next = book.next; records = rs; log = log }) records_are
     ∙ ap (λ (l : Log). record { epoch = book.epoch; next = book.next; records = live book.records (alteration book.log.last stamp id content ∷ []); log = l }) log_is
 
-abbrev pub Takes : List Record → ℕ → Record → List Record → Type 0
-Takes rs place taken new = (before : List Record) (held : Record) (after : List Record) → rs ≡ before ++ held ∷ after → place ≡ length before → (taken ≡ held) × (new ≡ before ++ after)
-
-pub remove_enough : (next octets given place : ℕ) (rs new : List Record) (taken : Record) → IsBook next octets rs → place < length rs → Takes rs place taken new → given ≡ content_octets taken.content
-    → octets ≡ records_octets new + given
-remove_enough next octets given place rs new taken is lt takes counted =
-    let at = split_at rs place lt in
-    let parts = takes at.0 at.1 at.2 at.3 at.4 in
-    let whole : records_octets rs ≡ records_octets (at.0 ++ at.2) + content_octets at.1.content = ap records_octets at.3 ∙ octets_seam at.0 at.1 at.2 in
-    omega (arith, is.counted, whole, ap records_octets parts.1, counted, ap (λ (r : Record). content_octets r.content) parts.0)
-
-pub remove_invariant : (next octets given place : ℕ) (rs new : List Record) (taken : Record) → IsBook next octets rs → place < length rs → Takes rs place taken new → given ≡ content_octets taken.content
-    → IsBook next (octets - given) new
-remove_invariant next octets given place rs new taken is lt takes counted =
-    let at = split_at rs place lt in
-    let new_is : new ≡ at.0 ++ at.2 = (takes at.0 at.1 at.2 at.3 at.4).1 in
+pub remove_invariant : (next octets now id : ℕ) (rs new : List Record) (taken : Record) → IsBook next octets rs → Takes id rs (Some taken) new → now ≡ records_octets (others_than id rs) → IsBook next now new
+unfolding taken_at
+remove_invariant next octets now id rs new taken is takes counted =
+    let at = taken_at id taken rs new takes in
+    let new_is : new ≡ at.0 ++ at.2 = takes.4 in
     let up : Climbs (ids (at.0 ++ at.1 ∷ at.2) ++ next ∷ []) = climbs (ids (at.0 ++ at.1 ∷ at.2) ++ next ∷ []) (subst (λ (l : List Record). IsStrictlyIncreasing (ids l ++ next ∷ [])) at.3 is.rising) in
-    let enough = remove_enough next octets given place rs new taken is lt takes counted in
+    let whole : records_octets rs ≡ records_octets (at.0 ++ at.2) + content_octets at.1.content = ap records_octets at.3 ∙ octets_seam at.0 at.1 at.2 in
+    let others : now ≡ records_octets new = counted ∙ ap records_octets (others_at next octets id (length at.0) rs is at) ∙ sym (ap records_octets new_is) in
     let long : length new ≤ length rs = omega (arith, ap length new_is, length-append at.0 at.2, length-append at.0 (at.1 ∷ at.2), ap length at.3) in
     record {
       rising = subst (λ (l : List Record). IsStrictlyIncreasing (ids l ++ next ∷ [])) (sym new_is) (climbed (ids (at.0 ++ at.2) ++ next ∷ []) (climbs_removed at.0 at.1 at.2 next up));
-      counted = omega (arith, enough);
-      fits = not_large new (omega (arith, long, (large_parts rs is.fits).0)) (omega (arith, enough, is.counted, (large_parts rs is.fits).1));
+      counted = others;
+      fits = not_large new (omega (arith, long, (large_parts rs is.fits).0)) (omega (arith, whole, ap records_octets new_is, (large_parts rs is.fits).1));
     }
 
-pub remove_after : (book : BookView) (octets place : ℕ) (new : List Record) (stamp : List ℕ) (taken : Record) (log : Log) (eid id : ℕ) → IsBook book.next octets book.records
-    → IsPlaceOf book.records id (Some place) → Takes book.records place taken new → eid ≡ book.log.last + 1
+pub remove_after : (book : BookView) (octets : ℕ) (new : List Record) (stamp : List ℕ) (taken : Record) (log : Log) (eid id : ℕ) → IsBook book.next octets book.records
+    → Takes id book.records (Some taken) new → eid ≡ book.log.last + 1
     → log ≡ pushed book.log (record { eid = eid; stamp = stamp; action = Deletion; subject = taken })
     → (made : Entry) × IsDeletion book.log.last book.records stamp id made × (record { epoch = book.epoch; next = book.next; records = new; log = log } ≡ book_after book made)
-remove_after book octets place new stamp taken log eid id is at takes next logged =
-    let parts = takes at.0 at.1 at.2 at.3 at.4 in
-    let up : Climbs (ids (at.0 ++ at.1 ∷ at.2) ++ book.next ∷ []) = climbs (ids (at.0 ++ at.1 ∷ at.2) ++ book.next ∷ []) (subst (λ (l : List Record). IsStrictlyIncreasing (ids l ++ book.next ∷ [])) at.3 is.rising) in
-    let live_is : live book.records (deletion book.log.last stamp at.1 ∷ []) ≡ at.0 ++ at.2 =
-    ap (λ (l : List Record). live l (deletion book.log.last stamp at.1 ∷ [])) at.3 ∙ live_deleted at.0 at.1 at.2 book.next up (deletion book.log.last stamp at.1) refl refl in
-    let log_is : log ≡ pushed book.log (deletion book.log.last stamp at.1) =
-    logged
-    ∙ ap (λ (n : ℕ). pushed book.log (record { eid = n; stamp = stamp; action = Deletion; subject = taken })) next
-    ∙ ap (λ (r : Record). pushed book.log (deletion book.log.last stamp r)) parts.0 in
-    let found : record_of id book.records ≡ Some at.1 =
-    ap (record_of id) at.3 ∙ ap (λ (n : ℕ). record_of n (at.0 ++ at.1 ∷ at.2)) (sym at.5) ∙ found_here at.0 at.1 at.2 book.next up in (
-      entry.Event (deletion book.log.last stamp at.1),
-      (at.1, found, refl),
-      ap (λ (rs : List Record). record { epoch = book.epoch; next = book.next; records = rs; log = log }) (parts.1 ∙ sym live_is)
-          ∙ ap (λ (l : Log). record { epoch = book.epoch; next = book.next; records = live book.records (deletion book.log.last stamp at.1 ∷ []); log = l }) log_is,
+unfolding taken_at
+remove_after book octets new stamp taken log eid id is takes next logged =
+    let at = taken_at id taken book.records new takes in
+    let up : Climbs (ids (at.0 ++ taken ∷ at.2) ++ book.next ∷ []) = climbs (ids (at.0 ++ taken ∷ at.2) ++ book.next ∷ []) (subst (λ (l : List Record). IsStrictlyIncreasing (ids l ++ book.next ∷ [])) at.3 is.rising) in
+    let live_is : live book.records (deletion book.log.last stamp taken ∷ []) ≡ at.0 ++ at.2 =
+    ap (λ (l : List Record). live l (deletion book.log.last stamp taken ∷ [])) at.3 ∙ live_deleted at.0 taken at.2 book.next up (deletion book.log.last stamp taken) refl refl in
+    let log_is : log ≡ pushed book.log (deletion book.log.last stamp taken) =
+    logged ∙ ap (λ (n : ℕ). pushed book.log (record { eid = n; stamp = stamp; action = Deletion; subject = taken })) next in (
+      entry.Event (deletion book.log.last stamp taken),
+      (taken, held_is book.next octets id (length at.0) book.records is at, refl),
+      ap (λ (rs : List Record). record { epoch = book.epoch; next = book.next; records = rs; log = log }) (takes.4 ∙ sym live_is)
+          ∙ ap (λ (l : Log). record { epoch = book.epoch; next = book.next; records = live book.records (deletion book.log.last stamp taken ∷ []); log = l }) log_is,
     )
 
--- ---- what a book finds
-
-pub held_is : (next octets id place : ℕ) (rs : List Record) → IsBook next octets rs → (at : IsPlaceOf rs id (Some place)) → record_of id rs ≡ Some at.1
-held_is next octets id place rs is at =
-    let up : Climbs (ids (at.0 ++ at.1 ∷ at.2) ++ next ∷ []) = climbs (ids (at.0 ++ at.1 ∷ at.2) ++ next ∷ []) (subst (λ (l : List Record). IsStrictlyIncreasing (ids l ++ next ∷ [])) at.3 is.rising) in
-    ap (record_of id) at.3 ∙ ap (λ (n : ℕ). record_of n (at.0 ++ at.1 ∷ at.2)) (sym at.5) ∙ found_here at.0 at.1 at.2 next up
+-- ---- what is refused
 
 pub place_allowed : (last next octets id place : ℕ) (rs : List Record) → IsBook next octets rs → (last ≡ LAST → ⊥) → IsPlaceOf rs id (Some place) → delete_refusal last rs id ≡ None
 place_allowed last next octets id place rs is more at =
@@ -218,21 +225,6 @@ place_allowed last next octets id place rs is more at =
 
 pub fresh : (next octets : ℕ) (rs : List Record) → IsBook next octets rs → record_of next rs ≡ None
 fresh next octets rs is = none_before next rs [] (climbs (ids rs ++ next ∷ []) is.rising)
-
--- The other records are those before and after its place.
-pub others_at : (next octets id place : ℕ) (rs : List Record) → IsBook next octets rs → (at : IsPlaceOf rs id (Some place)) → others_than id rs ≡ at.0 ++ at.2
-others_at next octets id place rs is at =
-    let up : Climbs (ids (at.0 ++ at.1 ∷ at.2) ++ next ∷ []) = climbs (ids (at.0 ++ at.1 ∷ at.2) ++ next ∷ []) (subst (λ (l : List Record). IsStrictlyIncreasing (ids l ++ next ∷ [])) at.3 is.rising) in
-    ap (others_than id) at.3 ∙ ap (λ (n : ℕ). others_than n (at.0 ++ at.1 ∷ at.2)) (sym at.5) ∙ others_are at.0 at.1 at.2 next up
-
--- The octets of the other records.
-pub beside : (next octets id place : ℕ) (rs : List Record) (item : Record) → IsBook next octets rs → IsPlaceOf rs id (Some place) → item ≡ get_or rs place item
-    → octets - content_octets item.content ≡ records_octets (others_than id rs)
-beside next octets id place rs item is at got =
-    let others : others_than id rs ≡ at.0 ++ at.2 = others_at next octets id place rs is at in
-    let whole : records_octets rs ≡ records_octets (at.0 ++ at.2) + content_octets at.1.content = ap records_octets at.3 ∙ octets_seam at.0 at.1 at.2 in
-    let same : content_octets item.content ≡ content_octets at.1.content = ap (λ (r : Record). content_octets r.content) (item_at rs place item at.0 at.1 at.2 at.3 at.4 got) in
-    omega (arith, is.counted, whole, same, ap records_octets others)
 
 -- There is a further event identifier.
 pub more_eids : (last id : ℕ) (rs : List Record) → delete_refusal last rs id ≡ None → last ≡ LAST → ⊥

@@ -1,5 +1,5 @@
 -- A book that stands for some chronicle does so after each change.
-use Rattle.std.proofs.Common.{◌≡◌, ◌+◌, ◌-◌, ◌<◌, ◌≤◌, ◌^◌, ℕ, false, List, [], ◌∷◌, ◌++◌, Option, Some, None, ltb, refl, sym, ap, ◌∙◌, subst, arith}
+use Rattle.std.proofs.Common.{◌≡◌, ◌+◌, ◌-◌, ◌<◌, ◌≤◌, ◌^◌, ℕ, false, List, [], ◌∷◌, Option, Some, None, ltb, refl, sym, ◌∙◌, subst, arith}
 use Rattle.std.specs.Prelude.{Ok}
 use Rattle.std.proofs.lemmas.Bool.{cond-false, le-ltb}
 use Rattle.wire_base.specs.Stamp.{IsStamp}
@@ -17,7 +17,7 @@ use Rattle.collector_core.specs.Chronicle.{Chronicle, extended}
 use Rattle.collector_core.specs.Legal.{IsContent}
 use Rattle.collector_core.specs.Refusals.{alter_refusal, create_refusal, delete_refusal, others_than}
 use Rattle.collector_core.specs.Standing.{BookView, Enters, IsDeletion, StandsForSome, Stands, alteration, book_after, creation}
-use Rattle.collector_core.proofs.Changing.{alter_is, fresh, others_at, place_allowed}
+use Rattle.collector_core.proofs.Changing.{alter_is, fresh, place_allowed}
 use Rattle.collector_core.proofs.Standings.{alter_enters, create_enters, delete_enters, stands_epoch, stands_trim}
 
 some_entered : (says : Entry → Type 0) (refusal : Option BookError) (chronicle : Chronicle) (new : BookView) → Enters {T = Unit {0}} says refusal chronicle (Ok tt) new → StandsForSome new
@@ -32,16 +32,14 @@ module _ (old new : BookView) (octets : ℕ) (stamp : List ℕ) (content : Conte
       (allowed, (entry.Event (creation old.log.last old.next stamp content), refl, now)))
 
   -- What alters the record at a place, with an exchange of octets, is allowed.
-  alter_allowed : (id place given : ℕ) → old.log.last < 2 ^ 32 - 1 → IsPlaceOf old.records id (Some place) → IsExchange old.records place content given → alter_refusal old.log.last old.records id content ≡ None
+  alter_allowed : (id place given : ℕ) → old.log.last < 2 ^ 32 - 1 → IsPlaceOf old.records id (Some place) → IsExchange old.records id content given → alter_refusal old.log.last old.records id content ≡ None
   alter_allowed id place given more at exchange =
       let none : delete_refusal old.log.last old.records id ≡ None = place_allowed old.log.last old.next octets id place old.records is (λ last. omega (arith, more, last)) at in
-      let size : given ≡ records_octets (at.0 ++ at.2) + content_octets content = exchange.1 at.0 at.1 at.2 at.3 at.4 in
-      let others : records_octets (others_than id old.records) ≡ records_octets (at.0 ++ at.2) = ap records_octets (others_at old.next octets id place old.records is at) in
       alter_is old.log.last id old.records content none
       ∙ cond-false (ltb MOST_RECORDS_OCTETS (records_octets (others_than id old.records) + content_octets content)) _ None
-      (le-ltb MOST_RECORDS_OCTETS (records_octets (others_than id old.records) + content_octets content) (omega (arith, size, others, exchange.0)))
+      (le-ltb MOST_RECORDS_OCTETS (records_octets (others_than id old.records) + content_octets content) (omega (arith, exchange.1, exchange.0)))
 
-  pub some_altered : (id place given : ℕ) → old.log.last < 2 ^ 32 - 1 → IsPlaceOf old.records id (Some place) → IsExchange old.records place content given
+  pub some_altered : (id place given : ℕ) → old.log.last < 2 ^ 32 - 1 → IsPlaceOf old.records id (Some place) → IsExchange old.records id content given
       → new ≡ book_after old (entry.Event (alteration old.log.last stamp id content)) → StandsForSome new
   some_altered id place given more at exchange now =
       some_entered _ _ some.0 new

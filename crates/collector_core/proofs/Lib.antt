@@ -25,3 +25,6 @@ pub mod Fits
 pub mod Limits
 pub mod WrittenAnswers
 pub mod Borrowed
+pub mod Placed
+pub mod Slots
+pub mod Lives

@@ -15,3 +15,4 @@ pub mod Edits
 pub mod InTurn
 pub mod Meaning
 pub mod WrittenAnswers
+pub mod Places

@@ -25,11 +25,12 @@ pub(crate) mod edit;
 
 use crate::answer::Answer;
 use crate::error::BookError;
+use crate::live::Live;
 use crate::records::{identified, octets_of};
 use event_log::EventLog;
 use std::alloc::Global;
 use std::marker::Model;
-use swima_model::{Content, MOST_RECORDS, MOST_RECORDS_OCTETS, Point, Record, record_of};
+use swima_model::{Content, MOST_RECORDS, MOST_RECORDS_OCTETS, Point, Record};
 use swima_request::{Idents, Request};
 use wire_base::Memory;
 
@@ -38,9 +39,8 @@ use wire_base::Memory;
 #[derive(Debug, Drop)]
 pub struct Book {
     epoch: u32,
-    next: u32,
     octet_count: u64,
-    records: Vec<Record>,
+    records: Live,
     log: EventLog,
 }
 
@@ -51,10 +51,10 @@ impl Model for Book {
 
     ghost use Rattle.collector_core.specs.Book.{IsBook};
 
-    ghost view = { λ book. record { epoch = book.epoch; next = book.next; records = book.records.items; log = book.log } };
+    ghost view = { λ book. record { epoch = book.epoch; next = book.records.next; records = book.records.records; log = book.log } };
 
-    ghost invariant = { λ book. IsBook book.next book.octet_count book.records.items
-        × StandsForSome (record { epoch = book.epoch; next = book.next; records = book.records.items; log = book.log }) };
+    ghost invariant = { λ book. IsBook book.records.next book.octet_count book.records.records
+        × StandsForSome (record { epoch = book.epoch; next = book.records.next; records = book.records.records; log = book.log }) };
 }
 
 impl Book {
@@ -83,7 +83,6 @@ impl Book {
         }
         Ok(Book {
             epoch,
-            next: base.len() as u32 + 1,
             octet_count: octets,
             records: identified(alloc, base)?,
             log: EventLog::new(alloc, cap)?,
@@ -124,7 +123,7 @@ impl Book {
         ensures live { option_copied result ≡ record_of id self.now.records }
         ensures stands { (chronicle : Chronicle) → Stands self.now chronicle → option_copied result ≡ record_of id (live_now chronicle) }
     {
-        record_of(self.records.as_slice(), id)
+        self.records.get(id)
     }
 
     /// Whether the epoch of the point is not the current one, or an event after the point is no

@@ -20,7 +20,8 @@
 //! | `desk.rt` | any owner of an inventory, which others may change between two calls |
 //! | `answer.rt`, `report_content.rt` | reports that answer, and what they carry |
 //! | `targets.rt`, `moved.rt` | what a request asks for; whether some of it has changed |
-//! | `records.rt` | records in order of identifier |
+//! | `live.rt` | the live records, in order of identifier |
+//! | `records.rt` | contents, and the records that a book begins with |
 //! | `error.rt` | why a change is refused |
 //! | `laws.rt` | what the definitions mean, proved |
 //!
@@ -31,6 +32,7 @@
 //! | `Chronicle`, `Legal` | what was entered, the history that it makes, and what may be entered |
 //! | `Answering`, `BookAnswer` | the answer at a chronicle, and the same by what a book holds |
 //! | `Refusals`, `Edits` | when a change is refused, and which entry it makes |
+//! | `Places` | places of records, of which some are empty |
 //! | `Standing`, `Desks`, `BookDesk` | which chronicles a book or a desk represents |
 //! | `Meaning`, `WrittenAnswers` | the laws |
 #![tactic(auto)]
@@ -41,6 +43,7 @@ mod chronicle;
 mod desk;
 mod error;
 pub mod laws;
+mod live;
 mod moved;
 mod records;
 mod report_content;

@@ -8,6 +8,7 @@ ghost use Rattle.event_log.specs.Log.{event_at, events_from};
 ghost use Rattle.collector_core.specs.Borrowed.{values};
 ghost use Rattle.collector_core.specs.OctetOrder.{Rises};
 
+use crate::live::{Live, Place};
 use event_log::EventLog;
 use std::alloc::Global;
 use std::marker::Model;
@@ -75,18 +76,33 @@ pub(crate) fn is_among(rising: &[&[u8]], octets: &[u8]) -> bool
 pub(crate) fn wanted_records<'a>(
     alloc: Global,
     targets: &Targets,
-    records: &'a [Record],
+    records: &'a Live,
 ) -> Result<Vec<&'a Record>, Memory>
-    ensures wanted { IfOk result (λ made. values made.items ≡ wanted_records targets.now records.now) }
-    ensures few { IfOk result (λ made. length made.items ≤ length records.now) }
+    ensures wanted { IfOk result (λ made. values made.items ≡ wanted_records targets.now records.now.records) }
+    ensures few { IfOk result (λ made. length made.items ≤ length records.now.records) }
 {
     let mut chosen = Vec::new(alloc);
-    for held in records {
+    for place in records.places() {
+        choose_record(&mut chosen, targets, place)?;
+    }
+    Ok(chosen)
+}
+
+/// Puts the record of a place at the end, where there is one and it is asked for.
+fn choose_record<'a>(
+    chosen: &mut Vec<&'a Record>,
+    targets: &Targets,
+    place: &'a Place,
+) -> Result<(), Memory>
+    ensures chosen { OnOk result (values chosen.new.items
+        ≡ values chosen.old.items ++ wanted_records targets.now (option_to_list place.now.held)) }
+{
+    if let Some(held) = &place.held {
         if targets.has(&held.content.ident) {
             chosen.push(held)?;
         }
     }
-    Ok(chosen)
+    Ok(())
 }
 
 /// The events from an event identifier on that the log keeps and that are asked for, in their

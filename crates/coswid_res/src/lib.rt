@@ -14,7 +14,7 @@
 //! | file | what it holds | its words in `specs/` |
 //! |---|---|---|
 //! | `tables/form.rt`, `value_forms.rt` | the forms of values | `Fields`, `Words`, `Items` |
-//! | `tables/key.rt` | a number with its form: a field out of a map or into one | `Words`, `Reading` |
+//! | `tables/key.rt` | a number with its form; a field of a map | `Words`, `Reading` |
 //! | `tables/map_form.rt` | values that are written as maps | `Schema`, `Reading` |
 //! | `tables/rows.rt` | one or more values: an array, or one alone | `Words`, `Items` |
 //! | `tables/missing_key.rt`, `fault.rt` | the first form fault, with its path | `Fault` |

@@ -7,6 +7,8 @@ mod book_limit_tests;
 #[cfg(test)]
 mod books;
 #[cfg(test)]
+mod deletion_tests;
+#[cfg(test)]
 mod desk_tests;
 #[cfg(test)]
 mod event_tests;

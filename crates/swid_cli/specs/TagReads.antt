@@ -15,8 +15,8 @@ abbrev pub payload_paths : Option Payload → List (List ℕ)
 payload_paths None = []
 payload_paths (Some payload) = paths_read (listed payload)
 
--- The reads of these paths that a command made. Where it ended, it read each one, in order. Where it
--- stopped, it read some from the first on, and the last of them failed only if a fault stopped it.
+-- The reads of these paths that a command made. Where it ended, it read each one, in order. Where
+-- it stopped, it read some from the first on. The last of them failed only if a fault stopped it.
 abbrev pub AreMade : {A : Type 0} → List (List ℕ) → Result A Stopped → List Read → Type 0
 AreMade paths (Ok ended) reads = AreReads paths (Ok ended) reads
 AreMade {A} paths (Err stopped.Fault) reads = ((path : List ℕ) × AreReads {A = A} paths (Err (refused.FileFault path)) reads) ⊎ AreReads {A = A} paths (Err refused.Memory) reads

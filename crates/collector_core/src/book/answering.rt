@@ -30,7 +30,7 @@ impl Book {
         ensures some { StandsForSome self.now }
         ensures answer { IfOk result (λ answer. answer ≡ book_answer self.now request.now max) }
     {
-        let targets = Targets::new(*self.records.allocator(), &request.targets)?;
+        let targets = Targets::new(self.records.allocator(), &request.targets)?;
         if self.is_dropped(request.earliest) {
             return self.inventory(request, &targets, max);
         }
@@ -51,8 +51,8 @@ impl Book {
         ensures answer { IfOk result (λ answer. answer
             ≡ if_fits max (inventory_of request.now (book_point self.now) (wanted_records targets.now self.now.records))) }
     {
-        let alloc = *self.records.allocator();
-        let records = wanted_records(alloc, targets, self.records.as_slice())?;
+        let alloc = self.records.allocator();
+        let records = wanted_records(alloc, targets, &self.records)?;
         inventory(alloc, request, self.point(), records.as_slice(), max)
     }
 
@@ -63,7 +63,7 @@ impl Book {
             ≡ if_fits max (told request.now (book_point self.now)
             (wanted_events targets.now (events_from request.now.earliest self.now.log.events)) max)) }
     {
-        let alloc = *self.records.allocator();
+        let alloc = self.records.allocator();
         let events = wanted_events(alloc, targets, &self.log, request.earliest)?;
         told(alloc, request, self.point(), events.as_slice(), max)
     }

@@ -1,6 +1,6 @@
 //! How a book is changed. The clauses are of the book alone.
 
-ghost use Rattle.std.specs.Prelude.{List, false, Err, ◌≡◌, ◌<◌, ◌≤◌, ◌+◌, ◌-◌, ◌^◌, ◌∷◌, ℕ, Some, None, IfErr, IfOk, OnErr, OnOk, ◌++◌, length, nat_lt, if◌then◌else◌};
+ghost use Rattle.std.specs.Prelude.{false, Err, ◌≡◌, ◌<◌, ◌≤◌, ◌+◌, ◌-◌, ◌^◌, Some, None, IfErr, IfOk, IsSome, OnErr, OnOk, nat_lt, if◌then◌else◌};
 ghost use Rattle.wire_base.specs.Stamp.{IsStamp};
 ghost use Rattle.swima_model.specs.declared.record.Record.{Record};
 ghost use Rattle.swima_model.specs.Live.{record_of};
@@ -8,7 +8,6 @@ ghost use Rattle.swima_model.specs.Size.{MOST_CONTENT_OCTETS, MOST_RECORDS_OCTET
 ghost use Rattle.event_log.specs.Log.{IsLog};
 ghost use Rattle.collector_core.specs.declared.chronicle.Entry.{Entry};
 ghost use Rattle.collector_core.specs.declared.chronicle.Entry.TheVariants as entry;
-ghost use Rattle.swima_model.specs.Places.{IsPlaceOf};
 ghost use Rattle.collector_core.specs.Book.{IsExchange};
 ghost use Rattle.collector_core.specs.declared.error.BookError.TheVariants as refused;
 ghost use Rattle.collector_core.specs.Legal.{IsContent};
@@ -17,8 +16,8 @@ ghost use Rattle.collector_core.specs.Standing.{Changes, ChangesExactly, IsAlter
 
 use super::Book;
 use crate::error::BookError;
-use crate::records::{push_record, put_content, take_record, within_limits};
-use swima_model::{Action, Content, Event, MOST_RECORDS, MOST_RECORDS_OCTETS, Record, place_of};
+use crate::records::within_limits;
+use swima_model::{Action, Content, Event, MOST_RECORDS, MOST_RECORDS_OCTETS, Record};
 use wire_base::{Memory, TryCopy};
 
 impl Book {
@@ -64,13 +63,12 @@ impl Book {
         ensures fits { OnOk result (are_large self.new.records ≡ false) }
     {
         within_limits(content);
-        let place = self.place_to_change(id)?;
-        let held = self.octets_beside(place);
+        let held = self.octets_beside(id)?;
         let given = content.octets();
         if let Some(error) = bytes_refused(held, given) {
             return Err(error);
         }
-        Ok(self.replace(stamp, place, content, held + given)?)
+        Ok(self.replace(stamp, id, content, held + given)?)
     }
 
     /// Deletes a record where nothing refuses it. Its clauses are of the book alone.
@@ -83,8 +81,8 @@ impl Book {
         ensures content { OnOk result ((held : Record) → record_of id self.old.records ≡ Some held → IsContent held.content) }
         ensures fits { OnOk result (are_large self.new.records ≡ false) }
     {
-        let place = self.place_to_change(id)?;
-        self.remove(stamp, place);
+        let octets = self.octets_beside(id)?;
+        self.remove(stamp, id, octets);
         Ok(())
     }
 
@@ -122,7 +120,7 @@ impl Book {
         ensures fresh { record_of self.now.next self.now.records ≡ None }
         ensures next { self.now.next < 2 ^ 32 }
     {
-        let _next = self.next;
+        let _next = self.records.next();
         let _first = self.log.first();
     }
 
@@ -134,8 +132,9 @@ impl Book {
         if last == u32::MAX {
             return Some(BookError::EidsSpent { last });
         }
-        if self.next == u32::MAX {
-            return Some(BookError::IdsSpent { next: self.next });
+        let next = self.records.next();
+        if next == u32::MAX {
+            return Some(BookError::IdsSpent { next });
         }
         if self.records.len() >= MOST_RECORDS {
             return Some(BookError::RecordsFull {
@@ -145,11 +144,14 @@ impl Book {
         bytes_refused(self.octet_count, content.octets())
     }
 
-    /// The place of a live record that may be altered or deleted, or why it may not.
-    fn place_to_change(&self, id: u32) -> Result<usize, BookError>
+    /// How many octets the other records have, where a record may be altered or deleted; or why it
+    /// may not.
+    fn octets_beside(&self, id: u32) -> Result<u64, BookError>
         ensures some { StandsForSome self.now }
-        ensures place { IfOk result (λ place. (delete_refusal self.now.log.last self.now.records id ≡ None)
-            × IsPlaceOf self.now.records id (Some place)) }
+        ensures allowed { OnOk result (delete_refusal self.now.log.last self.now.records id ≡ None) }
+        ensures held { OnOk result (IsSome (record_of id self.now.records)) }
+        ensures beside { IfOk result (λ octets. octets ≡ records_octets (others_than id self.now.records)) }
+        ensures within { IfOk result (λ octets. octets ≤ MOST_RECORDS_OCTETS) }
         ensures refusal { IfErr result (λ error. (delete_refusal self.now.log.last self.now.records id ≡ Some error)) }
         ensures memory { result ≡ Err refused.Memory → ⊥ }
         ensures log { IsLog self.now.log }
@@ -158,21 +160,10 @@ impl Book {
         if last == u32::MAX {
             return Err(BookError::EidsSpent { last });
         }
-        match place_of(self.records.as_slice(), id) {
+        match self.records.get(id) {
             None => Err(BookError::UnknownRecord { id }),
-            Some(place) => Ok(place),
+            Some(held) => Ok(self.octet_count - held.content.octets()),
         }
-    }
-
-    /// How many octets the records have except for that at a place.
-    fn octets_beside(&self, place: usize) -> u64
-        requires place { place < length self.now.records }
-        ensures others { (id : ℕ) → IsPlaceOf self.now.records id (Some place) → result ≡ records_octets (others_than id self.now.records) }
-        ensures beside { (before : List Record) (held : Record) (after : List Record) → self.now.records ≡ before ++ held ∷ after
-            → place ≡ length before → result ≡ records_octets (before ++ after) }
-        ensures within { result ≤ MOST_RECORDS_OCTETS }
-    {
-        self.octet_count - self.records[place].content.octets()
     }
 
     /// Adds a record, which nothing refuses except running out of memory.
@@ -185,7 +176,7 @@ impl Book {
         ensures unchanged { OnErr result (self.new ≡ self.old) }
         ensures fits { OnOk result (are_large self.new.records ≡ false) }
     {
-        let id = self.next;
+        let id = self.records.next();
         let event = Event {
             eid: self.log.last() + 1,
             stamp: *stamp,
@@ -197,33 +188,30 @@ impl Book {
         };
         let content = content.copy()?;
         let octets = self.octet_count + content.octets();
-        push_record(&mut self.records, Record { id, content })?;
+        self.records.push(content)?;
         self.octet_count = octets;
-        self.next = id + 1;
         let _oldest = self.log.push(event);
         Ok(id)
     }
 
-    /// Replaces the content of the record at a place, which nothing refuses except running out of
-    /// memory.
+    /// Replaces the content of a record, which nothing refuses except running out of memory.
     fn replace(
         &mut self,
         stamp: &[u8; 20],
-        place: usize,
+        id: u32,
         content: &Content,
         octets: u64,
     ) -> Result<(), Memory>
         requires stamp { IsStamp stamp.now }
         requires content { IsContent content.now }
         requires last { self.old.log.last < 2 ^ 32 - 1 }
-        requires place { place < length self.old.records }
-        requires octets { IsExchange self.old.records place content.now octets }
-        ensures altered { OnOk result ((id : ℕ) → IsPlaceOf self.old.records id (Some place)
-            → self.new ≡ book_after self.old (entry.Event (alteration self.old.log.last stamp.now id content.now))) }
+        requires held { IsSome (record_of id self.old.records) }
+        requires octets { IsExchange self.old.records id content.now octets }
+        ensures altered { OnOk result (self.new
+            ≡ book_after self.old (entry.Event (alteration self.old.log.last stamp.now id content.now))) }
         ensures unchanged { OnErr result (self.new ≡ self.old) }
         ensures fits { OnOk result (are_large self.new.records ≡ false) }
     {
-        let id = self.records[place].id;
         let event = Event {
             eid: self.log.last() + 1,
             stamp: *stamp,
@@ -234,26 +222,26 @@ impl Book {
             },
         };
         let content = content.copy()?;
-        put_content(&mut self.records, place, content);
+        self.records.put(id, content);
         self.octet_count = octets;
         let _oldest = self.log.push(event);
         Ok(())
     }
 
-    /// Moves the record at a place to its event. It takes no memory.
-    fn remove(&mut self, stamp: &[u8; 20], place: usize)
+    /// Moves a record to its event. It takes no memory.
+    fn remove(&mut self, stamp: &[u8; 20], id: u32, octets: u64)
         requires stamp { IsStamp stamp.now }
         requires last { self.old.log.last < 2 ^ 32 - 1 }
-        requires place { place < length self.old.records }
-        ensures removed { (id : ℕ) → IsPlaceOf self.old.records id (Some place) → (made : Entry)
-            × IsDeletion self.old.log.last self.old.records stamp.now id made × (self.new ≡ book_after self.old made) }
-        ensures content { (id : ℕ) (held : Record) → IsPlaceOf self.old.records id (Some place)
-            → record_of id self.old.records ≡ Some held → IsContent held.content }
+        requires held { IsSome (record_of id self.old.records) }
+        requires octets { octets ≡ records_octets (others_than id self.old.records) }
+        ensures removed { (made : Entry) × IsDeletion self.old.log.last self.old.records stamp.now id made
+            × (self.new ≡ book_after self.old made) }
+        ensures content { (held : Record) → record_of id self.old.records ≡ Some held → IsContent held.content }
         ensures fits { are_large self.new.records ≡ false }
     {
-        let subject = take_record(&mut self.records, place);
+        let subject = self.records.take(id).unwrap();
         within_limits(&subject.content);
-        self.octet_count -= subject.content.octets();
+        self.octet_count = octets;
         let event = Event {
             eid: self.log.last() + 1,
             stamp: *stamp,

@@ -79,7 +79,11 @@ impl Algorithm {
 
 /// The verdict on the file of an entry, whose path this is. It is read where its hash is by a known
 /// algorithm, and in no other case. A fault exactly where that read failed.
-pub(crate) fn verdict_on<F: Files>(files: &mut F, path: &str, file: &FileEntry) -> Result<Verdict, Stopped>
+pub(crate) fn verdict_on<F: Files>(
+    files: &mut F,
+    path: &str,
+    file: &FileEntry,
+) -> Result<Verdict, Stopped>
     ensures verdict { IfOk result (λ verdict. IsVerdict (F.contents files.old) (stated_file path.now file.now) verdict) }
     ensures contents { F.contents files.new ≡ F.contents files.old }
     ensures cause { HasCause (F.faults files.old) (F.faults files.new) (is_fault result) }

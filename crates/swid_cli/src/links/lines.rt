@@ -12,7 +12,11 @@ use wire_base::{List, Memory, Octets};
 const LINE_OCTETS: usize = 20;
 
 /// How many tags there are, and a line for each finding between them.
-pub(crate) fn findings_text(alloc: Global, count: u64, found: &[LinkFinding]) -> Result<Octets, Memory>
+pub(crate) fn findings_text(
+    alloc: Global,
+    count: u64,
+    found: &[LinkFinding],
+) -> Result<Octets, Memory>
     ensures text { IfOk result (λ made. made ≡ findings_text count found.now) }
 {
     let first = format!(in alloc; "tags {count}\n")?;

@@ -35,7 +35,11 @@ pub(crate) enum Front {
 
 /// Takes the first attribute of what is left of the input, of which `room` octets may be looked at.
 /// It reads no octet after what it has to look at, and holds no more than that attribute.
-pub(crate) fn take_front<S: Source>(alloc: Global, input: &mut S, room: usize) -> Result<Front, Stopped>
+pub(crate) fn take_front<S: Source>(
+    alloc: Global,
+    input: &mut S,
+    room: usize,
+) -> Result<Front, Stopped>
     requires { room ≤ INPUT_OCTETS }
     ensures front { IfOk result
         (λ first. TakesFront room (S.left input.old) (S.left input.new) first) }

@@ -9,7 +9,11 @@ use std::alloc::Global;
 use wire_base::{Memory, Octets, Text, push_escaped};
 
 /// Puts a line for each file at the end of `out`: the verdict on it, and its path.
-pub(crate) fn push_files(alloc: Global, out: &mut Octets, files: &[(Text, Verdict)]) -> Result<(), Memory>
+pub(crate) fn push_files(
+    alloc: Global,
+    out: &mut Octets,
+    files: &[(Text, Verdict)],
+) -> Result<(), Memory>
     ensures appended { OnOk result (out.new ≡ out.old ++ flat_map file_line files.now) }
 {
     for file in files {

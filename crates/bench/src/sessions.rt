@@ -1,0 +1,137 @@
+//! Sessions of a collector with a validator, by the cores of both ends, beside the same reports
+//! without batches. The collector's log is full, and the validator's mirror is empty at first.
+
+ghost use Rattle.std.specs.Prelude.{◌<◌};
+
+use crate::book::{KEPT, alterations, book_of, latest};
+use crate::trouble::Trouble;
+use collector_core::{Answer, Book};
+use collector_session::ServeCore;
+use session_rules::{FollowConfig, ServeConfig};
+use std::alloc::Global;
+use swima_model::Kind;
+use validator_core::Mirror;
+use validator_session::FollowCore;
+
+/// How many octets of reports a batch may have.
+const MOST: u32 = 16_000_000;
+
+/// How the collector serves: to the validator's end.
+const SERVING: ServeConfig = ServeConfig {
+    max: MOST,
+    reports: None,
+    idle: 1,
+    octets: 4_294_967_295,
+};
+
+/// How the validator follows: for one round.
+const FOLLOWING: FollowConfig = FollowConfig {
+    subscribe: false,
+    rounds: 1,
+    idle: 1,
+    octets: 4_294_967_295,
+};
+
+/// How often all that waits is carried, up and down, until a session of one round is over.
+const ROUNDS: u32 = 3;
+
+/// The first session over a book of that many records, in pieces of `size` octets. It gives how
+/// many records the mirror has then.
+pub(crate) fn first(alloc: Global, records: u32, size: usize) -> Result<u64, Trouble>
+    requires some { 0 < size }
+{
+    let mut book = full_book(alloc, records)?;
+    let mut mirror = Mirror::new(alloc, Kind::Full);
+    exchange(alloc, &mut book, &mut mirror, size)?;
+    Ok(u64::from(mirror.count()))
+}
+
+/// The inventory of a book of that many records, and the mirror that takes it.
+pub(crate) fn alone(alloc: Global, records: u32) -> Result<u64, Trouble> {
+    let book = full_book(alloc, records)?;
+    let mut mirror = Mirror::new(alloc, Kind::Full);
+    match book.answer(&latest(alloc, 0), MOST) {
+        Answer::Report(report) => {
+            mirror.take_owned(report);
+            Ok(u64::from(mirror.count()))
+        }
+        Answer::TooLarge { .. } => Err(Trouble::Book),
+        Answer::Memory => Err(Trouble::Memory),
+    }
+}
+
+/// After a first session over a book of that many records, that many further sessions, each after
+/// `events` alterations. It gives how many sessions there were.
+pub(crate) fn updates(
+    alloc: Global,
+    records: u32,
+    events: u32,
+    times: u32,
+) -> Result<u64, Trouble> {
+    let mut book = full_book(alloc, records)?;
+    let mut mirror = Mirror::new(alloc, Kind::Full);
+    exchange(alloc, &mut book, &mut mirror, usize::MAX)?;
+    let mut done: u64 = 0;
+    for _ in 0..times {
+        alterations(alloc, &mut book, events)?;
+        exchange(alloc, &mut book, &mut mirror, usize::MAX)?;
+        done = done.saturating_add(1);
+    }
+    Ok(done)
+}
+
+/// A book of that many records whose log is full.
+fn full_book(alloc: Global, records: u32) -> Result<Book, Trouble> {
+    let mut book = book_of(alloc, records, KEPT)?;
+    alterations(alloc, &mut book, KEPT)?;
+    Ok(book)
+}
+
+/// A session of one round, in pieces of `size` octets.
+fn exchange(alloc: Global, book: &mut Book, mirror: &mut Mirror, size: usize) -> Result<(), Trouble>
+    requires some { 0 < size }
+{
+    let mut serve = ServeCore::new(alloc, &SERVING)?;
+    let mut follow = FollowCore::new(alloc, &FOLLOWING);
+    for _ in 0..ROUNDS {
+        carry_up(alloc, &mut serve, &mut follow, mirror, size);
+        carry_down(alloc, &mut follow, &mut serve, book, size);
+    }
+    Ok(())
+}
+
+/// Carries all that waits to the validator.
+fn carry_up(
+    alloc: Global,
+    serve: &mut ServeCore,
+    follow: &mut FollowCore,
+    mirror: &mut Mirror,
+    size: usize,
+)
+    requires some { 0 < size }
+{
+    let waiting = serve.waiting();
+    let count = waiting.len();
+    for piece in waiting.chunks(size) {
+        follow.hear(alloc, mirror, piece);
+    }
+    serve.carried(count);
+}
+
+/// Carries all that waits to the collector.
+fn carry_down(
+    alloc: Global,
+    follow: &mut FollowCore,
+    serve: &mut ServeCore,
+    book: &mut Book,
+    size: usize,
+)
+    requires some { 0 < size }
+{
+    let waiting = follow.waiting();
+    let count = waiting.len();
+    for piece in waiting.chunks(size) {
+        serve.hear(alloc, book, piece);
+    }
+    follow.carried(count);
+}
