@@ -102,7 +102,7 @@ later_own None later one other = other
 
 peers_own : (closing : Bool) (messages : List Message) → peer_error closing messages ≢ Some end.LinkFault
 peers_own closing [] is = absurd cc
-peers_own closing (message ∷ messages) = later_own (error_in closing message) (peer_error closing messages) (error_own closing message) (peers_own closing messages)
+peers_own closing (message ∷ messages) is = later_own (error_in closing message) (peer_error closing messages) (error_own closing message) (peers_own closing messages) is
 
 -- After a batch that the machine goes on with.
 goes_on : (state : State) (kind : BatchKind) (first : Option SessionEnd) → first ≢ Some end.LinkFault → (receiving Client state kind).0 ≡ heard.Go → MayFollow (record { role = Client; state = (receiving Client state kind).1 }) kind (ended_by kind first)

@@ -1,6 +1,7 @@
 -- What the loop over a link did, call by call.
-use Rattle.std.proofs.Common.{◌≡◌, ◌≢◌, ◌+◌, ℕ, Bool, true, false, List, [], ◌++◌, Option, Some, None, length, take, drop, refl, sym, ap, subst, ◌∙◌, arith}
-use Rattle.std.proofs.lemmas.List.{take-append-drop}
+use Rattle.std.proofs.Common.{◌≡◌, ◌≢◌, ◌+◌, ℕ, Bool, true, false, List, [], ◌++◌, Option, Some, None, length, take, drop, refl, sym, ap, subst, ◌∙◌}
+use Rattle.std.proofs.Math.Seq.{drop-length, take-add}
+use Rattle.std.specs.Prelude.{OnOk, Result, Ok, Err}
 use Rattle.wire_base.specs.Outside.{Adds}
 use Rattle.wire_base.specs.Turns.{Turn}
 use Rattle.wire_base.proofs.Streams.{adds_none, adds_more}
@@ -65,14 +66,9 @@ live_is by live memory = let both : None ≡ Some end.Memory = sym live ∙ memo
 
 -- ---- octets that are given
 
-take_more : (text : List ℕ) (count more : ℕ) → take count text ++ take more (drop count text) ≡ take (count + more) text
-take_more text 0 more = refl
-take_more [] (suc count) more = refl
-take_more (octet ∷ text) (suc count) more = ap (λ (o : List ℕ). octet ∷ o) (take_more text count more)
-
 pub gave_more : (before mid after : Option (List ℕ)) (text : List ℕ) (count more : ℕ) → Adds before mid (take count text) → Adds mid after (take more (drop count text)) → Adds before after (take (count + more) text)
 gave_more before mid after text count more first second =
-    subst (λ (o : List ℕ). Adds before after o) (take_more text count more) (adds_more before mid after (take count text) (take more (drop count text)) first second)
+    subst (λ (o : List ℕ). Adds before after o) (sym (take-add count more text)) (adds_more before mid after (take count text) (take more (drop count text)) first second)
 
 -- ---- turns
 
@@ -98,3 +94,8 @@ other_is by over is other memory =
     of_some : Option SessionEnd → Bool
     of_some (Some by) = is_memory by
     of_some None = false
+
+-- All was given, so nothing waits.
+pub all_given : {T E : Type 0} (result : Result T E) (text waits left : List ℕ) (count : ℕ) → text ≡ waits → OnOk result (count ≡ length text) → left ≡ drop count waits → OnOk result (left ≡ [])
+all_given (Ok done) text waits left count same whole rest = rest ∙ ap (λ (n : ℕ). drop n waits) (whole ∙ ap length same) ∙ drop-length waits
+all_given (Err error) text waits left count same whole rest = tt
