@@ -1,6 +1,7 @@
 -- What the loop over a link did, call by call.
-use Rattle.std.proofs.Common.{◌≡◌, ◌≢◌, ◌+◌, ℕ, Bool, true, false, List, [], ◌++◌, Option, Some, None, length, take, drop, refl, sym, ap, subst, ◌∙◌}
+use Rattle.std.proofs.Common.{◌≡◌, ◌≢◌, ◌+◌, ◌-◌, ◌≤◌, ℕ, Bool, true, false, List, [], ◌++◌, Option, Some, None, length, take, drop, refl, sym, ap, subst, ◌∙◌, arith}
 use Rattle.std.proofs.Math.Seq.{drop-length, take-add}
+use Rattle.std.proofs.lemmas.List.{length-drop, take_all}
 use Rattle.std.specs.Prelude.{OnOk, Result, Ok, Err}
 use Rattle.wire_base.specs.Outside.{Adds}
 use Rattle.wire_base.specs.Turns.{Turn}
@@ -66,9 +67,20 @@ live_is by live memory = let both : None ≡ Some end.Memory = sym live ∙ memo
 
 -- ---- octets that are given
 
-pub gave_more : (before mid after : Option (List ℕ)) (text : List ℕ) (count more : ℕ) → Adds before mid (take count text) → Adds mid after (take more (drop count text)) → Adds before after (take (count + more) text)
+-- The text from a place on.
+abbrev pub rest_of : List ℕ → ℕ → List ℕ
+rest_of text count = take (length text - count) (drop count text)
+
+rest_is : (text : List ℕ) (count : ℕ) → rest_of text count ≡ drop count text
+rest_is text count = take_all (length text - count) (drop count text) (omega (arith, length-drop count text))
+
+pub rest_length : (text : List ℕ) (count : ℕ) → length (rest_of text count) ≡ length text - count
+rest_length text count = ap length (rest_is text count) ∙ length-drop count text
+
+pub gave_more : (before mid after : Option (List ℕ)) (text : List ℕ) (count more : ℕ) → Adds before mid (take count text) → Adds mid after (take more (rest_of text count)) → Adds before after (take (count + more) text)
 gave_more before mid after text count more first second =
-    subst (λ (o : List ℕ). Adds before after o) (sym (take-add count more text)) (adds_more before mid after (take count text) (take more (drop count text)) first second)
+    subst (λ (o : List ℕ). Adds before after o) (ap (λ (rest : List ℕ). take count text ++ take more rest) (rest_is text count) ∙ sym (take-add count more text))
+    (adds_more before mid after (take count text) (take more (rest_of text count)) first second)
 
 -- ---- turns
 
