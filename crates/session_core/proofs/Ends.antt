@@ -1,5 +1,6 @@
 -- How a turn ended a session.
-use Rattle.std.proofs.Common.{◌≡◌, ◌≢◌, false, Option, Some, None, refl, ap}
+use Rattle.std.proofs.Common.{◌≡◌, ◌≢◌, ℕ, Bool, false, Option, Some, None, refl, sym, subst}
+use Rattle.wire_base.specs.Outside.{HasCause}
 use Rattle.collector_session.specs.Cores as serve
 use Rattle.validator_session.specs.Core as follow
 use Rattle.session_rules.specs.declared.end.SessionEnd.{SessionEnd}
@@ -26,3 +27,7 @@ not_fault (end.Torn have) own = refl
 not_fault (end.IdleOut turns) own = refl
 not_fault end.Enough own = refl
 not_fault end.Memory own = refl
+
+-- No call of the link failed, and the session did not end so.
+pub caused : (by : SessionEnd) (before after : ℕ) → by ≢ end.LinkFault → HasCause before after false → HasCause before after (is_link_fault by)
+caused by before after own cause = subst (λ (b : Bool). HasCause before after b) (sym (not_fault by own)) cause
