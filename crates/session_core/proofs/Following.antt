@@ -1,5 +1,5 @@
 -- A whole session of a validator, by how the loop over its link ended.
-use Rattle.std.proofs.Common.{◌≡◌, ◌≢◌, ℕ, false, List, [], ◌++◌, Option, Some, None, inl, inr, length, refl, sym, ap, subst, subst₂, ◌∙◌, append-nil}
+use Rattle.std.proofs.Common.{◌≡◌, ◌≢◌, ℕ, false, List, [], ◌∷◌, ◌++◌, Option, Some, None, inl, inr, length, refl, sym, ap, subst, subst₂, ◌∙◌, append-nil}
 use Rattle.std.specs.Prelude.{map}
 use Rattle.wire_base.specs.Turns.{Turn}
 use Rattle.swima_model.specs.History.{History, IsHonest}
@@ -14,7 +14,7 @@ use Rattle.session_rules.specs.declared.end.SessionEnd.{SessionEnd}
 use Rattle.session_rules.specs.declared.end.SessionEnd.TheVariants as end
 use Rattle.session_rules.specs.declared.record.SessionRecord.{SessionRecord}
 use Rattle.session_rules.specs.AnySession.{NotesAnswer}
-use Rattle.session_rules.specs.Following.{Notes as NotesValue, TakenReport as TakenValue, nothing_noted}
+use Rattle.session_rules.specs.Following.{Stand, TakenReport as TakenValue}
 use Rattle.session_rules.specs.FollowRules.{session}
 use Rattle.session_rules.specs.Numbers.{counted_on}
 use Rattle.session_rules.specs.Transcripts.{nobody}
@@ -119,6 +119,10 @@ module _ (c : FollowConfig) (mirror : Held) (turns : List Turn) (octets : List �
       ]
 
 -- ---- the session
+
+-- Before the first turn it is not over.
+pub begun_live : (c : FollowConfig) (mirror : Held) (begun : Inner) → Stood c mirror [] [] begun mirror → over_of begun ≡ None
+begun_live c mirror begun s = ap (λ (stand : Stand). stand.over) (s.gives nobody).2
 
 module _ (c : FollowConfig) (mirror now : Held) (taken taken-after : Option (List Turn)) (given given-after : Option (List ℕ)) (begun core : Inner) (begins : Stood c mirror [] [] begun mirror) (config : begun.end.config ≡ c)
     (is-noted : IsNoted core.end.standing.notes) (d : Drives FollowRan begun mirror core now taken taken-after given given-after) where

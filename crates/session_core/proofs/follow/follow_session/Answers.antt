@@ -4,7 +4,7 @@ use Rattle.session_rules.specs.declared.end.SessionEnd.TheVariants as end
 use Rattle.session_rules.specs.declared.record.SessionRecord.{SessionRecord}
 use Rattle.session_core.specs.Followed.{Followed}
 use Rattle.session_core.proofs.Ends.{caused}
-use Rattle.session_core.proofs.Following.{followed_end, followed_fault, followed_own}
+use Rattle.session_core.proofs.Following.{begun_live, followed_end, followed_fault, followed_own}
 use Rattle.session_core.proofs.follow.follow_session.Goals as goal
 
 pub returns-in-Ok-clause-followed : goal.returns-in-Ok-clause-followed
@@ -24,3 +24,6 @@ returns-in-Err-clause-followed g c =
 pub returns-in-Ok-clause-cause : goal.returns-in-Ok-clause-cause
 returns-in-Ok-clause-cause g c = caused c.in-Ok.by _ _ (followed_own c.args.config.now c.args.mirror.now c.drive.new.beside _ _ _ _ c.new-core.result c.drive.new.core (c.new-core.ensures.stands c.args.mirror.now) c.new-core.ensures.config c.into_record.ensures.noted c.in-Ok.ensures.drives
     c.in-Ok.by c.in-Ok.ensures.over) c.in-Ok.ensures.cause
+
+pub drive-requires : goal.drive-requires
+drive-requires g c = record { live = begun_live c.args.config.now c.args.mirror.now c.new-core.result (c.new-core.ensures.stands c.args.mirror.now) }

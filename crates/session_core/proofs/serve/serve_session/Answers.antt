@@ -4,7 +4,7 @@ use Rattle.session_rules.specs.declared.end.SessionEnd.{SessionEnd}
 use Rattle.session_rules.specs.declared.end.SessionEnd.TheVariants as end
 use Rattle.session_rules.specs.declared.record.SessionRecord.{SessionRecord}
 use Rattle.session_core.specs.Served.{Served}
-use Rattle.session_core.proofs.Serving.{served_end, served_fault}
+use Rattle.session_core.proofs.Serving.{served_end, served_fault, served_none}
 use Rattle.session_core.proofs.serve.serve_session.Goals as goal
 
 pub returns-in-Ok-drive-clause-served : goal.returns-in-Ok-drive-clause-served
@@ -23,3 +23,8 @@ returns-in-Err-clause-served g c =
     (sym c.into_record-in-Err.ensures.record)
     (served_fault g.D.Desk.stands g.D.Desk.went c.args.config.now c.args.desk.now c.drive.new.beside _ _ _ _ c.in-Ok.core c.drive.new.core c.in-Ok.ensures.stood c.in-Ok.ensures.config
     (ap (λ (kept : SessionRecord). kept.taken) (sym c.into_record-in-Err.ensures.record) ∙ c.into_record-in-Err.ensures.taken) c.in-Err.ensures.drives c.in-Err.ensures.memory)
+
+pub returns-in_default-clause-served : goal.returns-in_default-clause-served
+returns-in_default-clause-served g c =
+    served_none g.D.Desk.stands g.D.Desk.went c.args.config.now c.args.desk.now c.args.desk.now (g.L.Link.taken c.args.link.now) (g.L.Link.taken c.args.link.now) (g.L.Link.given c.args.link.now) (g.L.Link.given c.args.link.now)
+    c.args.desk.now (g.met.D.Desk.stays c.args.desk.now) c.new-in_default.result c.new-in_default.ensures.made
