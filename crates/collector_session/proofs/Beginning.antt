@@ -48,6 +48,8 @@ module _ (c : ServeConfig) (machine : Position) (out : List ℕ) (machine-is : m
     feeding = λ live. refl;
     room = λ live. octets;
     patient = λ live. idle;
+    taken = refl;
+    own = λ is. absurd cc;
   }
 
   -- So of a core whose parts are as they are made.

@@ -1,5 +1,5 @@
 -- A step, as what the rules of a collector say to it.
-use Rattle.std.proofs.Common.{◌≡◌, false, List, [], ◌∷◌, Option, Some, None, refl, sym, ap, subst}
+use Rattle.std.proofs.Common.{◌≡◌, ◌≢◌, false, List, [], ◌∷◌, Option, Some, None, refl, sym, ap, subst}
 use Rattle.std.specs.Prelude.{Result, Ok, Err, is_ok, is_some}
 use Rattle.pb_batch.specs.declared.batch.Batch.{Batch}
 use Rattle.pb_batch.specs.declared.fault.PbFault.{PbFault}
@@ -10,6 +10,7 @@ use Rattle.session_hear.specs.Step.{Step, Came, Faulty}
 use Rattle.session_hear.specs.Serving.{serve}
 use Rattle.session_hear.proofs.Serving.{one_breaks, one_gives}
 use Rattle.session_rules.specs.declared.end.SessionEnd.{SessionEnd}
+use Rattle.session_rules.specs.declared.end.SessionEnd.TheVariants as final
 use Rattle.session_rules.specs.Clauses.{Talked}
 use Rattle.session_rules.specs.Questions.{at_places}
 use Rattle.session_rules.specs.ServeRules.{Serves, hears, note, react, refuses, steps_unless}
@@ -30,11 +31,14 @@ faulty one fault live = ap (λ (by : Option SessionEnd). steps_unless one.config
 module _ {D : Type 0} (stands : D → Chronicle → Type 0) (went : D → List Mark → D → Type 0) where
   pub step_did : {T E : Type 0} (result : Result T E) (one two : ServeEnd) (first second : D) (step : Step) (talk : Serves) → react one.config (standing one) step ≡ talk → two.config ≡ one.config
       → two.standing.record.sent ≡ one.standing.record.sent → two.standing.record.received ≡ one.standing.record.received
+      → two.standing.record.taken ≡ one.standing.record.taken → (one.standing.over ≢ Some final.LinkFault → two.standing.over ≢ Some final.LinkFault)
       → Talked stands went first second one.out two.out (note (standing one)) talk (standing two) (note (standing two)) result → Did stands went one first (step ∷ []) two second (is_ok result)
-  step_did (Ok done) one two first second step talk is config sent received talked = record {
+  step_did (Ok done) one two first second step talk is config sent received taken own talked = record {
     config = config;
     sent = sent;
     received = received;
+    taken = taken;
+    own = own;
     talks = talks_as stands went first second one.out two.out (λ chronicle places out. Gives (at_places chronicle) talk places out (standing two))
         (λ chronicle places out. Gives (at_places chronicle) (serve (react one.config) note (standing one) (step ∷ [])) places out (standing two))
         (λ chronicle places out gives.
@@ -42,10 +46,12 @@ module _ {D : Type 0} (stands : D → Chronicle → Type 0) (went : D → List M
         (subst (λ (t : Serves). Gives (at_places chronicle) t places out (standing two)) (sym is) gives))
         talked;
   }
-  step_did (Err error) one two first second step talk is config sent received talked = record {
+  step_did (Err error) one two first second step talk is config sent received taken own talked = record {
     config = config;
     sent = sent;
     received = received;
+    taken = taken;
+    own = own;
     talks = talks_as stands went first second one.out two.out (λ chronicle places out. Breaks (at_places chronicle) (note (standing one)) talk places out (note (standing two)))
         (λ chronicle places out. Breaks (at_places chronicle) (note (standing one)) (serve (react one.config) note (standing one) (step ∷ [])) places out (note (standing two)))
         (λ chronicle places out breaks.

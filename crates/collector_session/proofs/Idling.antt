@@ -50,7 +50,7 @@ module _ {D : Type 0} (stands : D → Chronicle → Type 0) (went : D → List M
   -- The session goes on.
   pub idle_on : (desk : D) (before : Core) → over before ≡ None → before.quiet + 1 < before.end.config.idle → Turned stands went desk desk before (Idle ∷ []) (record before { quiet = before.quiet + 1 })
   idle_on desk before live less =
-      let so = did_one stands went stays follows carries before.end before.end desk (Quiet (before.quiet + 1)) refl refl refl refl (stays_so before.end (before.quiet + 1) live less) in
+      let so = did_one stands went stays follows carries before.end before.end desk (Quiet (before.quiet + 1)) refl refl refl refl (λ own. own) refl (stays_so before.end (before.quiet + 1) live less) in
       turned stands went desk desk before (record before { quiet = before.quiet + 1 }) (Idle ∷ []) live so.talks refl refl (omega arith) (λ none. refl)
 
   -- It was the last that is allowed.
@@ -58,7 +58,7 @@ module _ {D : Type 0} (stands : D → Chronicle → Type 0) (went : D → List M
       → Turned stands went desk desk before (Idle ∷ []) (record before { end = ended before.end (final.IdleOut (before.quiet + 1)); quiet = before.quiet + 1 })
   idle_out desk before live most =
       let after : Core = record before { end = ended before.end (final.IdleOut (before.quiet + 1)); quiet = before.quiet + 1 } in
-      let so = did_one stands went stays follows carries before.end after.end desk (Quiet (before.quiet + 1)) refl refl refl refl (idles_out before.end (before.quiet + 1) live most) in
+      let so = did_one stands went stays follows carries before.end after.end desk (Quiet (before.quiet + 1)) refl refl refl refl (λ own is. absurd cc) refl (idles_out before.end (before.quiet + 1) live most) in
       turned stands went desk desk before after (Idle ∷ []) live so.talks refl refl (omega arith) (λ none. absurd cc)
 
 -- ---- the end of a link

@@ -1,7 +1,9 @@
 -- After each batch a collector may do what becomes of it.
-use Rattle.std.proofs.Common.{◌≡◌, ◌≢◌, Option, Some, None, inl, refl, sym, ap, subst, subst₂, ◌∙◌}
-use Rattle.std.specs.Prelude.{IsTrue}
+use Rattle.std.proofs.Common.{◌≡◌, ◌≢◌, ℕ, Bool, true, false, cond, List, [], ◌∷◌, Option, Some, None, inl, refl, sym, ap, subst, subst₂, ◌∙◌}
+use Rattle.std.specs.Prelude.{◌||◌, IsTrue}
 use Rattle.pb_batch.specs.declared.batch.Batch.{Batch}
+use Rattle.pb_batch.specs.declared.batch.Message.{Message}
+use Rattle.pb_batch.specs.declared.batch.Message.TheVariants.{Assessment, Error, Frame, Pa, Recommendation}
 use Rattle.pb_batch.specs.declared.kind.BatchKind.{BatchKind}
 use Rattle.pb_batch.specs.declared.kind.BatchKind.TheVariants as kinds
 use Rattle.pb_machine.specs.Table.{Position, may_send, receiving, received, sent}
@@ -13,12 +15,13 @@ use Rattle.pb_machine.specs.declared.machine.State.{State}
 use Rattle.pb_machine.specs.declared.machine.State.TheVariants.{Init, ServerWorking, ClientWorking, Decided, End}
 use Rattle.pb_machine.proofs.Sending.{may_answer, may_close}
 use Rattle.session_rules.specs.declared.end.SessionEnd.{SessionEnd}
+use Rattle.session_rules.specs.declared.end.SessionEnd.TheVariants as end
 use Rattle.session_talk.specs.Talk.{Done}
 use Rattle.session_rules.specs.declared.config.ServeConfig.{ServeConfig}
 use Rattle.session_rules.specs.declared.verdict.Verdict.{Verdict}
 use Rattle.session_rules.specs.ServeRules.{Serves, hears, judged}
 use Rattle.session_rules.specs.Serving.{Stand}
-use Rattle.session_rules.specs.Verdict.{ended_by, is_close, peer_error, verdict}
+use Rattle.session_rules.specs.Verdict.{ended_by, error_in, is_close, or_later, peer_error, verdict}
 use Rattle.collector_session.specs.Judging.{MayFollow}
 
 -- A talk in which nothing is done.
@@ -81,20 +84,40 @@ stays Decided kinds.Cretry other = refl
 stays Decided kinds.Sretry other = absurd (other refl)
 stays Decided kinds.Close other = absurd (other refl)
 
+-- No PB-Error ends a session as a fault of the link does.
+counted_own : (counts : Bool) (vendor code : ℕ) → cond counts (Some (end.PeerError vendor code)) None ≢ Some end.LinkFault
+counted_own true vendor code is = absurd cc
+counted_own false vendor code is = absurd cc
+
+error_own : (closing : Bool) (message : Message) → error_in closing message ≢ Some end.LinkFault
+error_own closing (Error fatal vendor code info) is = counted_own (fatal || closing) vendor code is
+error_own closing (Pa excl vendor subtype collector validator body) is = absurd cc
+error_own closing (Assessment result) is = absurd cc
+error_own closing (Recommendation code) is = absurd cc
+error_own closing (Frame noskip vendor kind body) is = absurd cc
+
+later_own : (first later : Option SessionEnd) → first ≢ Some end.LinkFault → later ≢ Some end.LinkFault → or_later first later ≢ Some end.LinkFault
+later_own (Some by) later one other = one
+later_own None later one other = other
+
+peers_own : (closing : Bool) (messages : List Message) → peer_error closing messages ≢ Some end.LinkFault
+peers_own closing [] is = absurd cc
+peers_own closing (message ∷ messages) is = later_own (error_in closing message) (peer_error closing messages) (error_own closing message) (peers_own closing messages) is
+
 -- After a batch that the machine goes on with.
-goes_on : (state : State) (kind : BatchKind) (first : Option SessionEnd) → (receiving Client state kind).0 ≡ heard.Go → MayFollow (record { role = Client; state = (receiving Client state kind).1 }) kind (ended_by kind first)
-goes_on state kinds.Close (Some by) go = tt
-goes_on state kinds.Close None go = tt
-goes_on state kinds.Cdata (Some by) go = tt
-goes_on state kinds.Cdata None go = record { live = lives state kinds.Cdata (λ is. absurd cc) go; after_data = λ is. absurd cc; after_retry = λ is. absurd cc }
-goes_on state kinds.Sdata (Some by) go = tt
-goes_on state kinds.Sdata None go = record { live = lives state kinds.Sdata (λ is. absurd cc) go; after_data = λ is. may_answer Client state kinds.Sdata kinds.Cdata refl go; after_retry = λ is. absurd cc }
-goes_on state kinds.Outcome (Some by) go = tt
-goes_on state kinds.Outcome None go = record { live = lives state kinds.Outcome (λ is. absurd cc) go; after_data = λ is. absurd cc; after_retry = λ is. absurd cc }
-goes_on state kinds.Cretry (Some by) go = tt
-goes_on state kinds.Cretry None go = record { live = lives state kinds.Cretry (λ is. absurd cc) go; after_data = λ is. absurd cc; after_retry = λ is. absurd cc }
-goes_on state kinds.Sretry (Some by) go = tt
-goes_on state kinds.Sretry None go = record { live = lives state kinds.Sretry (λ is. absurd cc) go; after_data = λ is. absurd cc; after_retry = λ is. may_answer Client state kinds.Sretry kinds.Cdata refl go }
+goes_on : (state : State) (kind : BatchKind) (first : Option SessionEnd) → first ≢ Some end.LinkFault → (receiving Client state kind).0 ≡ heard.Go → MayFollow (record { role = Client; state = (receiving Client state kind).1 }) kind (ended_by kind first)
+goes_on state kinds.Close (Some by) own go = λ is. own (ap (λ (e : SessionEnd). Some e) is)
+goes_on state kinds.Close None own go = λ is. absurd cc
+goes_on state kinds.Cdata (Some by) own go = λ is. own (ap (λ (e : SessionEnd). Some e) is)
+goes_on state kinds.Cdata None own go = record { live = lives state kinds.Cdata (λ is. absurd cc) go; after_data = λ is. absurd cc; after_retry = λ is. absurd cc }
+goes_on state kinds.Sdata (Some by) own go = λ is. own (ap (λ (e : SessionEnd). Some e) is)
+goes_on state kinds.Sdata None own go = record { live = lives state kinds.Sdata (λ is. absurd cc) go; after_data = λ is. may_answer Client state kinds.Sdata kinds.Cdata refl go; after_retry = λ is. absurd cc }
+goes_on state kinds.Outcome (Some by) own go = λ is. own (ap (λ (e : SessionEnd). Some e) is)
+goes_on state kinds.Outcome None own go = record { live = lives state kinds.Outcome (λ is. absurd cc) go; after_data = λ is. absurd cc; after_retry = λ is. absurd cc }
+goes_on state kinds.Cretry (Some by) own go = λ is. own (ap (λ (e : SessionEnd). Some e) is)
+goes_on state kinds.Cretry None own go = record { live = lives state kinds.Cretry (λ is. absurd cc) go; after_data = λ is. absurd cc; after_retry = λ is. absurd cc }
+goes_on state kinds.Sretry (Some by) own go = λ is. own (ap (λ (e : SessionEnd). Some e) is)
+goes_on state kinds.Sretry None own go = record { live = lives state kinds.Sretry (λ is. absurd cc) go; after_data = λ is. absurd cc; after_retry = λ is. may_answer Client state kinds.Sretry kinds.Cdata refl go }
 
 -- After a batch, by what the machine says of its kind.
 heard_so : (state : State) (batch : Batch) (said : Heard) → state ≢ End → (receiving Client state batch.kind).0 ≡ said
@@ -104,7 +127,7 @@ heard_so state batch heard.Unexpected live is = (
   may_close Client (receiving Client state batch.kind).1 (λ end. live (sym (stays state batch.kind (λ go. let both : heard.Unexpected ≡ heard.Go = sym is ∙ go in absurd cc)) ∙ end)),
   inl refl,
 )
-heard_so state batch heard.Go live is = goes_on state batch.kind (peer_error (is_close batch.kind) batch.messages) is
+heard_so state batch heard.Go live is = goes_on state batch.kind (peer_error (is_close batch.kind) batch.messages) (peers_own (is_close batch.kind) batch.messages) is
 
 pub may_follow : (machine : Position) (batch : Batch) → machine.role ≡ Client → machine.state ≢ End → MayFollow (received machine batch.kind).1 batch.kind (verdict (received machine batch.kind).0 batch)
 may_follow machine batch client live = by_role machine.role client

@@ -13,3 +13,4 @@ pub mod Coming
 pub mod Replying
 pub mod Beginning
 pub mod Taking
+pub mod Falling

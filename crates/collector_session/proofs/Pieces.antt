@@ -53,11 +53,13 @@ module _ {D : Type 0} (stands : D → Chronicle → Type 0) (went : D → List M
     (carries : (old new : D) (marks : List Mark) (chronicle : Chronicle) → went old marks new → stands old chronicle → stands new (extended chronicle (entries marks))) where
   -- A step at which nothing is asked or written.
   pub did_one : (end next : ServeEnd) (desk : D) (step : Step) → next.config ≡ end.config → next.standing.record.sent ≡ end.standing.record.sent → next.standing.record.received ≡ end.standing.record.received
-      → end.out ≡ next.out → react end.config (standing end) step ≡ Done (standing next) → Did stands went end desk (step ∷ []) next desk true
-  did_one end next desk step config sent received out is = record {
+      → next.standing.record.taken ≡ end.standing.record.taken → (end.standing.over ≢ Some final.LinkFault → next.standing.over ≢ Some final.LinkFault) → end.out ≡ next.out → react end.config (standing end) step ≡ Done (standing next) → Did stands went end desk (step ∷ []) next desk true
+  did_one end next desk step config sent received taken own out is = record {
     config = config;
     sent = sent;
     received = received;
+    taken = taken;
+    own = own;
     talks =
         subst (λ (o : List ℕ). Talks stands went desk desk end.out o
         (λ chronicle places out. Gives (at_places chronicle) (serve (react end.config) note (standing end) (step ∷ [])) places out (standing next))) out
@@ -70,7 +72,7 @@ module _ {D : Type 0} (stands : D → Chronicle → Type 0) (went : D → List M
 
   spent : (end : ServeEnd) (desk : D) → end.standing.over ≡ None → Did stands went end desk (Spent ∷ []) (ended end final.Enough) desk true
   spent end desk live =
-      did_one end (ended end final.Enough) desk Spent refl refl refl refl
+      did_one end (ended end final.Enough) desk Spent refl refl refl refl (λ own is. absurd cc) refl
       (serve_spent end.config (standing end) ∙ ap (λ (by : Option SessionEnd). (rests_as (enough_unless (standing end) by))) live)
 
   module _ (old new : D) (before : Core) (held : ServeEnd) (feed : Feed) (piece : List ℕ) (core : IsCore before) (live : over before ≡ None)
@@ -147,17 +149,19 @@ module _ {D : Type 0} (stands : D → Chronicle → Type 0) (went : D → List M
     -- The core is sound afterwards.
     pub piece_core : (last : ServeEnd) → Spends held last → feed.from_server ≡ true → front_of feed.from_server feed.feeding.octets ≡ More → (is_some held.standing.over ≡ false → IsReady held)
         → (is_some held.standing.over ≡ false → feed.feeding.stopped ≡ None) → held.config ≡ before.end.config → held.standing.record.received ≡ before.end.standing.record.received + length piece
-        → IsCore (record { end = last; feed = feed; quiet = 0 })
-    piece_core last spends server torn ready feeding config taken = by_over held.standing.over refl
+        → held.standing.record.taken ≡ [] → held.standing.over ≢ Some final.LinkFault → IsCore (record { end = last; feed = feed; quiet = 0 })
+    piece_core last spends server torn ready feeding config taken no-answers own = by_over held.standing.over refl
       where
-        over_core : (e : ServeEnd) (by : SessionEnd) → e.standing.over ≡ Some by → IsCore (record { end = e; feed = feed; quiet = 0 })
-        over_core e by is = record {
+        over_core : (e : ServeEnd) (by : SessionEnd) → e.standing.over ≡ Some by → e.standing.record.taken ≡ [] → e.standing.over ≢ Some final.LinkFault → IsCore (record { end = e; feed = feed; quiet = 0 })
+        over_core e by is no-answers-yet not-the-link = record {
           server = server;
           torn = torn;
           ready = λ none. let both : Some by ≡ None = sym is ∙ none in absurd cc;
           feeding = λ none. let both : Some by ≡ None = sym is ∙ none in absurd cc;
           room = λ none. let both : Some by ≡ None = sym is ∙ none in absurd cc;
           patient = λ none. let both : Some by ≡ None = sym is ∙ none in absurd cc;
+          taken = no-answers-yet;
+          own = not-the-link;
         }
 
         at_end : (e : ServeEnd) → last ≡ e → IsCore (record { end = e; feed = feed; quiet = 0 }) → IsCore (record { end = last; feed = feed; quiet = 0 })
@@ -170,7 +174,7 @@ module _ {D : Type 0} (stands : D → Chronicle → Type 0) (went : D → List M
         idle = ap (λ (c : ServeConfig). c.idle) config
 
         by_over : (by : Option SessionEnd) → held.standing.over ≡ by → IsCore (record { end = last; feed = feed; quiet = 0 })
-        by_over (Some by) is = at_end held (spends.over (λ none. let both : Some by ≡ None = sym is ∙ none in absurd cc)) (over_core held by is)
+        by_over (Some by) is = at_end held (spends.over (λ none. let both : Some by ≡ None = sym is ∙ none in absurd cc)) (over_core held by is no-answers own)
         by_over None is =
             let none : is_some held.standing.over ≡ false = ap (λ (b : Option SessionEnd). is_some b) is in
             elim (cases_lt (before.end.standing.record.received + length piece) before.end.config.octets) [
@@ -181,6 +185,8 @@ module _ {D : Type 0} (stands : D → Chronicle → Type 0) (went : D → List M
                 feeding = λ live. feeding none;
                 room = λ live. omega (arith, less, taken, octets);
                 patient = λ here. omega (arith, core.patient live, idle);
+                taken = no-answers;
+                own = own;
               })
-              | inr most ↦ at_end (ended held final.Enough) (spends.last-one is (omega (arith, most, within, taken, octets))) (over_core (ended held final.Enough) final.Enough refl)
+              | inr most ↦ at_end (ended held final.Enough) (spends.last-one is (omega (arith, most, within, taken, octets))) (over_core (ended held final.Enough) final.Enough refl no-answers (λ is. absurd cc))
             ]

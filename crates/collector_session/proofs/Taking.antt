@@ -1,5 +1,5 @@
 -- What the calls of a core do, in the words of the calls.
-use Rattle.std.proofs.Common.{◌≡◌, ℕ, ◌+◌, ◌-◌, ◌≤◌, ◌<◌, Bool, true, false, List, [], ◌∷◌, ◌++◌, None, inl, inr, length, take, refl, sym, ap, subst, subst₂, ◌∙◌, arith}
+use Rattle.std.proofs.Common.{◌≡◌, ◌≢◌, ℕ, ◌+◌, ◌-◌, ◌≤◌, ◌<◌, Bool, true, false, List, [], ◌∷◌, ◌++◌, Option, Some, None, inl, inr, length, take, refl, sym, ap, subst, subst₂, ◌∙◌, arith}
 use Rattle.std.specs.Prelude.{is_some, min}
 use Rattle.std.proofs.lemmas.Bool.{cases_lt}
 use Rattle.std.proofs.lemmas.List.{take_all, take_min}
@@ -25,16 +25,26 @@ use Rattle.collector_session.proofs.Coring.{turned}
 use Rattle.collector_session.proofs.Idling.{idle_on, idle_out}
 use Rattle.collector_session.proofs.Pieces.{Spends, ended, piece_core, piece_lost, piece_turned, took}
 
+-- What is there is one.
+some_one : (one other : SessionEnd) → Some one ≡ Some other → one ≡ other
+some_one one other is = ap (λ (by : Option SessionEnd). or_else by) is
+  where
+    or_else : Option SessionEnd → SessionEnd
+    or_else (Some by) = by
+    or_else None = one
+
 -- A core whose session is over is sound where its feed is.
 pub over_core : (end : ServeEnd) (by : SessionEnd) (feed : Feed) (quiet : ℕ) → feed.from_server ≡ true → front_of feed.from_server feed.feeding.octets ≡ More
-    → IsCore (record { end = ended end by; feed = feed; quiet = quiet })
-over_core end by feed quiet server torn = record {
+    → end.standing.record.taken ≡ [] → by ≢ final.LinkFault → IsCore (record { end = ended end by; feed = feed; quiet = quiet })
+over_core end by feed quiet server torn no-answers own = record {
   server = server;
   torn = torn;
   ready = λ none. absurd cc;
   feeding = λ none. absurd cc;
   room = λ none. absurd cc;
   patient = λ none. absurd cc;
+  taken = no-answers;
+  own = λ is. own (some_one by final.LinkFault is);
 }
 
 -- The end once that many octets were taken.
@@ -61,8 +71,10 @@ rested_core before last turns core live rests =
         feeding = core.feeding;
         room = core.room;
         patient = λ none. less;
+        taken = core.taken;
+        own = core.own;
       })
-      | inr most ↦ subst (λ (e : ServeEnd). IsCore (rested before e turns)) (sym (rests.out most)) (over_core before.end (final.IdleOut turns) before.feed turns core.server core.torn)
+      | inr most ↦ subst (λ (e : ServeEnd). IsCore (rested before e turns)) (sym (rests.out most)) (over_core before.end (final.IdleOut turns) before.feed turns core.server core.torn core.taken (λ is. absurd cc))
     ]
 
 -- ---- what is used of a piece
@@ -128,4 +140,4 @@ module _ {D : Type 0} (stands : D → Chronicle → Type 0) (went : D → List M
           → (is_some held.standing.over ≡ false → feed.feeding.stopped ≡ None) → IsCore (record { end = last; feed = feed; quiet = 0 })
       took_core last spends direction torn ready feeding =
           let so = heard_so true did 0 0 in
-          piece_core stands went stays follows carries old new before held feed piece core live within last spends (direction ∙ core.server) torn ready feeding so.config so.received
+          piece_core stands went stays follows carries old new before held feed piece core live within last spends (direction ∙ core.server) torn ready feeding so.config so.received (so.taken ∙ core.taken) (so.own core.own)

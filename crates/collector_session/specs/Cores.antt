@@ -1,6 +1,6 @@
 -- A core of a collector, and what its calls say: where it stood for a session, it stands for it
 -- afterwards, with further turns and places.
-use Rattle.std.specs.Prelude.{◌≡◌, ◌==◌, ◌<◌, ◌-◌, if◌then◌else◌, ℕ, true, List, [], ◌++◌, Option, Some, None, length, take}
+use Rattle.std.specs.Prelude.{◌≡◌, ◌≢◌, ◌==◌, ◌<◌, ◌+◌, ◌*◌, ◌-◌, if◌then◌else◌, ℕ, true, List, [], ◌++◌, Option, Some, None, length, take}
 use Rattle.wire_base.specs.Feeding.{More}
 use Rattle.wire_base.specs.Turns.{Turn}
 use Rattle.pb_batch.specs.Feeding.{Feed}
@@ -44,6 +44,13 @@ pub record IsCore (core : Core) : Type 0 where
   pub feeding : over core ≡ None → core.feed.feeding.stopped ≡ None
   pub room : over core ≡ None → core.end.standing.record.received < core.end.config.octets
   pub patient : over core ≡ None → core.quiet < core.end.config.idle
+  pub taken : core.end.standing.record.taken ≡ []
+  pub own : over core ≢ Some end.LinkFault
+
+-- The most turns that a core may still take: after each octet that the limit leaves all idle turns
+-- may follow that are allowed.
+abbrev pub weight : Core → ℕ
+weight core = (core.end.config.idle + 1) * (core.end.config.octets - core.end.standing.record.received) + (core.end.config.idle - core.quiet)
 
 -- ---- sessions
 

@@ -1,5 +1,5 @@
 -- What a collector did to steps, from the one state to the other.
-use Rattle.std.specs.Prelude.{◌≡◌, ◌≢◌, ◌≤◌, ℕ, Bool, true, false, List}
+use Rattle.std.specs.Prelude.{◌≡◌, ◌≢◌, ◌≤◌, ℕ, Bool, true, false, List, Some}
 use Rattle.pb_machine.specs.declared.machine.Role.TheVariants.{Client}
 use Rattle.pb_machine.specs.declared.machine.State.TheVariants.{End}
 use Rattle.collector_core.specs.declared.chronicle.Mark.{Mark}
@@ -8,6 +8,7 @@ use Rattle.session_talk.specs.Talk.{Talk}
 use Rattle.session_talk.specs.Course.{Answers, Gives, Breaks}
 use Rattle.session_hear.specs.Step.{Step}
 use Rattle.session_hear.specs.Serving.{serve}
+use Rattle.session_rules.specs.declared.end.SessionEnd.TheVariants as end
 use Rattle.session_rules.specs.Clauses.{Talks}
 use Rattle.session_rules.specs.Questions.{Question, Reply, at_places}
 use Rattle.session_rules.specs.Serving.{Notes, Stand}
@@ -35,5 +36,7 @@ module _ {D : Type 0} (stands : D → Chronicle → Type 0) (went : D → List M
     pub config : two.config ≡ one.config
     pub sent : two.standing.record.sent ≡ one.standing.record.sent
     pub received : two.standing.record.received ≡ one.standing.record.received
+    pub taken : two.standing.record.taken ≡ one.standing.record.taken
+    pub own : one.standing.over ≢ Some end.LinkFault → two.standing.over ≢ Some end.LinkFault
     pub talks : Talks stands went first second one.out two.out (λ chronicle places out.
         Course well (at_places chronicle) (note (standing one)) (serve (react one.config) note (standing one) steps) places out (standing two))

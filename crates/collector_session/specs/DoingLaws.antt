@@ -29,6 +29,8 @@ module _ {D : Type 0} (stands : D → Chronicle → Type 0) (went : D → List M
     config = did.config;
     sent = did.sent;
     received = did.received;
+    taken = did.taken;
+    own = did.own;
     talks = talks_as stands went first second one.out two.out
         (λ chronicle places out. Breaks (at_places chronicle) (note (standing one)) (serve (react one.config) note (standing one) steps) places out (note (standing two)))
         (λ chronicle places out. Breaks (at_places chronicle) (note (standing one)) (serve (react one.config) note (standing one) (steps ++ later)) places out (note (standing two)))
@@ -42,6 +44,8 @@ module _ {D : Type 0} (stands : D → Chronicle → Type 0) (went : D → List M
     config = did.config;
     sent = did.sent;
     received = did.received;
+    taken = did.taken;
+    own = did.own;
     talks = talks_as stands went first second one.out two.out
         (λ chronicle places out. Gives (at_places chronicle) (serve (react one.config) note (standing one) steps) places out (standing two))
         (λ chronicle places out. Breaks (at_places chronicle) (note (standing one)) (serve (react one.config) note (standing one) (steps ++ later)) places out (note (standing two)))
@@ -61,6 +65,8 @@ module _ {D : Type 0} (stands : D → Chronicle → Type 0) (went : D → List M
       config = refl;
       sent = refl;
       received = refl;
+      taken = refl;
+      own = λ own. own;
       talks = talks_none stands went stays follows carries desk end.out
           (λ chronicle places out. Gives (at_places chronicle) (serve (react end.config) note (standing end) []) places out (standing end)) (λ chronicle. (refl, refl, refl));
     }
@@ -71,6 +77,8 @@ module _ {D : Type 0} (stands : D → Chronicle → Type 0) (went : D → List M
       config = refl;
       sent = refl;
       received = refl;
+      taken = refl;
+      own = λ own. own;
       talks = talks_none stands went stays follows carries desk end.out
           (λ chronicle places out. Gives (at_places chronicle) (serve (react end.config) note (standing end) steps) places out (standing end))
           (λ chronicle. over_gives (react end.config) note (at_places chronicle) (standing end) steps (serve_over end.config (standing end) (some_is end.standing.over over).0 (some_is end.standing.over over).1));
@@ -83,6 +91,8 @@ module _ {D : Type 0} (stands : D → Chronicle → Type 0) (went : D → List M
       config = after.config ∙ before.config;
       sent = after.sent ∙ before.sent;
       received = after.received ∙ before.received;
+      taken = after.taken ∙ before.taken;
+      own = λ own. after.own (before.own own);
       talks = talks_then stands went stays follows carries first second third one.out two.out three.out
           (serve (react one.config) note (standing one) steps) (standing two)
           (λ chronicle places out. Course well (at_places chronicle) (note (standing two)) (serve (react two.config) note (standing two) later) places out (standing three))

@@ -72,6 +72,7 @@ impl ServeEnd {
             → self.new ≡ record self.old { standing = record self.old.standing { over = Some end.Enough } } }
         ensures left { self.old.standing.over ≡ None → self.old.standing.record.received ≢ self.old.config.octets → self.new ≡ self.old }
         ensures config { self.new.config ≡ self.old.config }
+        ensures received { self.new.standing.record.received ≡ self.old.standing.record.received }
     {
         if self.standing.over.is_some() {
             return;
@@ -87,6 +88,7 @@ impl ServeEnd {
         ensures last { self.old.config.idle ≤ turns → self.new ≡ record self.old { standing = record self.old.standing { over = Some (end.IdleOut turns) } } }
         ensures on { turns < self.old.config.idle → self.new ≡ self.old }
         ensures config { self.new.config ≡ self.old.config }
+        ensures received { self.new.standing.record.received ≡ self.old.standing.record.received }
     {
         if self.config.idle <= turns {
             self.standing.over = Some(SessionEnd::IdleOut { turns });

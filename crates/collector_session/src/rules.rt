@@ -1,6 +1,6 @@
 //! The rules of a collector, which is the client of PB-TNC (RFC 5793, section 3.2).
 
-ghost use Rattle.std.specs.Prelude.{◌≡◌, ◌≢◌, ◌≤◌, ◌++◌, [], None, IsTrue, OnErr, OnOk};
+ghost use Rattle.std.specs.Prelude.{◌≡◌, ◌≢◌, ◌≤◌, ◌++◌, [], None, Some, IsTrue, OnErr, OnOk};
 ghost use Rattle.collector_session.specs.Judging.{MayAnswer, MayFollow};
 ghost use Rattle.collector_session.specs.Sizes.{MOST_ROOM};
 ghost use Rattle.collector_session.specs.Standing.{draft_of, notes_of, stand_of};
@@ -11,6 +11,7 @@ ghost use Rattle.pb_machine.specs.declared.machine.Role.TheVariants.{Client};
 ghost use Rattle.pb_machine.specs.declared.machine.State.TheVariants.{End};
 ghost use Rattle.session_rules.specs.Clauses.{Spoken, Talked};
 ghost use Rattle.session_rules.specs.Messages.{client_batch};
+ghost use Rattle.session_rules.specs.declared.end.SessionEnd.TheVariants as end;
 ghost use Rattle.session_rules.specs.ServeRules.{closes_if, hears, is_enough, judged, obeys, refuses, replies, writes_draft};
 
 use crate::batch::draft_batch;
@@ -54,6 +55,8 @@ pub(crate) fn hear<D: Desk>(
     ensures live { OnOk result (standing.new.over ≡ None → standing.new.machine.state ≢ End) }
     ensures sent { standing.new.record.sent ≡ standing.old.record.sent }
     ensures received { standing.new.record.received ≡ standing.old.record.received }
+    ensures taken { standing.new.record.taken ≡ standing.old.record.taken }
+    ensures own { standing.old.over ≢ Some end.LinkFault → standing.new.over ≢ Some end.LinkFault }
 {
     let heard = standing.machine.receive(batch.kind);
     let verdict = verdict_of(heard, batch);
@@ -80,6 +83,8 @@ fn judge<D: Desk>(
     ensures live { OnOk result (standing.new.over ≡ None → standing.new.machine.state ≢ End) }
     ensures sent { standing.new.record.sent ≡ standing.old.record.sent }
     ensures received { standing.new.record.received ≡ standing.old.record.received }
+    ensures taken { standing.new.record.taken ≡ standing.old.record.taken }
+    ensures own { standing.old.over ≢ Some end.LinkFault → standing.new.over ≢ Some end.LinkFault }
 {
     match verdict {
         Verdict::PassesOver => Ok(()),
@@ -111,6 +116,8 @@ fn obey<D: Desk>(
     ensures live { OnOk result (standing.new.over ≡ None → standing.new.machine.state ≢ End) }
     ensures sent { standing.new.record.sent ≡ standing.old.record.sent }
     ensures received { standing.new.record.received ≡ standing.old.record.received }
+    ensures taken { standing.new.record.taken ≡ standing.old.record.taken }
+    ensures own { standing.old.over ≢ Some end.LinkFault → standing.new.over ≢ Some end.LinkFault }
 {
     match batch.kind {
         Sdata => reply(alloc, desk, config, standing, out, &batch.messages),
@@ -141,6 +148,8 @@ fn reply<D: Desk>(
     ensures live { OnOk result (standing.new.machine.state ≢ End) }
     ensures sent { standing.new.record.sent ≡ standing.old.record.sent }
     ensures received { standing.new.record.received ≡ standing.old.record.received }
+    ensures taken { standing.new.record.taken ≡ standing.old.record.taken }
+    ensures own { standing.old.over ≢ Some end.LinkFault → standing.new.over ≢ Some end.LinkFault }
 {
     let draft = draft_batch(alloc, desk, config, standing.numbered, messages)?;
     write_draft(alloc, standing, out, draft)
@@ -161,6 +170,8 @@ fn write_draft(
     ensures machine { OnOk result (standing.new.machine ≡ sent standing.old.machine kinds.Cdata) }
     ensures sent { standing.new.record.sent ≡ standing.old.record.sent }
     ensures received { standing.new.record.received ≡ standing.old.record.received }
+    ensures taken { standing.new.record.taken ≡ standing.old.record.taken }
+    ensures own { standing.old.over ≢ Some end.LinkFault → standing.new.over ≢ Some end.LinkFault }
 {
     let Draft {
         messages,
@@ -218,6 +229,8 @@ pub(crate) fn refuse(
     ensures role { standing.new.machine.role ≡ standing.old.machine.role }
     ensures sent { standing.new.record.sent ≡ standing.old.record.sent }
     ensures received { standing.new.record.received ≡ standing.old.record.received }
+    ensures taken { standing.new.record.taken ≡ standing.old.record.taken }
+    ensures own { standing.old.over ≢ Some end.LinkFault → standing.new.over ≢ Some end.LinkFault }
 {
     let octets = fault_batch(alloc, false, &fault)?;
     out.extend(octets.as_slice())?;
@@ -243,6 +256,8 @@ fn close_if(
     ensures machine { OnOk result (standing.new.over ≡ None → standing.new.machine ≡ standing.old.machine) }
     ensures sent { standing.new.record.sent ≡ standing.old.record.sent }
     ensures received { standing.new.record.received ≡ standing.old.record.received }
+    ensures taken { standing.new.record.taken ≡ standing.old.record.taken }
+    ensures own { standing.old.over ≢ Some end.LinkFault → standing.new.over ≢ Some end.LinkFault }
 {
     if !is_enough(config.reports, standing.record.reports) {
         return Ok(());

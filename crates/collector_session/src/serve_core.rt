@@ -1,8 +1,9 @@
 //! A collector's end of a session, as a core without input and output.
 
-ghost use Rattle.std.specs.Prelude.{◌≡◌, ◌<◌, ◌≤◌, ◌+◌, ◌-◌, ◌∷◌, [], None, Some, IfOk, IfSome, length, min};
-ghost use Rattle.collector_session.specs.Cores.{Begins, Carries, cut_end, Turned, Turns, over, turn_of, used};
+ghost use Rattle.std.specs.Prelude.{◌≡◌, ◌≢◌, ◌<◌, ◌≤◌, ◌+◌, ◌-◌, ◌∷◌, [], None, Some, IfOk, IfSome, length, min, drop};
+ghost use Rattle.collector_session.specs.Cores.{Begins, Carries, cut_end, Turned, Turns, over, turn_of, used, weight};
 ghost use Rattle.collector_session.specs.Sizes.{MOST_ROOM};
+ghost use Rattle.session_rules.specs.declared.end.SessionEnd.TheVariants as end;
 ghost use Rattle.session_rules.specs.declared.end.Turn.TheVariants as turn;
 ghost use Rattle.wire_base.specs.Turns.{Ended, Idle, turns_of};
 
@@ -66,6 +67,7 @@ impl ServeCore {
         ensures over { IfSome (over self.old) (λ by. (result ≡ turn.Over by) × (self.new ≡ self.old) × (desk.new ≡ desk.old)) }
         ensures turned { over self.old ≡ None → Turned D.stands D.went desk.old desk.new self.old (turns_of (used self.old piece.now)) self.new }
         ensures turn { result ≡ turn_of (over self.new) }
+        ensures less { over self.new ≡ None → 0 < length piece.now → weight self.new < weight self.old }
         ensures config { self.new.end.config ≡ self.old.end.config }
     {
         if let Some(end) = self.end.standing.over {
@@ -80,7 +82,7 @@ impl ServeCore {
     }
 
     /// How many octets of a piece the limit allows.
-    fn allowed(&self, len: usize) -> usize
+    pub fn allowed(&self, len: usize) -> usize
         requires live { over self.now ≡ None }
         ensures allowed { result ≡ min (self.now.end.config.octets - self.now.end.standing.record.received) len }
         ensures some { 0 < len → 0 < result }
@@ -96,6 +98,7 @@ impl ServeCore {
         requires some { 0 < length piece.now }
         requires room { self.old.end.standing.record.received + length piece.now ≤ self.old.end.config.octets }
         ensures turned { Turned D.stands D.went desk.old desk.new self.old (turns_of piece.now) self.new }
+        ensures less { weight self.new < weight self.old }
         ensures config { self.new.end.config ≡ self.old.end.config }
     {
         let received = self.end.standing.record.received;
@@ -113,6 +116,7 @@ impl ServeCore {
         ensures over { IfSome (over self.old) (λ by. (result ≡ turn.Over by) × (self.new ≡ self.old)) }
         ensures turned { over self.old ≡ None → Turned D.stands D.went desk.old desk.new self.old (Idle ∷ []) self.new }
         ensures turn { result ≡ turn_of (over self.new) }
+        ensures less { over self.new ≡ None → weight self.new < weight self.old }
         ensures config { self.new.end.config ≡ self.old.end.config }
         ensures desk { desk.new ≡ desk.old }
     {
@@ -127,6 +131,7 @@ impl ServeCore {
     fn rest<D: Desk>(&mut self, _desk: &mut D)
         requires live { over self.old ≡ None }
         ensures turned { Turned D.stands D.went _desk.old _desk.new self.old (Idle ∷ []) self.new }
+        ensures less { weight self.new < weight self.old }
         ensures config { self.new.end.config ≡ self.old.end.config }
         ensures desk { _desk.new ≡ _desk.old }
     {
@@ -161,7 +166,9 @@ impl ServeCore {
     pub fn carried(&mut self, count: usize)
         requires within { count ≤ length self.old.end.out }
         ensures stands { Carries self.old count self.new }
+        ensures rest { self.new.end.out ≡ drop count self.old.end.out }
         ensures over { over self.new ≡ over self.old }
+        ensures weight { weight self.new ≡ weight self.old }
         ensures config { self.new.end.config ≡ self.old.end.config }
     {
         self.end.out.drop_front(count);
@@ -179,6 +186,8 @@ impl ServeCore {
     /// What is noted of the session, once it is over.
     pub fn into_record(self) -> SessionRecord
         ensures record { result ≡ self.end.standing.record }
+        ensures taken { result.taken ≡ [] }
+        ensures own { over self ≢ Some end.LinkFault }
     {
         let ServeCore { end, .. } = self;
         end.into_record()

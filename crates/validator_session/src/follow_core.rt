@@ -1,10 +1,11 @@
 //! A validator's end of a session, as a core without input and output.
 
-ghost use Rattle.std.specs.Prelude.{◌≡◌, ◌<◌, ◌≤◌, ◌-◌, ◌++◌, ◌∷◌, [], List, Some, ℕ, false, is_some, length, take, drop};
+ghost use Rattle.std.specs.Prelude.{◌≡◌, ◌<◌, ◌≤◌, ◌-◌, ◌++◌, ◌∷◌, [], List, Some, ℕ, false, is_some, length, min, take, drop};
 ghost use Rattle.std.specs.Option.{option_copied};
 ghost use Rattle.session_rules.specs.declared.end.Turn.TheVariants as comes;
 ghost use Rattle.validator_core.specs.Held.{Held};
 ghost use Rattle.validator_session.specs.Core.{Fell, Rests, Stood, Turned, over_of, received_of, turn_of, weight};
+ghost use Rattle.validator_session.specs.Noting.{IsNoted};
 ghost use Rattle.wire_base.specs.Turns.{Ended, Idle, Turn as LinkTurn, turns_of};
 
 use crate::inner::Inner;
@@ -58,6 +59,15 @@ impl FollowCore {
         self.inner.hear(alloc, mirror, piece)
     }
 
+    /// How many octets of a piece the limit allows.
+    pub fn allowed(&self, len: usize) -> usize
+        requires live { is_some (over_of self.now) ≡ false }
+        ensures allowed { result ≡ min (self.now.end.config.octets - received_of self.now) len }
+        ensures some { 0 < len → 0 < result }
+    {
+        self.inner.allowed(len)
+    }
+
     /// Hears an idle turn.
     pub fn idle(&mut self, alloc: Global, mirror: &mut Mirror) -> Turn
         ensures turned { is_some (over_of self.old) ≡ false → Turned self.old mirror.old (Idle ∷ []) self.new mirror.new }
@@ -96,6 +106,7 @@ impl FollowCore {
             → Fell c mirror turns carried self.old now → Fell c mirror turns (carried ++ take count self.old.end.out) self.new now }
         ensures rest { self.new.end.out ≡ drop count self.old.end.out }
         ensures over { over_of self.new ≡ over_of self.old }
+        ensures weight { weight self.new ≡ weight self.old }
         ensures config { self.new.end.config ≡ self.old.end.config }
     {
         self.inner.carried(count);
@@ -125,6 +136,7 @@ impl FollowCore {
     /// What is noted of the session, once it is over.
     pub fn into_record(self) -> SessionRecord
         ensures record { result ≡ self.end.standing.notes.record }
+        ensures noted { IsNoted self.end.standing.notes }
     {
         let FollowCore { inner } = self;
         inner.into_record()

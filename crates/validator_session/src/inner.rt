@@ -79,7 +79,7 @@ impl Inner {
     }
 
     /// How many octets of a piece the limit allows.
-    fn allowed(&self, len: usize) -> usize
+    pub(crate) fn allowed(&self, len: usize) -> usize
         requires room { received_of self.now ≤ self.now.end.config.octets }
         ensures allowed { result ≡ min (self.now.end.config.octets - received_of self.now) len }
     {
@@ -180,6 +180,7 @@ impl Inner {
             → Fell c mirror turns carried self.old now → Fell c mirror turns (carried ++ take count self.old.end.out) self.new now }
         ensures rest { self.new.end.out ≡ drop count self.old.end.out }
         ensures over { over_of self.new ≡ over_of self.old }
+        ensures weight { weight self.new ≡ weight self.old }
         ensures config { self.new.end.config ≡ self.old.end.config }
         ensures core { IsCore self.new }
     {

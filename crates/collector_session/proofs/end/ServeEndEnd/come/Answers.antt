@@ -9,7 +9,7 @@ use Rattle.collector_session.proofs.end.ServeEndEnd.come.Goals as goal
 pub returns-clause-did : goal.returns-clause-did
 returns-clause-did g c =
     step_did g.D.Desk.stands g.D.Desk.went c.hear.result c.args.self.now (record c.args.self.now { standing = c.hear.new.standing; out = c.hear.new.out }) c.args.beside.now c.hear.new.desk (Came c.args.batch.now)
-    (hears c.args.self.now.config (standing c.args.self.now) c.args.batch.now) (came c.args.self.now c.args.batch.now c.requires.live) refl c.hear.ensures.sent c.hear.ensures.received c.hear.ensures.talked
+    (hears c.args.self.now.config (standing c.args.self.now) c.args.batch.now) (came c.args.self.now c.args.batch.now c.requires.live) refl c.hear.ensures.sent c.hear.ensures.received c.hear.ensures.taken c.hear.ensures.own c.hear.ensures.talked
 
 pub returns-clause-ready : goal.returns-clause-ready
 returns-clause-ready g c =

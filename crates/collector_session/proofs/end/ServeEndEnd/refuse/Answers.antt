@@ -15,6 +15,6 @@ pub returns-clause-did : goal.returns-clause-did
 returns-clause-did g c =
     let next : ServeEnd = record c.args.self.now { standing = c.refuse.new.standing; out = c.refuse.new.out } in
     step_did g.D.Desk.stands g.D.Desk.went c.refuse.result c.args.self.now next c.args._beside.now c.args._beside.now (Faulty c.args.fault)
-    (refuses (standing c.args.self.now) c.args.fault) (faulty c.args.self.now c.args.fault c.requires.live) refl c.refuse.ensures.sent c.refuse.ensures.received
+    (refuses (standing c.args.self.now) c.args.fault) (faulty c.args.self.now c.args.fault c.requires.live) refl c.refuse.ensures.sent c.refuse.ensures.received c.refuse.ensures.taken c.refuse.ensures.own
     (spoken_talked g.D.Desk.stands g.D.Desk.went g.met.D.Desk.stays g.met.D.Desk.follows g.met.D.Desk.carries c.args._beside.now c.args.self.now.out next.out (note (standing c.args.self.now)) (refuses (standing c.args.self.now) c.args.fault)
     (standing next) (note (standing next)) c.refuse.result c.refuse.ensures.spoken)

@@ -1,0 +1,5 @@
+pub mod Driving
+pub mod Ends
+pub mod OwnEnds
+pub mod Serving
+pub mod Following

@@ -1,0 +1,5 @@
+pub mod Driving
+pub mod Ran
+pub mod RanLaws
+pub mod Served
+pub mod Followed
