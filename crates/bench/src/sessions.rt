@@ -1,7 +1,9 @@
 //! Sessions of a collector with a validator, by the cores of both ends, beside the same reports
 //! without batches. The collector's log is full, and the validator's mirror is empty at first.
 
-ghost use Rattle.std.specs.Prelude.{◌<◌};
+ghost use Rattle.std.specs.Bool.{OnTrue};
+ghost use Rattle.std.specs.Prelude.{◌<◌, ◌^◌};
+ghost use Rattle.swima_model.specs.Size.{report_count};
 
 use crate::book::{KEPT, alterations, book_of, latest};
 use crate::trouble::Trouble;
@@ -9,7 +11,7 @@ use collector_core::{Answer, Book};
 use collector_session::ServeCore;
 use session_rules::{FollowConfig, ServeConfig};
 use std::alloc::Global;
-use swima_model::Kind;
+use swima_model::{Kind, Report};
 use validator_core::Mirror;
 use validator_session::FollowCore;
 
@@ -51,12 +53,22 @@ pub(crate) fn alone(alloc: Global, records: u32) -> Result<u64, Trouble> {
     let book = full_book(alloc, records)?;
     let mut mirror = Mirror::new(alloc, Kind::Full);
     match book.answer(&latest(alloc, 0), MOST) {
-        Answer::Report(report) => {
+        Answer::Report(report) if is_countable(&report) => {
             mirror.take_owned(report);
             Ok(u64::from(mirror.count()))
         }
-        Answer::TooLarge { .. } => Err(Trouble::Book),
         Answer::Memory => Err(Trouble::Memory),
+        _ => Err(Trouble::Book),
+    }
+}
+
+/// Whether the records or events of a report are fewer than 2^32.
+fn is_countable(report: &Report) -> bool
+    ensures few { OnTrue result (report_count report.now < 2 ^ 32) }
+{
+    match report {
+        Report::Inventory { records, .. } => records.len() <= u32::MAX as usize,
+        Report::Events { events, .. } => events.len() <= u32::MAX as usize,
     }
 }
 
