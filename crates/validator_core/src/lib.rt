@@ -16,14 +16,20 @@
 //! | `mirror/want.rt` | what a mirror wants next |
 //! | `doubled.rt`, `order.rt`, `limits.rt` | inventories: doubled identifiers, order, size |
 //! | `gap.rt`, `misfit.rt`, `tally.rt` | events: gaps, and the first that does not fit |
+//! | `keyed.rt` | the records by identifier, a hash map in order of identifier |
 //! | `follow.rt` | the records that are live after some events |
+//! | `gone.rt`, `in_place.rt`, `anew.rt` | deletions, what is put in place, and what is put in order anew |
 //! | `lent_or_owned.rt` | lists of a report that is lent or given up |
 //! | `laws.rt` | what the definitions mean, proved |
 #![tactic(auto)]
 
+mod anew;
 mod doubled;
 mod follow;
 mod gap;
+mod gone;
+mod in_place;
+mod keyed;
 pub mod laws;
 mod lent_or_owned;
 mod limits;
