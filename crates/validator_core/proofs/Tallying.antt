@@ -9,6 +9,7 @@ use Rattle.std.proofs.lemmas.Bool.{cond-true, cond-false, lt-ltb}
 use Rattle.std.proofs.lemmas.Bool.Decides.{nat_tests}
 use Rattle.std.proofs.lemmas.List.{drop_more}
 use Rattle.std.proofs.lemmas.List.Elements.{filter_more}
+use Rattle.indexmap.specs.IndexMap.{IndexMap, values}
 use Rattle.swima_model.specs.declared.event.Event.{Event}
 use Rattle.swima_model.specs.declared.record.Content.{Content}
 use Rattle.swima_model.specs.declared.record.Record.{Record}
@@ -22,12 +23,13 @@ use Rattle.validator_core.specs.declared.mirror.Taken.{Taken}
 use Rattle.validator_core.specs.declared.mirror.Taken.TheVariants as taken
 use Rattle.validator_core.specs.declared.tally.Tally.{Tally}
 use Rattle.validator_core.specs.Following.{events_above, first_misfit, first_misfit_after, or_later, too_large}
+use Rattle.validator_core.specs.Keyed.{AreKeyed}
 use Rattle.validator_core.specs.Tally.{Follows, IsTally, too_many}
 use denote.Ref.{Bor}
 
 -- ---- mentions
 
-at_eqb : (m n : ℕ) → is_at (nat_cmp m) n ≡ eqb m n
+pub at_eqb : (m n : ℕ) → is_at (nat_cmp m) n ≡ eqb m n
 at_eqb m n = grind (arith, nat_tests)
 
 mentioned_step : (here : Bool) (event : Bor Event) (found : Option (Bor Event))
@@ -36,6 +38,10 @@ mentioned_step true event found = refl
 mentioned_step false event found = refl
 
 -- ---- what is live of a record
+
+-- The records that a tally is of rise.
+pub base_rises : (base : List Record) (before : List Event) (tally : Tally) → IsTally base before tally → IsStrictlyIncreasing (ids base)
+base_rises base before tally is = subst (λ (rs : List Record). IsStrictlyIncreasing (ids rs)) is.records is.keyed.rising
 
 -- Without a mention it is what stood before.
 pub held_before : (id : ℕ) (base : List Record) (before : List Event) (tally : Tally) → IsTally base before tally → get nat_cmp tally.mentions id ≡ None
@@ -55,7 +61,7 @@ held_said id base before tally event is some =
 module _ (base : List Record) (before : List Event) (event : Event) (now : Tally) (held : Option Record) (is : IsTally base before now)
     (found : held ≡ record_of event.subject.id (live base before)) where
   rises : IsStrictlyIncreasing (ids (live base before))
-  rises = live_rises base before is.rising
+  rises = live_rises base before (base_rises base before now is)
 
   -- What is live of the record was counted.
   pub gone_counted : (gone : ℕ) → gone ≡ length (option_to_list held) → length (but event.subject.id (live base before)) + gone ≡ now.count
@@ -85,12 +91,12 @@ module _ (base : List Record) (before : List Event) (event : Event) (now : Tally
       (went : (gone.0 ≡ length (option_to_list held)) × (gone.1 ≡ records_octets (option_to_list held)))
       (count : after.count + gone.0 ≡ now.count + come.0) (octets : after.octets + gone.1 ≡ now.octets + come.1) where
     more : live (live base before) (event ∷ []) ≡ live base (before ++ event ∷ [])
-    more = live_more base before (event ∷ []) is.rising
+    more = live_more base before (event ∷ []) (base_rises base before now is)
 
     pub tally_after : IsTally base (before ++ event ∷ []) after
     tally_after = record {
-      rising = is.rising;
-      records = ap (λ (b : Bor (List Record)). b.now) records ∙ is.records;
+      keyed = subst (λ b. AreKeyed b.now.entries) (sym records) is.keyed;
+      records = ap (λ b. values b.now) records ∙ is.records;
       mentions = λ id.
           ap option_copied (mentions id) ∙ mentioned_step (is_at (nat_cmp event.subject.id) id) put (get nat_cmp now.mentions id)
           ∙ ap₂ (λ (here : Bool) (e : Event). later_or (cond here (Some e) None) (option_copied (get nat_cmp now.mentions id))) (at_eqb event.subject.id id) same
@@ -128,10 +134,12 @@ module _ (base : List Record) (before : List Event) (event : Event) (now : Tally
 
 -- ---- none yet
 
-pub begins : (base : List Record) (tally : Tally) → IsStrictlyIncreasing (ids base) → tally.records.now ≡ base → ((id : ℕ) → get nat_cmp tally.mentions id ≡ None)
+pub begins : (base : List Record) (tally : Tally) → AreKeyed tally.records.now.entries → values tally.records.now ≡ base → ((id : ℕ) → get nat_cmp tally.mentions id ≡ None)
     → tally.count ≡ length base → tally.octets ≡ records_octets base → IsTally base [] tally
-begins base tally up is none count octets = record {
-  rising = up;
+begins base tally keyed is none count octets =
+    let up : IsStrictlyIncreasing (ids base) = subst (λ (rs : List Record). IsStrictlyIncreasing (ids rs)) is keyed.rising in
+    record {
+  keyed = keyed;
   records = is;
   mentions = λ id. ap option_copied (none id);
   count = count ∙ ap length (sym (live_none base up));

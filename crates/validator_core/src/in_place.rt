@@ -1,7 +1,7 @@
 //! What events say of records, put in place: each event is of a record that is held, or of one
 //! above all others. A collector numbers its records so.
 
-ghost use Rattle.std.specs.Prelude.{◌≡◌, ◌≤◌, ◌<◌, ◌+◌, ◌⊎◌, ◌×◌, ◌^◌, ℕ, IfSome, IsSome, length, nat_eq};
+ghost use Rattle.std.specs.Prelude.{◌≡◌, ◌≤◌, ◌<◌, ◌+◌, ◌⊎◌, ◌^◌, ℕ, IfSome, IsSome, length, nat_eq};
 ghost use Rattle.indexmap.specs.IndexMap.{insert_entry, spare, values};
 ghost use Rattle.swima_model.specs.Live.{live};
 ghost use Rattle.validator_core.specs.Keyed.{AreBelow, AreKeyed, at, is_held};

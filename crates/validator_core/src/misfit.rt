@@ -1,8 +1,8 @@
 //! The first event that does not fit: it contradicts what is live before it, or too much is live
 //! after it.
 
-ghost use Rattle.std.specs.Prelude.{◌≡◌, [], List, None, IfOk};
-ghost use Rattle.swima_model.specs.declared.record.Record.{Record};
+ghost use Rattle.std.specs.Prelude.{◌≡◌, [], None, IfOk};
+ghost use Rattle.indexmap.specs.IndexMap.{values};
 ghost use Rattle.validator_core.specs.Following.{events_above, first_misfit};
 ghost use Rattle.validator_core.specs.Tally.{AreFew, IsTally};
 
@@ -19,12 +19,12 @@ pub(crate) fn first_misfit<'a>(
     eid: u32,
     events: &'a [Event],
 ) -> Result<Option<Taken>, Memory>
-    requires begins { (base : List Record) × IsTally base [] tally.old }
+    requires begins { IsTally (values tally.old.records.now) [] tally.old }
     requires few { AreFew tally.old }
-    ensures first { (base : List Record) → IsTally base [] tally.old
-        → IfOk result (λ found. found ≡ first_misfit base (events_above eid events.now)) }
-    ensures tally { (base : List Record) → IsTally base [] tally.old
-        → IfOk result (λ found. found ≡ None → IsTally base (events_above eid events.now) tally.new) }
+    ensures first { IfOk result (λ found.
+        found ≡ first_misfit (values tally.old.records.now) (events_above eid events.now)) }
+    ensures tally { IfOk result (λ found. found ≡ None
+        → IsTally (values tally.old.records.now) (events_above eid events.now) tally.new) }
     ensures few { IfOk result (λ found. found ≡ None → AreFew tally.new) }
 {
     for event in events {

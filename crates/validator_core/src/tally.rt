@@ -35,7 +35,8 @@ impl<'a> Tally<'a> {
     /// The tally of `records`, which have that many octets, before any event. It takes no memory.
     pub(crate) fn new(alloc: Global, records: &'a Keyed, octets: u64) -> Self
         requires weighed { AreWeighed records.now.entries octets }
-        ensures begins { IsTally (values records.now) [] result }
+        ensures begins { IsTally (values result.records.now) [] result }
+        ensures records { result.records ≡ records }
         ensures few { AreFew result }
     {
         Tally {

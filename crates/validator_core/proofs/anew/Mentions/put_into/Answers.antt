@@ -10,7 +10,7 @@ use Rattle.swima_model.specs.declared.record.Record.{Record}
 use Rattle.swima_model.specs.Live.{is_mentioned, last_mentions, unmentioned}
 use Rattle.swima_model.proofs.Rises.{rises_by}
 use Rattle.validator_core.proofs.Mentioning.{live_in_any_order}
-use Rattle.validator_core.proofs.follow.Mentions.put_into.Goals as goal
+use Rattle.validator_core.proofs.anew.Mentions.put_into.Goals as goal
 
 pub returns-clause-live : goal.returns-clause-live
 returns-clause-live c = λ events are up.
