@@ -40,11 +40,11 @@ keys_are n (e ∷ es) h = ap₂ (λ (k : ℕ) (ks : List ℕ). k ∷ ks) h.1 (ke
 pub keyed_from : (n : ℕ) (es : Entries) → AreFrom n es → AreKeyed es
 keyed_from n es h = record { keyed = keys_are n es h; rising = climbed (ids (values_of es)) (climbing n es h) }
 
-first_is : (a b : ℕ) (as bs : List ℕ) → (a ∷ as) ≡ (b ∷ bs) → a ≡ b
-first_is a b as bs e = cc
+first_is : (a b : ℕ) (xs ys : List ℕ) → (a ∷ xs) ≡ (b ∷ ys) → a ≡ b
+first_is a b xs ys e = cc
 
-rest_is : (a b : ℕ) (as bs : List ℕ) → (a ∷ as) ≡ (b ∷ bs) → as ≡ bs
-rest_is a b as bs e = cc
+rest_is : (a b : ℕ) (xs ys : List ℕ) → (a ∷ xs) ≡ (b ∷ ys) → xs ≡ ys
+rest_is a b xs ys e = cc
 
 from_each : (n : ℕ) (es : Entries) → keys_of es ≡ ids (values_of es) → IsStrictlyIncreasing (ids (values_of es)) → AllFrom n (ids (values_of es)) → AreFrom n es
 from_each n [] keyed up h = tt

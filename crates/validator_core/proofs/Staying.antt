@@ -1,5 +1,6 @@
 -- What is live where the records that are gone are dropped before anything is said of others.
-use Rattle.std.proofs.Common.{◌≡◌, ℕ, eqb, cond, not, ◌&&◌, Bool, true, false, List, [], ◌∷◌, ◌++◌, Option, Some, None, refl, sym, ap, ◌∙◌, eqb-true}
+use Rattle.std.proofs.Common.{◌≡◌, ℕ, eqb, cond, not, ◌&&◌, Bool, true, false, List, [], ◌∷◌, ◌++◌, Option, Some, None, length, refl, sym, ap, ◌∙◌, arith, eqb-true}
+use Rattle.std.specs.Prelude.{◌↔◌, IsTrue}
 use Rattle.std.specs.List.{list_any}
 use Rattle.std.specs.BTreeMap.{is_at}
 use Rattle.std.specs.BTreeSet.{BTreeSet, contains}
@@ -23,6 +24,11 @@ use Rattle.validator_core.proofs.Tallying.{at_eqb}
 empty_step : (id : ℕ) (keys : List ℕ) → keys ≡ [] → list_any (is_at (nat_cmp id)) keys ≡ false
 empty_step id [] none = refl
 empty_step id (k ∷ keys) none = absurd cc
+
+pub empty_keys : (is : Bool) (keys : List ℕ) → (IsTrue is ↔ (length keys ≡ 0)) → not is ≡ false → keys ≡ []
+empty_keys is [] both e = refl
+empty_keys true (k ∷ keys) both e = absurd (omega (arith, both.0 refl))
+empty_keys false (k ∷ keys) both e = absurd (true≢false e)
 
 pub none_in : (gone : BTreeSet ℕ) (id : ℕ) → gone.keys ≡ [] → contains nat_cmp gone id ≡ false
 none_in gone id none = empty_step id gone.keys none

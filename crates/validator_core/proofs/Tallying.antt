@@ -3,11 +3,12 @@ use Rattle.std.proofs.Common.{◌≡◌, ℕ, ◌+◌, ◌<◌, eqb, ltb, cond, 
 use Rattle.std.specs.Prelude.{is_some, option_to_list}
 use Rattle.std.specs.BTreeMap.{get, is_at}
 use Rattle.std.specs.List.Sorted.{IsStrictlyIncreasing}
+use Rattle.std.specs.Map.{values_of}
 use Rattle.std.specs.Option.{option_copied}
 use Rattle.std.specs.Ordering.{nat_cmp}
 use Rattle.std.proofs.lemmas.Bool.{cond-true, cond-false, lt-ltb}
 use Rattle.std.proofs.lemmas.Bool.Decides.{nat_tests}
-use Rattle.std.proofs.lemmas.List.{drop_more}
+use Rattle.std.proofs.lemmas.List.{drop_more, length-map}
 use Rattle.std.proofs.lemmas.List.Elements.{filter_more}
 use Rattle.indexmap.specs.IndexMap.{IndexMap, values}
 use Rattle.swima_model.specs.declared.event.Event.{Event}
@@ -23,8 +24,9 @@ use Rattle.validator_core.specs.declared.mirror.Taken.{Taken}
 use Rattle.validator_core.specs.declared.mirror.Taken.TheVariants as taken
 use Rattle.validator_core.specs.declared.tally.Tally.{Tally}
 use Rattle.validator_core.specs.Following.{events_above, first_misfit, first_misfit_after, or_later, too_large}
-use Rattle.validator_core.specs.Keyed.{AreKeyed}
-use Rattle.validator_core.specs.Tally.{Follows, IsTally, too_many}
+use Rattle.validator_core.specs.Keyed.{AreKeyed, Entries}
+use Rattle.validator_core.specs.Tally.{AreFew, Follows, IsTally, too_many}
+use Rattle.validator_core.specs.Weighed.{AreWeighed}
 use denote.Ref.{Bor}
 
 -- ---- mentions
@@ -182,3 +184,14 @@ module _ (eid : ℕ) (events : List Event) (i : ℕ) (event : Event) (within : i
             ∙ rest,
         subst (λ (es : List Event). IsTally base es after) (sym gone_over) (follows.1 none),
       )
+
+-- ---- what a mirror has then
+
+pub weighed_after : (base : List Record) (events : List Event) (tally : Tally) (entries : Entries) → IsTally base events tally → AreFew tally → AreKeyed entries
+    → values_of entries ≡ live base events → AreWeighed entries tally.octets
+weighed_after base events tally entries is few keyed lives = record {
+  keyed = keyed;
+  few = omega (arith, few.0, is.count, ap (λ (rs : List Record). length rs) lives, length-map entries (λ (e : ℕ × Record). e.1));
+  octets = is.octets ∙ ap records_octets (sym lives);
+  within = few.1;
+}

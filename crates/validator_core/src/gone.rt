@@ -25,13 +25,10 @@ fn tell(gone: &mut BTreeSet<u32>, event: &Event) -> Result<(), Memory>
     ensures gone { (before : List EventValue) → AreGone before gone.old
         → OnOk result (AreGone (before ++ event.now ∷ []) gone.new) }
 {
-    match event.action {
-        Action::Deletion => {
-            gone.insert(event.subject.id)?;
-        }
-        Action::Creation | Action::Alteration => {
-            gone.remove(&event.subject.id);
-        }
+    if event.action == Action::Deletion {
+        gone.insert(event.subject.id)?;
+    } else {
+        gone.remove(&event.subject.id);
     }
     Ok(())
 }

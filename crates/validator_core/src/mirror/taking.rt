@@ -80,7 +80,8 @@ impl Mirror {
                 octets,
             });
         }
-        self.records = keyed(alloc, in_order(records.into_list()?)?)?;
+        let ordered = in_order(records.into_list()?)?;
+        self.records = keyed(alloc, ordered)?;
         self.octets = octets;
         self.point = Some(point);
         self.off = false;
