@@ -141,12 +141,12 @@ pub begins : (base : List Record) (tally : Tally) → AreKeyed tally.records.now
 begins base tally keyed is none count octets =
     let up : IsStrictlyIncreasing (ids base) = subst (λ (rs : List Record). IsStrictlyIncreasing (ids rs)) is keyed.rising in
     record {
-  keyed = keyed;
-  records = is;
-  mentions = λ id. ap option_copied (none id);
-  count = count ∙ ap length (sym (live_none base up));
-  octets = octets ∙ ap records_octets (sym (live_none base up));
-}
+      keyed = keyed;
+      records = is;
+      mentions = λ id. ap option_copied (none id);
+      count = count ∙ ap length (sym (live_none base up));
+      octets = octets ∙ ap records_octets (sym (live_none base up));
+    }
 
 -- ---- event by event
 
