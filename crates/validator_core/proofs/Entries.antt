@@ -1,5 +1,5 @@
 -- Maps from identifiers to records, in order of identifier.
-use Rattle.std.proofs.Common.{◌≡◌, inl, inr, ℕ, suc, ◌+◌, ◌<◌, ◌≤◌, eqb, cond, not, Bool, true, false, List, [], ◌∷◌, ◌++◌, length, Option, Some, None, refl, sym, ap, ap₂, ◌∙◌, subst, arith, append_assoc, eqb-true, eq-eqb, ne_eqb}
+use Rattle.std.proofs.Common.{◌≡◌, inl, inr, ℕ, zero, suc, ◌+◌, ◌<◌, ◌≤◌, eqb, cond, not, Bool, true, false, List, [], ◌∷◌, ◌++◌, length, Option, Some, None, refl, sym, ap, ap₂, ◌∙◌, subst, arith, append_assoc, eqb-true, eq-eqb, ne_eqb}
 use Rattle.std.specs.Prelude.{◌-◌, filter, slice_get}
 use Rattle.std.specs.List.Sorted.{IsStrictlyIncreasing}
 use Rattle.std.specs.Map.{keys_of, values_of}
@@ -49,11 +49,11 @@ rest_is a b xs ys e = cc
 from_each : (n : ℕ) (es : Entries) → keys_of es ≡ ids (values_of es) → IsStrictlyIncreasing (ids (values_of es)) → AllFrom n (ids (values_of es)) → AreFrom n es
 from_each n [] keyed up h = tt
 from_each n (e ∷ es) keyed up h =
-    let at : e.0 ≡ e.1.id = first_is e.0 e.1.id (keys_of es) (ids (values_of es)) keyed in (
-      omega (arith, at, h.0),
-      at,
+    let own : e.0 ≡ e.1.id = first_is e.0 e.1.id (keys_of es) (ids (values_of es)) keyed in (
+      omega (arith, own, h.0),
+      own,
       from_each (suc e.0) es (rest_is e.0 e.1.id (keys_of es) (ids (values_of es)) keyed) (strict_rest e.1.id (ids (values_of es)) up)
-          (subst (λ (k : ℕ). AllFrom (suc k) (ids (values_of es))) (sym at) (strict_from e.1.id (ids (values_of es)) up)),
+          (subst (λ (k : ℕ). AllFrom (suc k) (ids (values_of es))) (sym own) (strict_from e.1.id (ids (values_of es)) up)),
     )
 
 from_zero : (ns : List ℕ) → AllFrom 0 ns
@@ -194,9 +194,9 @@ pub values_put : (r : Record) (es : Entries) → AreBelow r.id es → values_of 
 values_put r es below = ap (λ (l : Entries). values_of l) (put_last_is r es below) ∙ map-append (λ (e : ℕ × Record). e.1) es ((r.id, r) ∷ [])
 
 -- The next of records that rise is put after those that are there.
-pub record Filled (all : List Record) (made : Entries) (rest : List Record) (spare : ℕ) : Type 0 where
+pub record Filled (records : List Record) (made : Entries) (rest : List Record) (spare : ℕ) : Type 0 where
   pub keyed : AreKeyed made
-  pub all : values_of made ++ rest ≡ all
+  pub all : values_of made ++ rest ≡ records
   pub room : length rest ≤ spare
 
 pub filled_one : (all : List Record) (made after : Entries) (r : Record) (rest : List Record) (spare left : ℕ) → IsStrictlyIncreasing (ids all)
@@ -212,12 +212,19 @@ filled_one all made after r rest spare left up h put used =
     }
 
 -- All are below the number above the last.
+below_end : (n : ℕ) (es : Entries) (i : ℕ) (last : ℕ × Record) → AreFrom n es → suc i ≡ length es → slice_get es i ≡ Some last → AreBelow (last.0 + 1) es
+below_end n [] i last h len found = tt
+below_end n (e ∷ []) zero last h len found =
+    let same : e ≡ last = cc in
+    (subst (λ (x : ℕ × Record). e.0 < x.0 + 1) same (omega arith), tt)
+below_end n (e ∷ []) (suc i) last h len found = absurd (omega (arith, len))
+below_end n (e ∷ f ∷ es) zero last h len found = absurd (omega (arith, len))
+below_end n (e ∷ f ∷ es) (suc i) last h len found =
+    let later : AreBelow (last.0 + 1) (f ∷ es) = below_end (suc e.0) (f ∷ es) i last h.2 (omega (arith, len)) found in
+    (omega (arith, h.2.0, later.0), later)
+
 pub below_last : (es : Entries) → AreKeyed es → (last : ℕ × Record) → slice_get es (length es - 1) ≡ Some last → AreBelow (last.0 + 1) es
-below_last es is last at_end = each 0 es last (from_keyed es is) at_end
-  where
-    each : (n : ℕ) (es : Entries) (last : ℕ × Record) → AreFrom n es → slice_get es (length es - 1) ≡ Some last → AreBelow (last.0 + 1) es
-    each n [] last h at = tt
-    each n (e ∷ []) last h at = let same : e ≡ last = cc in (subst (λ (x : ℕ × Record). e.0 < x.0 + 1) same (omega arith), tt)
-    each n (e ∷ f ∷ es) last h at =
-        let later : AreBelow (last.0 + 1) (f ∷ es) = each (suc e.0) (f ∷ es) last h.2 at in
-        (omega (arith, h.2.0, later.0), later)
+below_last [] is last found = tt
+below_last (e ∷ es) is last found =
+    let end : length (e ∷ es) - 1 ≡ length es = omega arith in
+    below_end 0 (e ∷ es) (length es) last (from_keyed (e ∷ es) is) refl (subst (λ (i : ℕ). slice_get (e ∷ es) i ≡ Some last) end found)

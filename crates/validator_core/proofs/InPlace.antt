@@ -171,9 +171,6 @@ held_some : (o : Option Record) → is_some o ≡ true → (r : Record) × (o �
 held_some None is = absurd (true≢false (sym is))
 held_some (Some r) is = (r, refl)
 
-some_is : (o : Option Record) (r : Record) → o ≡ Some r → IsSome o
-some_is o r e = subst IsSome (sym e) tt
-
 still_held : (here : Bool) (r : Record) (o : Option Record) → is_some o ≡ true → is_some (cond here (Some r) o) ≡ true
 still_held true r o is = refl
 still_held false r o is = is
@@ -181,9 +178,7 @@ still_held false r o is = is
 -- There is a place for its record.
 pub put_fits : (base now : Entries) (e : Event) (rest : List Event) (spare : ℕ) → Puts base now (e ∷ rest) spare → IsSome (at e.subject.id now) ⊎ (0 < spare)
 put_fits base now e rest spare h = elim (first_of base now e rest spare h) [
-  | inl there ↦
-      let found = held_some (at e.subject.id now) (h.held e.subject.id there.0) in
-      inl (some_is (at e.subject.id now) found.0 found.1)
+  | inl there ↦ inl (h.held e.subject.id there.0)
   | inr new ↦ inr (omega (arith, new.1.1))
 ]
 
@@ -207,7 +202,7 @@ module _ (base now after : Entries) (e : Event) (rest : List Event) (spare left 
           next = h.next;
           below = subst (AreBelow h.next) (sym put) (below_put h.next e.subject now (below_held h.next e.subject.id held.0 now h.below held.1) h.below);
           rise = there.1.0;
-          room = omega (arith, there.1.1, same_room (some_is (at e.subject.id now) held.0 held.1));
+          room = omega (arith, there.1.1, same_room (h.held e.subject.id there.0));
         }
     | inr new ↦ record {
       keyed = subst AreKeyed (sym put) (put_last e.subject now (below_more h.next e.subject.id now new.0 h.below) h.keyed);

@@ -166,7 +166,7 @@ weighed_in_order records entries count octets counted weighed fits keyed order =
         ap (λ (rs : List Record). length rs) order,
         length-map entries (λ (e : ℕ × Record). e.1),
       );
-      octets =
+      counted =
           weighed ∙ sym (sum_by-IsPermutation (λ (r : Record). content_octets r.content) records (in_order records) (in_order_permutation records))
           ∙ ap records_octets (sym order);
       within = omega (arith, ltb-false 268435456 octets both.1);

@@ -10,7 +10,7 @@ use Rattle.std.proofs.lemmas.Bool.{cond-true, cond-false, lt-ltb}
 use Rattle.std.proofs.lemmas.Bool.Decides.{nat_tests}
 use Rattle.std.proofs.lemmas.List.{drop_more, length-map}
 use Rattle.std.proofs.lemmas.List.Elements.{filter_more}
-use Rattle.indexmap.specs.IndexMap.{IndexMap, values}
+use Rattle.indexmap.specs.IndexMap.{values}
 use Rattle.swima_model.specs.declared.event.Event.{Event}
 use Rattle.swima_model.specs.declared.record.Content.{Content}
 use Rattle.swima_model.specs.declared.record.Record.{Record}
@@ -87,7 +87,7 @@ module _ (base : List Record) (before : List Event) (event : Event) (now : Tally
   )
 
   -- One that does not.
-  module _ (after : Tally) (put : Bor Event) (same : put.now ≡ event) (records : after.records ≡ now.records)
+  module _ (after : Tally) (put : Bor Event) (same : put.now ≡ event) (records : after.records.now.entries ≡ now.records.now.entries)
       (mentions : (id : ℕ) → get nat_cmp after.mentions id ≡ cond (is_at (nat_cmp event.subject.id) id) (Some put) (get nat_cmp now.mentions id))
       (come gone : ℕ × ℕ) (came : (come.0 ≡ length (option_to_list (by_mention None (Some event)))) × (come.1 ≡ records_octets (option_to_list (by_mention None (Some event)))))
       (went : (gone.0 ≡ length (option_to_list held)) × (gone.1 ≡ records_octets (option_to_list held)))
@@ -97,8 +97,8 @@ module _ (base : List Record) (before : List Event) (event : Event) (now : Tally
 
     pub tally_after : IsTally base (before ++ event ∷ []) after
     tally_after = record {
-      keyed = subst (λ b. AreKeyed b.now.entries) (sym records) is.keyed;
-      records = ap (λ b. values b.now) records ∙ is.records;
+      keyed = subst AreKeyed (sym records) is.keyed;
+      records = ap (λ (es : Entries). values_of es) records ∙ is.records;
       mentions = λ id.
           ap option_copied (mentions id) ∙ mentioned_step (is_at (nat_cmp event.subject.id) id) put (get nat_cmp now.mentions id)
           ∙ ap₂ (λ (here : Bool) (e : Event). later_or (cond here (Some e) None) (option_copied (get nat_cmp now.mentions id))) (at_eqb event.subject.id id) same
@@ -192,6 +192,6 @@ pub weighed_after : (base : List Record) (events : List Event) (tally : Tally) (
 weighed_after base events tally entries is few keyed lives = record {
   keyed = keyed;
   few = omega (arith, few.0, is.count, ap (λ (rs : List Record). length rs) lives, length-map entries (λ (e : ℕ × Record). e.1));
-  octets = is.octets ∙ ap records_octets (sym lives);
+  counted = is.octets ∙ ap records_octets (sym lives);
   within = few.1;
 }

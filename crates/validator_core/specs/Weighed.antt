@@ -8,5 +8,5 @@ use Rattle.validator_core.specs.Keyed.{AreKeyed, Entries}
 pub record AreWeighed (entries : Entries) (octets : ℕ) : Type 0 where
   pub keyed : AreKeyed entries
   pub few : length entries ≤ 65536
-  pub octets : octets ≡ records_octets (values_of entries)
+  pub counted : octets ≡ records_octets (values_of entries)
   pub within : octets ≤ 2 ^ 40

@@ -36,7 +36,7 @@ impl<'a> Tally<'a> {
     pub(crate) fn new(alloc: Global, records: &'a Keyed, octets: u64) -> Self
         requires weighed { AreWeighed records.now.entries octets }
         ensures begins { IsTally (values result.records.now) [] result }
-        ensures records { result.records ≡ records }
+        ensures records { result.records.now.entries ≡ records.now.entries }
         ensures few { AreFew result }
     {
         Tally {
@@ -49,7 +49,7 @@ impl<'a> Tally<'a> {
 
     /// How many octets the records have that are live.
     pub(crate) fn into_octets(self) -> u64
-        ensures octets { result ≡ self.octets }
+        ensures octets { result ≡ self.entry.octets }
     {
         self.octets
     }

@@ -9,4 +9,4 @@ use Rattle.validator_core.proofs.tally.Tally.new.Goals as goal
 pub returns-clause-begins : goal.returns-clause-begins
 returns-clause-begins c =
     begins (values c.args.records.now) _ c.requires.weighed.keyed refl (λ id. search rules) (c.len.ensures.len ∙ sym (length-map c.args.records.now.entries (λ (e : ℕ × Record). e.1)))
-    c.requires.weighed.octets
+    c.requires.weighed.counted
