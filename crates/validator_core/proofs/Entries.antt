@@ -1,6 +1,6 @@
 -- Maps from identifiers to records, in order of identifier.
 use Rattle.std.proofs.Common.{◌≡◌, inl, inr, ℕ, zero, suc, ◌+◌, ◌<◌, ◌≤◌, eqb, cond, not, Bool, true, false, List, [], ◌∷◌, ◌++◌, length, Option, Some, None, refl, sym, ap, ap₂, ◌∙◌, subst, arith, append_assoc, eqb-true, eq-eqb, ne_eqb}
-use Rattle.std.specs.Prelude.{◌-◌, filter, slice_get}
+use Rattle.std.specs.Prelude.{◌-◌, Result, Ok, Err, IsOk, OnOk, filter, slice_get}
 use Rattle.std.specs.List.Sorted.{IsStrictlyIncreasing}
 use Rattle.std.specs.Map.{keys_of, values_of}
 use Rattle.std.proofs.lemmas.Bool.{cases_eq, cond-true, cond-false, true≢false}
@@ -116,12 +116,12 @@ pub at_cond : (id : ℕ) (keep : Bool) (xs ys : Entries) → at id (cond keep xs
 at_cond id true xs ys = refl
 at_cond id false xs ys = refl
 
-same_none : (b : Bool) → None ≡ cond b None None
-same_none true = refl
-same_none false = refl
+same_either : (b : Bool) (o : Option Record) → o ≡ cond b o o
+same_either true o = refl
+same_either false o = refl
 
 pub at_kept : (id : ℕ) (gone : ℕ → Bool) (es : Entries) → at id (kept gone es) ≡ cond (gone id) None (at id es)
-at_kept id gone [] = same_none (gone id)
+at_kept id gone [] = same_either (gone id) None
 at_kept id gone (e ∷ es) =
     at_cond id (not (gone e.0)) (e ∷ kept gone es) (kept gone es)
     ∙ kept_step (gone e.0) (eqb id e.0) e gone id (at id (kept gone es)) (at id es) refl (λ here. eqb-true id e.0 here) (at_kept id gone es)
@@ -228,3 +228,23 @@ below_last [] is last found = tt
 below_last (e ∷ es) is last found =
     let end : length (e ∷ es) - 1 ≡ length es = omega arith in
     below_end 0 (e ∷ es) (length es) last (from_keyed (e ∷ es) is) refl (subst (λ (i : ℕ). slice_get (e ∷ es) i ≡ Some last) end found)
+
+-- ---- fewer entries are as many at most
+
+shorter_step : (off : Bool) (e : ℕ × Record) (es : Entries) (count : ℕ) → length es ≤ count → length (cond (not off) (e ∷ es) es) ≤ count + 1
+shorter_step true e es count le = omega (arith, le)
+shorter_step false e es count le = omega (arith, le)
+
+pub kept_shorter : (gone : ℕ → Bool) (es : Entries) → length (kept gone es) ≤ length es
+kept_shorter gone [] = omega arith
+kept_shorter gone (e ∷ es) = omega (arith, shorter_step (gone e.0) e (kept gone es) (length es) (kept_shorter gone es))
+
+-- ---- what a call that went well gave
+
+pub ok_gives : {A E : Type 0} {P : Type 0} (result : Result A E) → IsOk result → OnOk result P → P
+ok_gives (Ok a) ok given = given
+ok_gives (Err e) ok given = absurd (true≢false (sym ok))
+
+pub ok_also : {A E : Type 0} {P Q : Type 0} (result : Result A E) → (P → Q) → OnOk result P → OnOk result Q
+ok_also (Ok a) more given = more given
+ok_also (Err e) more given = given

@@ -8,6 +8,9 @@ use Rattle.std.specs.List.Sorted.{IsStrictlyIncreasing}
 use Rattle.std.specs.Map.{values_of}
 use Rattle.std.specs.Ordering.{nat_cmp}
 use Rattle.std.proofs.lemmas.Bool.{cond-true, cond-false, true≢false}
+use Rattle.swima_model.specs.contracts.event.Action.{the_type}
+use Rattle.swima_model.specs.declared.event.Action.{Action}
+use Rattle.swima_model.specs.declared.event.Action.TheVariants.{Creation, Deletion, Alteration}
 use Rattle.swima_model.specs.declared.event.Event.{Event}
 use Rattle.swima_model.specs.declared.record.Record.{Record}
 use Rattle.swima_model.specs.InOrder.{ids}
@@ -17,6 +20,7 @@ use Rattle.validator_core.specs.Gone.{AreGone, NoneDeletes, NoneIsGone, is_gone,
 use Rattle.validator_core.specs.Keyed.{AreKeyed, Entries, at, kept}
 use Rattle.validator_core.proofs.Entries.{at_kept, found, keyed_kept}
 use Rattle.validator_core.proofs.Tallying.{at_eqb}
+use denote.Enum.Bare.{sameb}
 
 -- ---- which records are gone
 
@@ -25,10 +29,9 @@ empty_step : (id : ℕ) (keys : List ℕ) → keys ≡ [] → list_any (is_at (n
 empty_step id [] none = refl
 empty_step id (k ∷ keys) none = absurd cc
 
-pub empty_keys : (is : Bool) (keys : List ℕ) → (IsTrue is ↔ (length keys ≡ 0)) → not is ≡ false → keys ≡ []
+pub empty_keys : (is : Bool) (keys : List ℕ) → (IsTrue is ↔ (length keys ≡ 0)) → is ≡ true → keys ≡ []
 empty_keys is [] both e = refl
-empty_keys true (k ∷ keys) both e = absurd (omega (arith, both.0 refl))
-empty_keys false (k ∷ keys) both e = absurd (true≢false e)
+empty_keys is (k ∷ keys) both e = absurd (omega (arith, both.0 e))
 
 pub none_in : (gone : BTreeSet ℕ) (id : ℕ) → gone.keys ≡ [] → contains nat_cmp gone id ≡ false
 none_in gone id none = empty_step id gone.keys none
@@ -47,6 +50,12 @@ gone_more before e old new said are updates is id =
     ∙ ap (λ (b : Bool). cond (eqb e.subject.id id) b (is_gone (last_mention id before))) (sym is)
     ∙ sym (gone_step (eqb e.subject.id id) e (last_mention id before))
     ∙ sym (ap is_gone (mention_push id before e))
+
+-- Whether an event deletes.
+pub deletes : (action : Action) (is : Bool) → is ≡ sameb the_type action Deletion → is_deletion action ≡ is
+deletes Creation is e = sym e
+deletes Deletion is e = sym e
+deletes Alteration is e = sym e
 
 -- ---- what is said of the others
 

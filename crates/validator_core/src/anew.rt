@@ -50,6 +50,7 @@ impl Anew {
     pub(crate) fn put(self, records: &mut Keyed)
         requires keyed { AreKeyed records.old.entries }
         requires room { HasRoom (index_map_len records.old) self }
+        requires mentions { (events : List EventValue) × AreOf events self.mentions }
         ensures keyed { AreKeyed records.new.entries }
         ensures live { (events : List EventValue) → AreOf events self.mentions
             → values records.new ≡ live (values records.old) events }

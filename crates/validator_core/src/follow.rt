@@ -7,7 +7,7 @@ ghost use Rattle.std.specs.Ordering.{nat_cmp};
 ghost use Rattle.indexmap.specs.IndexMap.{values};
 ghost use Rattle.swima_model.specs.Live.{live};
 ghost use Rattle.validator_core.specs.Following.{events_above};
-ghost use Rattle.validator_core.specs.Gone.{NoneDeletes, NoneIsGone};
+ghost use Rattle.validator_core.specs.Gone.{NoneDeletes, NoneIsGone, staying, stays};
 ghost use Rattle.validator_core.specs.Keyed.{AreKeyed, kept};
 
 use crate::anew::Anew;
@@ -26,13 +26,38 @@ pub(crate) fn follow(records: &mut Keyed, eid: u32, events: Events) -> Result<()
     ensures live { OnOk result (values records.new ≡ live (values records.old) (events_above eid events)) }
     ensures unchanged { OnErr result (values records.new ≡ values records.old) }
 {
-    let mut events = events.into_vec();
-    events.retain(|event| event.eid > eid);
-    let gone = gone(*records.allocator(), events.as_slice())?;
-    events.retain(|event| {
-        event.action != Action::Deletion && !gone.contains(&event.subject.id)
-    });
-    follow_others(records, &gone, events)
+    let above = above(eid, events);
+    let gone = gone(*records.allocator(), above.as_slice())?;
+    let others = staying(&gone, above);
+    follow_others(records, &gone, others)
+}
+
+/// The events above the event identifier `eid`.
+fn above(eid: u32, events: Events) -> Vec<Event>
+    ensures above { result.items ≡ events_above eid events }
+{
+    let mut left = events.into_vec();
+    left.retain(|event| event.eid > eid);
+    left
+}
+
+/// The events that neither delete nor are of a record that is gone.
+fn staying(gone: &BTreeSet<u32>, events: Vec<Event>) -> Vec<Event>
+    ensures staying { result.items ≡ staying (contains nat_cmp gone.now) events.items }
+{
+    let mut left = events;
+    left.retain(|event| stays(gone, event));
+    left
+}
+
+/// Whether the event says what is to be held of a record that is not gone.
+fn stays(gone: &BTreeSet<u32>, event: &Event) -> bool
+    ensures stays { result ≡ stays (contains nat_cmp gone.now) event.now }
+{
+    match event.action {
+        Action::Deletion => false,
+        Action::Creation | Action::Alteration => !gone.contains(&event.subject.id),
+    }
 }
 
 /// The same of events of which none deletes and none is of a record that is gone.

@@ -1,11 +1,12 @@
 -- Records that are live after events of which nothing is to be said fit into the mirror.
-use Rattle.std.proofs.Common.{◌∙◌, List, ap, sym}
+use Rattle.std.proofs.Common.{◌∙◌, ℕ, List, ap, sym, subst}
 use Rattle.std.specs.Map.{values_of}
 use Rattle.indexmap.specs.IndexMap.{values}
 use Rattle.swima_model.specs.declared.event.Event.{Event}
 use Rattle.swima_model.specs.Live.{live}
 use Rattle.validator_core.specs.Following.{events_above}
 use Rattle.validator_core.specs.Keyed.{Entries}
+use Rattle.validator_core.specs.Weighed.{AreWeighed}
 use Rattle.validator_core.proofs.Tallying.{weighed_after}
 use Rattle.validator_core.proofs.mirror.Mirror.take_following.Goals as goal
 
@@ -16,4 +17,5 @@ invariant_of-self-2 c =
     c.in_ok-follow.ensures.live
     ∙ ap (λ (es : List Event). live records (events_above c.args.held.eid es)) (c.in_ok-into_list.ensures.list ∙ sym c.as_slice.ensures.items)
     ∙ ap (λ (es : Entries). live (values_of es) (events_above c.args.held.eid c.as_slice.result.now)) (sym c.new-tally.ensures.records) in
-    weighed_after _ _ _ _ (c.in_ok-misfit.ensures.tally c.in_default.is) (c.in_ok-misfit.ensures.few c.in_default.is) c.follow.ensures.keyed lives
+    subst (λ (octets : ℕ). AreWeighed c.follow.new.records.entries octets) (sym c.into_octets-octets.ensures.octets)
+    (weighed_after _ _ _ _ (c.in_ok-misfit.ensures.tally c.in_default.is) (c.in_ok-misfit.ensures.few c.in_default.is) c.follow.ensures.keyed lives)

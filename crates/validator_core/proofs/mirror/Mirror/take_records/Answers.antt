@@ -15,12 +15,12 @@ keyed-requires c =
     let records : List Record = list_of c.args.records in
     let none = ap (λ (rs : List Record). doubled (ids rs)) (sym c.as_slice.ensures.items) ∙ sym c.in_ok-id.ensures.smallest ∙ c.in_default.is in
     let order = c.in_ok-ordered.ensures.order ∙ ap (λ (rs : List Record). in_order rs) c.in_ok-into_list.ensures.list in
-    subst (λ (rs : List Record). IsStrictlyIncreasing (ids rs)) (sym order) ((in_order_rising_permutation records).strict none)
+    record { rising = subst (λ (rs : List Record). IsStrictlyIncreasing (ids rs)) (sym order) ((in_order_rising_permutation records).strict none) }
 
 pub invariant_of-self-2 : goal.invariant_of-self-2
 invariant_of-self-2 c =
     let records : List Record = list_of c.args.records in
     let order = c.in_ok-ordered.ensures.order ∙ ap (λ (rs : List Record). in_order rs) c.in_ok-into_list.ensures.list in
     weighed_in_order records _ (length c.as_slice-count.result.now) c.records_octets-octets.result (ap (λ (rs : List Record). length rs) c.as_slice-count.ensures.items)
-    (c.records_octets-octets.ensures.octets ∙ ap (λ (rs : List Record). records_octets rs) c.as_slice-octets.ensures.items)
+    (c.records_octets-octets.ensures.octets ∙ ap (λ (rs : List Record). records_octets rs) c.as_slice-2.ensures.items)
     (sym c.is_large.ensures.large ∙ c.if-is_large.false) c.in_ok-self-inside.ensures.keyed (c.in_ok-self-inside.ensures.records ∙ order)

@@ -1,0 +1,28 @@
+-- The next event is put in, and what is live after those that are left stays.
+use Rattle.std.proofs.Common.{List, ◌∷◌, ◌∙◌, ap, sym, subst}
+use Rattle.std.specs.Vec.Iter.{into_iter_items}
+use Rattle.indexmap.specs.IndexMap.{spare, values}
+use Rattle.swima_model.specs.declared.event.Event.{Event}
+use Rattle.swima_model.specs.Live.{live}
+use Rattle.swima_model.proofs.Living.{live_none}
+use Rattle.validator_core.proofs.InPlace.{Puts, goes_on, live_on}
+use Rattle.validator_core.proofs.in_place.put_each.Goals as goal
+
+pub loop-event-preserved : goal.loop-event-preserved
+loop-event-preserved c =
+    let base = c.args.records.now.entries in
+    let now = c.loop-event.records.entries in
+    let room = spare c.loop-event.records in
+    let puts : Puts base now (c.in-Some.event ∷ into_iter_items c.next.new.self) room =
+    subst (λ (es : List Event). Puts base now es room) c.in-Some.ensures.steps.0 c.loop-event.invariant.puts in
+    record {
+      puts = goes_on base now c.put.new.records.entries c.in-Some.event (into_iter_items c.next.new.self) room (spare c.put.new.records) puts c.put.ensures.entries c.put.ensures.room c.put.ensures.held;
+      live =
+          live_on base now c.put.new.records.entries c.in-Some.event (into_iter_items c.next.new.self) room (spare c.put.new.records) puts c.put.ensures.entries c.put.ensures.room c.put.ensures.held
+          ∙ ap (λ (es : List Event). live (values c.loop-event.records) es) (sym c.in-Some.ensures.steps.0) ∙ c.loop-event.invariant.live;
+    }
+
+pub returns-clause-live : goal.returns-clause-live
+returns-clause-live c =
+    sym (live_none (values c.loop-event.records) c.loop-event.invariant.puts.keyed.rising)
+    ∙ ap (λ (es : List Event). live (values c.loop-event.records) es) (sym c.in-None.ensures.steps.0) ∙ c.loop-event.invariant.live
