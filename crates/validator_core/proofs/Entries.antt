@@ -231,13 +231,13 @@ below_last (e ∷ es) is last found =
 
 -- ---- fewer entries are as many at most
 
-shorter_step : (off : Bool) (e : ℕ × Record) (es : Entries) (count : ℕ) → length es ≤ count → length (cond (not off) (e ∷ es) es) ≤ count + 1
+shorter_step : (off : Bool) (e : ℕ × Record) (es : Entries) (count : ℕ) → length es ≤ count → length (cond (not off) (e ∷ es) es) ≤ suc count
 shorter_step true e es count le = omega (arith, le)
 shorter_step false e es count le = omega (arith, le)
 
 pub kept_shorter : (gone : ℕ → Bool) (es : Entries) → length (kept gone es) ≤ length es
 kept_shorter gone [] = omega arith
-kept_shorter gone (e ∷ es) = omega (arith, shorter_step (gone e.0) e (kept gone es) (length es) (kept_shorter gone es))
+kept_shorter gone (e ∷ es) = shorter_step (gone e.0) e (kept gone es) (length es) (kept_shorter gone es)
 
 -- ---- what a call that went well gave
 

@@ -125,7 +125,7 @@ pub rise_from : (n m : ℕ) (xs : List ℕ) → RiseTo n m xs → RiseFrom n xs
 rise_from n m [] h = tt
 rise_from n m (x ∷ xs) h = (h.0, rise_from (suc x) m xs h.1)
 
-rise_push : (n m x : ℕ) (xs : List ℕ) → RiseTo n m xs → m ≤ x → RiseTo n (x + 1) (xs ++ x ∷ [])
+pub rise_push : (n m x : ℕ) (xs : List ℕ) → RiseTo n m xs → m ≤ x → RiseTo n (x + 1) (xs ++ x ∷ [])
 rise_push n m x [] h le = (omega (arith, h, le), omega arith)
 rise_push n m x (y ∷ xs) h le = (h.0, rise_push (suc y) m x xs h.1 le)
 

@@ -1,6 +1,6 @@
 -- The next identifier that is not held is above those before it.
 use Rattle.std.proofs.Common.{◌≡◌, ◌+◌, ◌∷◌, ◌∙◌, [], ℕ, List, take, length, ap, sym, subst, arith, rules}
-use Rattle.std.proofs.lemmas.List.{length-append}
+use Rattle.std.proofs.lemmas.List.{length-append, take_all}
 use Rattle.swima_model.specs.declared.event.Event.{Event}
 use Rattle.validator_core.specs.Further.{new_ids}
 use Rattle.validator_core.specs.Keyed.{is_held}
@@ -24,6 +24,6 @@ loop-event-preserved c =
 
 pub returns-clause-rise : goal.returns-clause-rise
 returns-clause-rise c =
-    let all : take c.loop-event.event-index c.args.events.now ≡ c.args.events.now = search rules in
+    let all = take_all c.loop-event.event-index c.args.events.now (omega (arith, c.loop-event-test.false)) in
     rise_from c.args.next c.loop-event.above (new_ids (is_held c.args.records.now.entries) c.args.events.now)
     (subst (λ (es : List Event). RiseTo c.args.next c.loop-event.above (new_ids (is_held c.args.records.now.entries) es)) all c.loop-event.invariant.rise)

@@ -1,5 +1,6 @@
 -- The next event is put in, and what is live after those that are left stays.
-use Rattle.std.proofs.Common.{List, ◌∷◌, ◌∙◌, ap, sym, subst}
+use Rattle.std.proofs.Common.{List, ◌∷◌, ◌∙◌, length, ap, sym, subst, arith}
+use Rattle.std.proofs.lemmas.List.{nil_from_length}
 use Rattle.std.specs.Vec.Iter.{into_iter_items}
 use Rattle.indexmap.specs.IndexMap.{spare, values}
 use Rattle.swima_model.specs.declared.event.Event.{Event}
@@ -17,6 +18,7 @@ loop-event-preserved c =
     subst (λ (es : List Event). Puts base now es room) c.in-Some.ensures.steps.0 c.loop-event.invariant.puts in
     record {
       puts = goes_on base now c.put.new.records.entries c.in-Some.event (into_iter_items c.next.new.self) room (spare c.put.new.records) puts c.put.ensures.entries c.put.ensures.room c.put.ensures.held;
+      len = omega (arith, ap (λ (es : List Event). length es) c.in-Some.ensures.steps.0, c.in-Some.ensures.steps.1, c.loop-event.invariant.len);
       live =
           live_on base now c.put.new.records.entries c.in-Some.event (into_iter_items c.next.new.self) room (spare c.put.new.records) puts c.put.ensures.entries c.put.ensures.room c.put.ensures.held
           ∙ ap (λ (es : List Event). live (values c.loop-event.records) es) (sym c.in-Some.ensures.steps.0) ∙ c.loop-event.invariant.live;
@@ -24,5 +26,6 @@ loop-event-preserved c =
 
 pub returns-clause-live : goal.returns-clause-live
 returns-clause-live c =
+    let none = nil_from_length (into_iter_items c.loop-event.event-iterator) (omega (arith, c.loop-event.invariant.len, c.in-None.ensures.steps.0)) in
     sym (live_none (values c.loop-event.records) c.loop-event.invariant.puts.keyed.rising)
-    ∙ ap (λ (es : List Event). live (values c.loop-event.records) es) (sym c.in-None.ensures.steps.0) ∙ c.loop-event.invariant.live
+    ∙ ap (λ (es : List Event). live (values c.loop-event.records) es) (sym none) ∙ c.loop-event.invariant.live
