@@ -128,13 +128,6 @@ at_kept id gone (e ∷ es) =
 
 -- ---- a record put in
 
--- Below all keys there is no such key.
-pub none_below : (n id : ℕ) (es : Entries) → id < n → AreFrom n es → at id es ≡ None
-none_below n id [] lt h = refl
-none_below n id (e ∷ es) lt h =
-    cond-false (eqb id e.0) (Some e.1) (at id es) (ne_eqb id e.0 (λ is. omega (arith, lt, h.0, is)))
-    ∙ none_below (suc e.0) id es (omega (arith, lt, h.0)) h.2
-
 put_step : (n : ℕ) (here : Bool) (r : Record) (e : ℕ × Record) (es put : Entries) → eqb r.id e.0 ≡ here → AreFrom n (e ∷ es) → AreFrom (suc e.0) put
     → AreFrom n (cond here ((e.0, r) ∷ es) (e ∷ put))
 put_step n true r e es put is h rest = (h.0, sym (eqb-true r.id e.0 is), h.2)
@@ -156,7 +149,7 @@ put_there_from n r held (e ∷ es) there h = elim (cases_eq r.id e.0) [
 pub put_there : (r held : Record) (es : Entries) → at r.id es ≡ Some held → AreKeyed es → AreKeyed (insert_entry eqb es r.id r)
 put_there r held es there is = keyed_from 0 (insert_entry eqb es r.id r) (put_there_from 0 r held es there (from_keyed es is))
 
--- Behind all, where all keys are below its identifier.
+-- After all others, where all keys are below its identifier.
 put_last_from : (n : ℕ) (r : Record) (es : Entries) → n ≤ r.id → AreBelow r.id es → AreFrom n es → AreFrom n (insert_entry eqb es r.id r)
 put_last_from n r [] le below h = (le, refl, tt)
 put_last_from n r (e ∷ es) le below h =
@@ -167,11 +160,6 @@ pub put_last : (r : Record) (es : Entries) → AreBelow r.id es → AreKeyed es 
 put_last r es below is = keyed_from 0 (insert_entry eqb es r.id r) (put_last_from 0 r es (omega arith) below (from_keyed es is))
 
 -- ---- one more record after all others
-
-pub at_below : (n id : ℕ) (es : Entries) → AreBelow n es → n ≤ id → at id es ≡ None
-at_below n id [] below le = refl
-at_below n id (e ∷ es) below le =
-    cond-false (eqb id e.0) (Some e.1) (at id es) (ne_eqb id e.0 (λ is. omega (arith, below.0, le, is))) ∙ at_below n id es below.1 le
 
 -- Where a further identifier rises above those that are there, they are below it.
 below_from : (n : ℕ) (r : Record) (rest : List Record) (es : Entries) → AreFrom n es → Climbs (ids (values_of es ++ r ∷ rest)) → AreBelow r.id es

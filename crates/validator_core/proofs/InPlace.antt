@@ -11,7 +11,7 @@ use Rattle.swima_model.specs.declared.event.Event.{Event}
 use Rattle.swima_model.specs.declared.record.Record.{Record}
 use Rattle.swima_model.specs.InOrder.{ids}
 use Rattle.swima_model.specs.Live.{by_mention, is_deletion, last_mention, live, record_of}
-use Rattle.swima_model.proofs.Living.{live_more, live_none, only_live}
+use Rattle.swima_model.proofs.Living.{live_more, only_live}
 use Rattle.validator_core.specs.Further.{RiseFrom, new_ids}
 use Rattle.validator_core.specs.Gone.{NoneDeletes, NoneIsGone}
 use Rattle.validator_core.specs.Keyed.{AreBelow, AreKeyed, Entries, at, is_held, kept}
@@ -137,9 +137,6 @@ module _ (held : ℕ → Bool) (events : List Event) (i : ℕ) (event : Event) (
       ∙ ap (filter (λ (id : ℕ). not (held id))) (map-append (λ (e : Event). e.subject.id) (take i events) (event ∷ []))
       ∙ filter-append (λ (id : ℕ). not (held id)) (map (λ (e : Event). e.subject.id) (take i events)) (event.subject.id ∷ [])
 
-  pub held_more : held event.subject.id ≡ true → new_ids held (take (i + 1) events) ≡ new_ids held (take i events) ++ []
-  held_more there = more_ids ∙ ap (λ (b : Bool). new_ids held (take i events) ++ cond (not b) (event.subject.id ∷ []) []) there
-
   pub new_more : held event.subject.id ≡ false → new_ids held (take (i + 1) events) ≡ new_ids held (take i events) ++ event.subject.id ∷ []
   new_more none = more_ids ∙ ap (λ (b : Bool). new_ids held (take i events) ++ cond (not b) (event.subject.id ∷ []) []) none
 
@@ -220,7 +217,3 @@ module _ (base now after : Entries) (e : Event) (rest : List Event) (spare left 
   live_on =
       ap (λ (rs : List Record). live rs rest) (sym (live_put now after e h.keyed goes_on.keyed h.stay.0 each))
       ∙ live_more (values_of now) (e ∷ []) rest h.keyed.rising
-
--- At the end what is live are the records themselves.
-pub live_at_end : (base now : Entries) (spare : ℕ) → Puts base now [] spare → live (values_of now) [] ≡ values_of now
-live_at_end base now spare h = live_none (values_of now) h.keyed.rising

@@ -19,7 +19,7 @@ use swima_model::{Action, Event, Events};
 use wire_base::Memory;
 
 /// Makes of `records` those that are live after the events above the event identifier `eid`. No
-/// record is copied, and all memory is taken before any is moved; at `Memory` they are as they were.
+/// record is copied. All memory is taken before any is moved; at `Memory` they are as they were.
 pub(crate) fn follow(records: &mut Keyed, eid: u32, events: Events) -> Result<(), Memory>
     requires keyed { AreKeyed records.old.entries }
     ensures keyed { AreKeyed records.new.entries }
@@ -60,7 +60,8 @@ fn stays(gone: &BTreeSet<u32>, event: &Event) -> bool
     }
 }
 
-/// The same of events of which none deletes and none is of a record that is gone.
+/// Drops the records that are gone, and puts what the events say in place of the others. None of
+/// these deletes, and none is of a record that is gone. At `Memory` the records are as they were.
 fn follow_others(
     records: &mut Keyed,
     gone: &BTreeSet<u32>,
