@@ -18,7 +18,8 @@
 //! | `gap.rt`, `misfit.rt`, `tally.rt` | events: gaps, and the first that does not fit |
 //! | `keyed.rt` | the records by identifier, a hash map in order of identifier |
 //! | `follow.rt` | the records that are live after some events |
-//! | `gone.rt`, `in_place.rt`, `anew.rt` | deletions, what is put in place, and what is put in order anew |
+//! | `gone.rt` | the records that are gone after some events |
+//! | `in_place.rt`, `anew.rt` | what is put in place, and what is put in order anew |
 //! | `lent_or_owned.rt` | lists of a report that is lent or given up |
 //! | `laws.rt` | what the definitions mean, proved |
 #![tactic(auto)]
