@@ -1,6 +1,7 @@
 //! The mirror of one collector's inventory (RFC 8412, section 3.7): a copy that follows reports.
 //!
-//! It stands on `swima_model` and `wire_base`. The crates above rest on:
+//! It stands on `swima_model` and `wire_base`, and on `indexmap` for the records. The crates above
+//! rest on:
 //!
 //! - `judged` of `Mirror::take`: the answer to a report, and what the mirror holds then, are
 //!   `judge` of `specs/Judge.antt`. Where memory ran out, the mirror is as it was.
