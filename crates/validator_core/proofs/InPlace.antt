@@ -1,16 +1,15 @@
 -- Events that are put in place, one by one.
-use Rattle.std.proofs.Common.{◌≡◌, ◌⊎◌, inl, inr, ℕ, suc, ◌+◌, ◌<◌, ◌≤◌, eqb, cond, not, Bool, true, false, List, [], ◌∷◌, ◌++◌, length, get_or, take, drop, Option, Some, None, refl, sym, ap, ◌∙◌, subst, arith, eqb-true, eq-eqb, ne_eqb}
+use Rattle.std.proofs.Common.{◌≡◌, ◌⊎◌, inl, inr, ℕ, suc, ◌+◌, ◌<◌, ◌≤◌, eqb, cond, not, Bool, true, false, List, [], ◌∷◌, ◌++◌, length, get_or, take, Option, Some, None, refl, sym, ap, ◌∙◌, subst, arith, eqb-true, eq-eqb}
 use Rattle.std.specs.Prelude.{IsSome, filter, is_some, map}
-use Rattle.std.specs.List.Sorted.{IsStrictlyIncreasing}
 use Rattle.std.specs.Map.{set_value, values_of}
-use Rattle.std.proofs.lemmas.Bool.{cases_eq, cond-true, cond-false, true≢false}
+use Rattle.std.proofs.lemmas.Bool.{cond-false, true≢false}
 use Rattle.std.proofs.lemmas.List.{map-append, take_more}
 use Rattle.std.proofs.lemmas.List.Elements.{filter-append}
 use Rattle.indexmap.specs.IndexMap.{insert_entry}
 use Rattle.swima_model.specs.declared.event.Event.{Event}
 use Rattle.swima_model.specs.declared.record.Record.{Record}
 use Rattle.swima_model.specs.InOrder.{ids}
-use Rattle.swima_model.specs.Live.{by_mention, is_deletion, last_mention, live, record_of}
+use Rattle.swima_model.specs.Live.{by_mention, is_deletion, live, record_of}
 use Rattle.swima_model.proofs.Living.{live_more, only_live}
 use Rattle.validator_core.specs.Further.{RiseFrom, new_ids}
 use Rattle.validator_core.specs.Gone.{NoneDeletes, NoneIsGone}

@@ -1,5 +1,5 @@
 -- Where a mirror stands after an answer, and what it holds.
-use Rattle.std.proofs.Common.{◌≡◌, ℕ, ◌≤◌, eqb, leb, ltb, cond, false, not, List, [], length, Option, Some, None, refl, sym, ap, ◌∙◌, subst, arith, eqb-true, ltb-false}
+use Rattle.std.proofs.Common.{◌≡◌, ℕ, eqb, leb, ltb, cond, false, not, List, [], length, Option, Some, None, refl, sym, ap, ◌∙◌, subst, arith, eqb-true, ltb-false}
 use Rattle.std.specs.Map.{values_of}
 use Rattle.std.proofs.lemmas.Bool.{cond_both, not-false, or_parts}
 use Rattle.std.proofs.lemmas.List.{length-map}

@@ -1,5 +1,5 @@
 -- What the first misfit can be, and what there is where there is none.
-use Rattle.std.proofs.Common.{◌≡◌, ℕ, cond, Bool, true, false, List, [], ◌∷◌, ◌++◌, length, Option, Some, None, refl, sym, ap, ◌∙◌, subst}
+use Rattle.std.proofs.Common.{◌≡◌, ℕ, cond, Bool, true, false, List, [], ◌∷◌, ◌++◌, length, Option, Some, None, refl, ap, ◌∙◌, subst}
 use Rattle.swima_model.specs.declared.event.Event.{Event}
 use Rattle.swima_model.specs.declared.record.Record.{Record}
 use Rattle.swima_model.specs.declared.report.Point.{Point}
@@ -9,7 +9,7 @@ use Rattle.swima_model.specs.Size.{records_octets, are_large}
 use Rattle.validator_core.specs.declared.mirror.Taken.{Taken}
 use Rattle.validator_core.specs.declared.mirror.Taken.TheVariants as taken
 use Rattle.validator_core.specs.Held.{Held}
-use Rattle.validator_core.specs.Following.{first_misfit, first_misfit_after, or_later, too_large, misfit}
+use Rattle.validator_core.specs.Following.{first_misfit_after, or_later, too_large, misfit}
 use Rattle.validator_core.specs.Judge.{Judged, NeedsMemory, judge_above, marked}
 
 -- ---- it is a contradiction, or too much

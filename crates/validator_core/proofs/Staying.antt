@@ -4,7 +4,6 @@ use Rattle.std.specs.Prelude.{◌↔◌, IsTrue}
 use Rattle.std.specs.List.{list_any}
 use Rattle.std.specs.BTreeMap.{is_at}
 use Rattle.std.specs.BTreeSet.{BTreeSet, contains}
-use Rattle.std.specs.List.Sorted.{IsStrictlyIncreasing}
 use Rattle.std.specs.Map.{values_of}
 use Rattle.std.specs.Ordering.{nat_cmp}
 use Rattle.std.proofs.lemmas.Bool.{cond-true, cond-false, true≢false}
@@ -13,11 +12,10 @@ use Rattle.swima_model.specs.declared.event.Action.{Action}
 use Rattle.swima_model.specs.declared.event.Action.TheVariants.{Creation, Deletion, Alteration}
 use Rattle.swima_model.specs.declared.event.Event.{Event}
 use Rattle.swima_model.specs.declared.record.Record.{Record}
-use Rattle.swima_model.specs.InOrder.{ids}
 use Rattle.swima_model.specs.Live.{by_mention, is_deletion, last_mention, later_or, live, record_of}
 use Rattle.swima_model.proofs.Living.{live_of, live_rises, mention_push, only_live}
 use Rattle.validator_core.specs.Gone.{AreGone, NoneDeletes, NoneIsGone, is_gone, staying, stays}
-use Rattle.validator_core.specs.Keyed.{AreKeyed, Entries, at, kept}
+use Rattle.validator_core.specs.Keyed.{AreKeyed, Entries, kept}
 use Rattle.validator_core.proofs.Entries.{at_kept, found, keyed_kept}
 use Rattle.validator_core.proofs.Tallying.{at_eqb}
 use denote.Enum.Bare.{sameb}

@@ -12,12 +12,11 @@ use Rattle.std.proofs.lemmas.List.{drop_more, length-map}
 use Rattle.std.proofs.lemmas.List.Elements.{filter_more}
 use Rattle.indexmap.specs.IndexMap.{values}
 use Rattle.swima_model.specs.declared.event.Event.{Event}
-use Rattle.swima_model.specs.declared.record.Content.{Content}
 use Rattle.swima_model.specs.declared.record.Record.{Record}
 use Rattle.swima_model.specs.History.{contradicts, is_contradiction}
 use Rattle.swima_model.specs.InOrder.{ids}
-use Rattle.swima_model.specs.Live.{by_mention, last_mention, later_or, live, record_of}
-use Rattle.swima_model.specs.Size.{is_large, records_octets}
+use Rattle.swima_model.specs.Live.{by_mention, later_or, live, record_of}
+use Rattle.swima_model.specs.Size.{records_octets}
 use Rattle.swima_model.proofs.Living.{live_more, live_none, live_of, live_rises, mention_push}
 use Rattle.swima_model.proofs.Weighing.{but, count_after, count_of_one, octets_after, octets_of_one}
 use Rattle.validator_core.specs.declared.mirror.Taken.{Taken}

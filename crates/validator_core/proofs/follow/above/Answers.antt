@@ -1,5 +1,5 @@
 -- They are those that pass the test.
-use Rattle.std.proofs.Common.{◌∙◌, List, ap, filter, rules}
+use Rattle.std.proofs.Common.{◌∙◌, List, ap, rules}
 use Rattle.std.specs.Prelude.{nat_lt}
 use Rattle.std.proofs.lemmas.Fn.{filter_same}
 use Rattle.swima_model.specs.declared.event.Event.{Event}

@@ -1,5 +1,5 @@
 -- The next identifier that is not held is above those before it.
-use Rattle.std.proofs.Common.{◌≡◌, ◌+◌, ◌∷◌, ◌∙◌, [], ℕ, List, take, length, ap, sym, subst, arith, rules}
+use Rattle.std.proofs.Common.{◌+◌, ◌∷◌, ◌∙◌, [], ℕ, List, take, length, ap, sym, subst, arith, rules}
 use Rattle.std.proofs.lemmas.List.{length-append, take_all}
 use Rattle.swima_model.specs.declared.event.Event.{Event}
 use Rattle.validator_core.specs.Further.{new_ids}

@@ -1,5 +1,5 @@
 -- The entries that are left are those that are kept.
-use Rattle.std.proofs.Common.{◌∙◌, ℕ, not, sym, rules}
+use Rattle.std.proofs.Common.{ℕ, not, sym, rules}
 use Rattle.std.specs.BTreeSet.{contains}
 use Rattle.std.specs.Ordering.{nat_cmp}
 use Rattle.indexmap.proofs.CallerLemmas.{filter-RetainsPairs}

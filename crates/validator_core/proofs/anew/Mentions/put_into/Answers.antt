@@ -1,5 +1,5 @@
 -- What the events say and what they do not mention, in order, is what is live.
-use Rattle.std.proofs.Common.{◌≡◌, ◌≤◌, ◌+◌, ◌∙◌, not, ◌++◌, List, Result, Ok, Err, length, ap, ap₂, subst, sym, arith, rules}
+use Rattle.std.proofs.Common.{◌≡◌, ◌∙◌, not, ◌++◌, List, Result, Ok, Err, length, ap, ap₂, subst, sym, arith, rules}
 use Rattle.std.proofs.lemmas.Bool.{true≢false}
 use Rattle.std.specs.Prelude.{IsOk, filter, if◌then◌else◌, is_ok, reverse}
 use Rattle.std.specs.BTreeSet.{contains}
