@@ -15,4 +15,6 @@ mod event_tests;
 #[cfg(test)]
 mod mirror_limit_tests;
 #[cfg(test)]
+mod mirror_order_tests;
+#[cfg(test)]
 mod thread_tests;

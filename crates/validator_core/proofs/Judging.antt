@@ -1,10 +1,13 @@
 -- Where a mirror stands after an answer, and what it holds.
-use Rattle.std.proofs.Common.{◌≡◌, ℕ, ◌≤◌, eqb, leb, ltb, cond, false, not, List, [], length, Option, Some, None, refl, sym, ap, subst, eqb-true, ltb-false}
+use Rattle.std.proofs.Common.{◌≡◌, ℕ, eqb, leb, ltb, cond, false, not, List, [], length, Option, Some, None, refl, sym, ap, ◌∙◌, subst, arith, eqb-true, ltb-false}
+use Rattle.std.specs.Map.{values_of}
 use Rattle.std.proofs.lemmas.Bool.{cond_both, not-false, or_parts}
+use Rattle.std.proofs.lemmas.List.{length-map}
+use Rattle.std.proofs.lemmas.List.Sorted.{sum_by-IsPermutation}
 use Rattle.swima_model.specs.Doubled.{doubled}
 use Rattle.swima_model.specs.InOrder.{ids, in_order}
 use Rattle.swima_model.specs.Live.{live}
-use Rattle.swima_model.specs.Size.{is_large, records_octets}
+use Rattle.swima_model.specs.Size.{content_octets, is_large, records_octets}
 use Rattle.swima_model.specs.declared.event.Event.{Event}
 use Rattle.swima_model.specs.declared.record.Record.{Record}
 use Rattle.swima_model.specs.declared.report.Kind.{Kind}
@@ -12,12 +15,14 @@ use Rattle.swima_model.specs.declared.report.Point.{Point}
 use Rattle.swima_model.specs.declared.report.Report.{Report}
 use Rattle.swima_model.specs.declared.report.Report.TheVariants.{Inventory, Events}
 use Rattle.swima_model.proofs.Living.{live_rises}
-use Rattle.swima_model.proofs.Placing.{in_order_rising_permutation}
+use Rattle.swima_model.proofs.Placing.{in_order_permutation, in_order_rising_permutation, length_in_order}
 use Rattle.validator_core.specs.declared.mirror.Taken.{Taken}
 use Rattle.validator_core.specs.declared.mirror.Taken.TheVariants as taken
 use Rattle.validator_core.specs.Following.{events_above, first_misfit, gap}
 use Rattle.validator_core.specs.Held.{Held}
 use Rattle.validator_core.specs.Kept.{IsRising, JudgeKeepsRising}
+use Rattle.validator_core.specs.Keyed.{AreKeyed, Entries}
+use Rattle.validator_core.specs.Weighed.{AreWeighed}
 use Rattle.validator_core.specs.Judge.{Judged, StandsAt, is_stale, judge, judge_above, judge_events, judge_events_at, judge_inventory, judge_numbered, judge_records, marked, same_kind}
 use Rattle.validator_core.proofs.Misfits.{IsMisfit, IsMisfitIfAny, misfit_after}
 
@@ -146,6 +151,23 @@ judge_keeps_rising mirror (Events kind fulfil id point consulted events) up =
     each_events_line (λ (judged : Taken × Held). IsRising judged.1) mirror kind point.epoch consulted events up (λ _. up) up (λ _ _. up) (λ _ _. up)
     (λ held _ _. live_rises mirror.records (events_above held.eid events) up)
 
--- Records that are not too many fit into a mirror.
-pub count_fits : (count octets : ℕ) → is_large count octets ≡ false → count ≤ 65536
-count_fits count octets h = ltb-false 65536 count (or_parts (ltb 65536 count) (ltb 268435456 octets) h).0
+-- Records that are not too many fit into a mirror in their order.
+pub weighed_in_order : (records : List Record) (entries : Entries) (count octets : ℕ) → count ≡ length records → octets ≡ records_octets records → is_large count octets ≡ false
+    → AreKeyed entries → values_of entries ≡ in_order records → AreWeighed entries octets
+weighed_in_order records entries count octets counted weighed fits keyed order =
+    let both = or_parts (ltb 65536 count) (ltb 268435456 octets) fits in
+    record {
+      keyed = keyed;
+      few = omega (
+        arith,
+        ltb-false 65536 count both.0,
+        counted,
+        length_in_order records,
+        ap (λ (rs : List Record). length rs) order,
+        length-map entries (λ (e : ℕ × Record). e.1),
+      );
+      counted =
+          weighed ∙ sym (sum_by-IsPermutation (λ (r : Record). content_octets r.content) records (in_order records) (in_order_permutation records))
+          ∙ ap records_octets (sym order);
+      within = omega (arith, ltb-false 268435456 octets both.1);
+    }

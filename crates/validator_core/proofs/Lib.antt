@@ -1,10 +1,13 @@
 pub mod Again
+pub mod Entries
 pub mod Epochs
 pub mod Gaps
 pub mod Growing
+pub mod InPlace
 pub mod Judging
 pub mod Mentioning
+pub mod Misfits
 pub mod Numbered
 pub mod Righting
+pub mod Staying
 pub mod Tallying
-pub mod Misfits

@@ -1,20 +1,15 @@
 -- What the first misfit can be, and what there is where there is none.
-use Rattle.std.proofs.Common.{◌≡◌, ℕ, ◌≤◌, cond, ltb, Bool, true, false, List, [], ◌∷◌, ◌++◌, length, Option, Some, None, refl, sym, ap, ◌∙◌, subst, append_assoc, ltb-false}
-use Rattle.std.specs.List.Sorted.{IsStrictlyIncreasing}
-use Rattle.std.proofs.lemmas.Bool.{or_parts}
-use Rattle.std.proofs.lemmas.List.{append-nil}
+use Rattle.std.proofs.Common.{◌≡◌, ℕ, cond, Bool, true, false, List, [], ◌∷◌, ◌++◌, length, Option, Some, None, refl, ap, ◌∙◌, subst}
 use Rattle.swima_model.specs.declared.event.Event.{Event}
 use Rattle.swima_model.specs.declared.record.Record.{Record}
 use Rattle.swima_model.specs.declared.report.Point.{Point}
 use Rattle.swima_model.specs.History.{contradicts}
-use Rattle.swima_model.specs.InOrder.{ids}
 use Rattle.swima_model.specs.Live.{live}
-use Rattle.swima_model.specs.Size.{records_octets, is_large, are_large}
-use Rattle.swima_model.proofs.Living.{live_none}
+use Rattle.swima_model.specs.Size.{records_octets, are_large}
 use Rattle.validator_core.specs.declared.mirror.Taken.{Taken}
 use Rattle.validator_core.specs.declared.mirror.Taken.TheVariants as taken
 use Rattle.validator_core.specs.Held.{Held}
-use Rattle.validator_core.specs.Following.{first_misfit, first_misfit_after, or_later, too_large, misfit}
+use Rattle.validator_core.specs.Following.{first_misfit_after, or_later, too_large, misfit}
 use Rattle.validator_core.specs.Judge.{Judged, NeedsMemory, judge_above, marked}
 
 -- ---- it is a contradiction, or too much
@@ -47,31 +42,6 @@ misfit_after base before (event ∷ later) =
     later_misfit (misfit base before event) (first_misfit_after base (before ++ event ∷ []) later)
     (either_misfit (contradicts (live base before) event) event.eid (too_large behind) (large_misfit (are_large behind) (length behind) (records_octets behind)))
     (misfit_after base (before ++ event ∷ []) later)
-
--- ---- where there is none, what is live is not too many
-
-not_large : (count octets : ℕ) (large : Bool) → is_large count octets ≡ large → cond large (Some (taken.Large count octets)) None ≡ None → count ≤ 65536
-not_large count octets true is e = absurd (cc)
-not_large count octets false is e = ltb-false 65536 count (or_parts (ltb 65536 count) (ltb 268435456 octets) is).0
-
-few_behind : (unfit : Bool) (eid : ℕ) (behind : List Record) → cond unfit (Some (taken.Contradiction eid)) (too_large behind) ≡ None → length behind ≤ 65536
-few_behind true eid behind e = absurd (cc)
-few_behind false eid behind e = not_large (length behind) (records_octets behind) (are_large behind) refl e
-
-or_later_none : (said later : Option Taken) → or_later said later ≡ None → (said ≡ None) × (later ≡ None)
-or_later_none (Some said) later e = absurd (cc)
-or_later_none None later e = (refl, e)
-
-few_live_behind : (base : List Record) (before events : List Event) → length (live base before) ≤ 65536 → first_misfit_after base before events ≡ None → length (live base (before ++ events)) ≤ 65536
-few_live_behind base before [] few e = subst (λ (es : List Event). length (live base es) ≤ 65536) (sym (append-nil before)) few
-few_live_behind base before (event ∷ later) few e =
-    let none : (misfit base before event ≡ None) × (first_misfit_after base (before ++ event ∷ []) later ≡ None) =
-    or_later_none (misfit base before event) (first_misfit_after base (before ++ event ∷ []) later) e in
-    let behind : length (live base (before ++ event ∷ [])) ≤ 65536 = few_behind (contradicts (live base before) event) event.eid (live base (before ++ event ∷ [])) none.0 in
-    subst (λ (es : List Event). length (live base es) ≤ 65536) (append_assoc before (event ∷ []) later) (few_live_behind base (before ++ event ∷ []) later behind none.1)
-
-pub few_live : (base : List Record) (events : List Event) → IsStrictlyIncreasing (ids base) → length base ≤ 65536 → first_misfit base events ≡ None → length (live base events) ≤ 65536
-few_live base events up few e = few_live_behind base [] events (subst (λ (rs : List Record). length rs ≤ 65536) (sym (live_none base up)) few) e
 
 -- ---- what is judged of it
 

@@ -1,10 +1,15 @@
+pub mod Anew
 pub mod Following
+pub mod Further
+pub mod Gone
 pub mod Growth
 pub mod Held
 pub mod Judge
 pub mod Kept
+pub mod Keyed
 pub mod Mentions
 pub mod Right
 pub mod Want
+pub mod Weighed
 pub mod Tally
 pub mod MaybeOwned

@@ -4,7 +4,7 @@ use Rattle.std.specs.BTreeSet.{contains}
 use Rattle.std.specs.Ordering.{nat_cmp}
 use Rattle.swima_model.specs.declared.event.Event.{Event}
 use Rattle.swima_model.specs.Live.{is_mentioned, last_mentions}
-use Rattle.validator_core.specs.declared.follow.Mentions.{Mentions}
+use Rattle.validator_core.specs.declared.anew.Mentions.{Mentions}
 
 -- They are the identifiers that the events mention, and what the last mentions say, the last first.
 pub record AreOf (events : List Event) (mentions : Mentions) : Type 0 where

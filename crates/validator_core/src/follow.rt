@@ -1,97 +1,92 @@
 //! The records that are live after some events.
 
 ghost use Rattle.std.specs.Prelude.{◌≡◌, ◌∷◌, List, IfOk, OnOk, OnErr};
-ghost use Rattle.std.specs.List.Sorted.{IsNonDecreasingBy, IsPermutation, IsStrictlyIncreasing};
-ghost use Rattle.swima_model.specs.declared.event.Event.{Event};
-ghost use Rattle.swima_model.specs.declared.record.Record.{Record as RecordValue};
-ghost use Rattle.swima_model.specs.InOrder.{ids};
+ghost use Rattle.std.specs.BTreeSet.{contains};
+ghost use Rattle.std.specs.Map.{values_of};
+ghost use Rattle.std.specs.Ordering.{nat_cmp};
+ghost use Rattle.indexmap.specs.IndexMap.{values};
 ghost use Rattle.swima_model.specs.Live.{live};
 ghost use Rattle.validator_core.specs.Following.{events_above};
-ghost use Rattle.validator_core.specs.Mentions.{AreOf};
+ghost use Rattle.validator_core.specs.Gone.{NoneDeletes, NoneIsGone, staying, stays};
+ghost use Rattle.validator_core.specs.Keyed.{AreKeyed, kept};
 
-use std::alloc::Global;
+use crate::anew::Anew;
+use crate::gone::gone;
+use crate::in_place::{further, next, put_each};
+use crate::keyed::{Keyed, drop_gone};
 use std::collections::BTreeSet;
-use std::mem;
-use swima_model::{Action, Event, Events, Record, Records};
-use wire_base::{List, Memory};
+use swima_model::{Action, Event, Events};
+use wire_base::Memory;
 
 /// Makes of `records` those that are live after the events above the event identifier `eid`. No
-/// record is copied; at `Memory` the records are as they were.
-pub(crate) fn follow(records: &mut Records, eid: u32, events: Events) -> Result<(), Memory>
-    requires rising { IsStrictlyIncreasing (ids records.old) }
-    ensures live { OnOk result (records.new ≡ live records.old (events_above eid events)) }
-    ensures unchanged { OnErr result (records.new ≡ records.old) }
+/// record is copied. All memory is taken before any is moved; at `Memory` they are as they were.
+pub(crate) fn follow(records: &mut Keyed, eid: u32, events: Events) -> Result<(), Memory>
+    requires keyed { AreKeyed records.old.entries }
+    ensures keyed { AreKeyed records.new.entries }
+    ensures live { OnOk result (values records.new ≡ live (values records.old) (events_above eid events)) }
+    ensures unchanged { OnErr result (values records.new ≡ values records.old) }
 {
-    let mentions = Mentions::above(records.allocator(), eid, events)?;
-    let mut items = mem::replace(records, List::new(records.allocator())).into_vec();
-    let put = mentions.put_into(&mut items);
-    *records = List::from_vec(items);
-    put
+    let above = above(eid, events);
+    let gone = gone(*records.allocator(), above.as_slice())?;
+    let others = staying(&gone, above);
+    follow_others(records, &gone, others)
 }
 
-/// What events say of the records that they mention.
-#[derive(Drop)]
-pub(crate) struct Mentions {
-    /// The identifiers that are mentioned.
-    ids: BTreeSet<u32>,
-    /// Of each record that is mentioned, what the last mention says, the last first; nothing where
-    /// that is a deletion.
-    last: Vec<Record>,
-}
-
-impl Mentions {
-    /// The mentions of the events above the event identifier `eid`.
-    fn above(alloc: Global, eid: u32, events: Events) -> Result<Self, Memory>
-        ensures mentions { IfOk result (λ made. AreOf (events_above eid events) made) }
-    {
-        let mut mentions = Mentions {
-            ids: BTreeSet::new(alloc),
-            last: Vec::new(alloc),
-        };
-        let mut left = events.into_vec();
-        while let Some(event) = left.pop() {
-            if event.eid > eid {
-                mentions.add_earlier(event)?;
-            }
-        }
-        Ok(mentions)
-    }
-
-    /// Adds an event before those that there are.
-    fn add_earlier(&mut self, event: Event) -> Result<(), Memory>
-        ensures added { (later : List Event) → AreOf later self.old
-            → OnOk result (AreOf (event ∷ later) self.new) }
-    {
-        let is_last = self.ids.insert(event.subject.id)?;
-        if is_last && event.action != Action::Deletion {
-            self.last.push(event.subject)?;
-        }
-        Ok(())
-    }
-
-    /// Puts what the events say in place of the records that they mention.
-    fn put_into(self, records: &mut Vec<Record>) -> Result<(), Memory>
-        ensures live { (events : List Event) → AreOf events self → IsStrictlyIncreasing (ids records.old.items)
-            → OnOk result (records.new.items ≡ live records.old.items events) }
-        ensures unchanged { OnErr result (records.new.items ≡ records.old.items) }
-    {
-        let Mentions { ids, mut last } = self;
-        records.reserve(last.len())?;
-        records.retain(|record| !ids.contains(&record.id));
-        records.append(&mut last)?;
-        put_in_order(records);
-        Ok(())
-    }
-}
-
-/// Puts records in order of identifier. A sort that leaves runs in order as they are wants memory;
-/// where there is none, one that takes no memory does the same.
-fn put_in_order(records: &mut Vec<Record>)
-    ensures permutation { IsPermutation records.old.items records.new.items }
-    ensures rising { IsNonDecreasingBy (λ (r : RecordValue). r.id) records.new.items }
+/// The events above the event identifier `eid`.
+fn above(eid: u32, events: Events) -> Vec<Event>
+    ensures above { result.items ≡ events_above eid events }
 {
-    let sorted = records.sort_by_key(|record| record.id);
-    if sorted.is_err() {
-        records.sort_unstable_by_key(|record| record.id);
+    let mut left = events.into_vec();
+    left.retain(|event| event.eid > eid);
+    left
+}
+
+/// The events that neither delete nor are of a record that is gone.
+fn staying(gone: &BTreeSet<u32>, events: Vec<Event>) -> Vec<Event>
+    ensures staying { result.items ≡ staying (contains nat_cmp gone.now) events.items }
+{
+    let mut left = events;
+    left.retain(|event| stays(gone, event));
+    left
+}
+
+/// Whether the event says what is to be held of a record that is not gone.
+fn stays(gone: &BTreeSet<u32>, event: &Event) -> bool
+    ensures stays { result ≡ stays (contains nat_cmp gone.now) event.now }
+{
+    match event.action {
+        Action::Deletion => false,
+        Action::Creation | Action::Alteration => !gone.contains(&event.subject.id),
     }
+}
+
+/// Drops the records that are gone, and puts what the events say in place of the others. None of
+/// these deletes, and none is of a record that is gone. At `Memory` the records are as they were.
+fn follow_others(
+    records: &mut Keyed,
+    gone: &BTreeSet<u32>,
+    events: Vec<Event>,
+) -> Result<(), Memory>
+    requires keyed { AreKeyed records.old.entries }
+    requires none_deletes { NoneDeletes events.items }
+    requires none_is_gone { NoneIsGone (contains nat_cmp gone.now) events.items }
+    ensures keyed { AreKeyed records.new.entries }
+    ensures live { OnOk result (values records.new
+        ≡ live (values_of (kept (contains nat_cmp gone.now) records.old.entries)) events.items) }
+    ensures unchanged { OnErr result (values records.new ≡ values records.old) }
+{
+    let next = next(records);
+    match further(records, next, events.as_slice()) {
+        Some(count) => {
+            records.reserve(count)?;
+            drop_gone(records, gone);
+            put_each(records, events);
+        }
+        None => {
+            let anew = Anew::new(records, events)?;
+            drop_gone(records, gone);
+            anew.put(records);
+        }
+    }
+    Ok(())
 }

@@ -1,6 +1,7 @@
 //! The mirror of one collector's inventory (RFC 8412, section 3.7): a copy that follows reports.
 //!
-//! It stands on `swima_model` and `wire_base`. The crates above rest on:
+//! It stands on `swima_model` and `wire_base`, and on `indexmap` for the records. The crates above
+//! rest on:
 //!
 //! - `judged` of `Mirror::take`: the answer to a report, and what the mirror holds then, are
 //!   `judge` of `specs/Judge.antt`. Where memory ran out, the mirror is as it was.
@@ -16,14 +17,21 @@
 //! | `mirror/want.rt` | what a mirror wants next |
 //! | `doubled.rt`, `order.rt`, `limits.rt` | inventories: doubled identifiers, order, size |
 //! | `gap.rt`, `misfit.rt`, `tally.rt` | events: gaps, and the first that does not fit |
+//! | `keyed.rt` | the records by identifier, a hash map in order of identifier |
 //! | `follow.rt` | the records that are live after some events |
+//! | `gone.rt` | the records that are gone after some events |
+//! | `in_place.rt`, `anew.rt` | what is put in place, and what is put in order anew |
 //! | `lent_or_owned.rt` | lists of a report that is lent or given up |
 //! | `laws.rt` | what the definitions mean, proved |
 #![tactic(auto)]
 
+mod anew;
 mod doubled;
 mod follow;
 mod gap;
+mod gone;
+mod in_place;
+mod keyed;
 pub mod laws;
 mod lent_or_owned;
 mod limits;

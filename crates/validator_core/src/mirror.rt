@@ -10,11 +10,13 @@ ghost use Rattle.validator_core.specs.Right.{StaysRight};
 mod taking;
 pub(crate) mod want;
 
+use crate::keyed::Keyed;
 use crate::lent_or_owned::MaybeOwned;
+use indexmap::IndexMap;
 use std::alloc::Global;
 use std::marker::Model;
-use swima_model::{Kind, Point, Record, Records, Report};
-use wire_base::{List, Memory, TryCopy};
+use swima_model::{Kind, Point, Record, Report};
+use wire_base::{Memory, TryCopy};
 
 /// What a mirror answers to a report: the first that fits.
 #[derive(Clone, Copy, Debug, PartialEq, Eq)]
@@ -82,21 +84,21 @@ impl TryCopy for Taken {
 pub struct Mirror {
     kind: Kind,
     point: Option<Point>,
-    records: Records,
+    records: Keyed,
+    octets: u64,
     off: bool,
 }
 
 impl Model for Mirror {
-    ghost use Rattle.std.specs.Prelude.{◌≤◌, length};
-    ghost use Rattle.std.specs.List.Sorted.{IsStrictlyIncreasing};
-    ghost use Rattle.swima_model.specs.InOrder.{ids};
+    ghost use Rattle.indexmap.specs.IndexMap.{values};
     ghost use Rattle.validator_core.specs.Held.{Held};
+    ghost use Rattle.validator_core.specs.Weighed.{AreWeighed};
 
     ghost Value = { Held };
 
-    ghost view = { λ mirror. record { kind = mirror.kind; point = mirror.point; records = mirror.records; off = mirror.off } };
+    ghost view = { λ mirror. record { kind = mirror.kind; point = mirror.point; records = values mirror.records; off = mirror.off } };
 
-    ghost invariant = { λ mirror. (length mirror.records ≤ 65536) × IsStrictlyIncreasing (ids mirror.records) };
+    ghost invariant = { λ mirror. AreWeighed mirror.records.entries mirror.octets };
 }
 
 impl Mirror {
@@ -107,7 +109,8 @@ impl Mirror {
         Mirror {
             kind,
             point: None,
-            records: List::new(alloc),
+            records: IndexMap::new(alloc),
+            octets: 0,
             off: false,
         }
     }
@@ -147,7 +150,7 @@ impl Mirror {
     pub fn record_at(&self, place: u32) -> Option<&Record>
         ensures record { option_copied result ≡ slice_get self.now.records place }
     {
-        self.records.get(place as usize)
+        self.records.values().as_slice().get(place as usize)
     }
 
     /// Takes a report: the answer and what the mirror holds then are the first line of the table

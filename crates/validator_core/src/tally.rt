@@ -2,47 +2,56 @@
 //! It copies no record and alters none.
 
 ghost use Rattle.std.specs.Prelude.{◌≡◌, ◌<◌, ◌≤◌, ◌^◌, [], List, None, Some, IfOk, length, option_to_list, if◌then◌else◌};
-ghost use Rattle.std.specs.List.Sorted.{IsStrictlyIncreasing};
 ghost use Rattle.std.specs.Option.{option_copied};
 ghost use Rattle.swima_model.specs.declared.event.Event.{Event};
 ghost use Rattle.swima_model.specs.declared.record.Record.{Record};
 ghost use Rattle.swima_model.specs.History.{is_carried, is_contradiction};
-ghost use Rattle.swima_model.specs.InOrder.{ids};
 ghost use Rattle.swima_model.specs.Live.{by_mention, live, record_of};
 ghost use Rattle.swima_model.specs.Size.{MOST_CONTENT_OCTETS, records_octets};
+ghost use Rattle.indexmap.specs.IndexMap.{values};
+ghost use Rattle.validator_core.specs.Keyed.{AreKeyed};
 ghost use Rattle.validator_core.specs.Tally.{AreFew, Follows, IsTally, too_many};
+ghost use Rattle.validator_core.specs.Weighed.{AreWeighed};
 
-use crate::limits::{is_large, records_octets};
+use crate::keyed::Keyed;
+use crate::limits::is_large;
 use crate::mirror::Taken;
 use std::alloc::Global;
 use std::collections::BTreeMap;
-use swima_model::{Action, Content, Event, Record, record_of};
+use swima_model::{Action, Content, Event, Record};
 use wire_base::Memory;
 
 /// Records, the last mention of each by some events, and how many records are live after these,
 /// with how many octets.
 #[derive(Drop)]
 pub(crate) struct Tally<'a> {
-    records: &'a [Record],
+    records: &'a Keyed,
     mentions: BTreeMap<u32, &'a Event>,
     count: usize,
     octets: u64,
 }
 
 impl<'a> Tally<'a> {
-    /// The tally of `records` before any event. It takes no memory.
-    pub(crate) fn new(alloc: Global, records: &'a [Record]) -> Self
-        requires rising { IsStrictlyIncreasing (ids records.now) }
-        requires few { length records.now ≤ 65536 }
-        ensures begins { IsTally records.now [] result }
+    /// The tally of `records`, which have that many octets, before any event. It takes no memory.
+    pub(crate) fn new(alloc: Global, records: &'a Keyed, octets: u64) -> Self
+        requires weighed { AreWeighed records.now.entries octets }
+        ensures begins { IsTally (values result.records.now) [] result }
+        ensures records { result.records.now.entries ≡ records.now.entries }
         ensures few { AreFew result }
     {
         Tally {
             records,
             mentions: BTreeMap::new(alloc),
             count: records.len(),
-            octets: records_octets(records),
+            octets,
         }
+    }
+
+    /// How many octets the records have that are live.
+    pub(crate) fn into_octets(self) -> u64
+        ensures octets { result ≡ self.entry.octets }
+    {
+        self.octets
     }
 
     /// Follows an event that fits, or gives what is to be said of one that does not.
@@ -67,12 +76,12 @@ impl<'a> Tally<'a> {
 
     /// What is live of the record of this identifier.
     fn held(&self, id: u32) -> Option<&'a Record>
-        requires rising { IsStrictlyIncreasing (ids self.now.records.now) }
+        requires keyed { AreKeyed self.now.records.now.entries }
         ensures held { (base : List Record) (before : List Event) → IsTally base before self.now
             → option_copied result ≡ record_of id (live base before) }
     {
         match self.mentions.get(&id) {
-            None => record_of(self.records, id),
+            None => self.records.get(&id),
             Some(event) => said(*event),
         }
     }

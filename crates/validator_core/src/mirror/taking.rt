@@ -12,10 +12,12 @@ use super::{Mirror, Taken};
 use crate::doubled::doubled;
 use crate::follow::follow;
 use crate::gap::gap;
+use crate::keyed::keyed;
 use crate::lent_or_owned::MaybeOwned;
 use crate::limits::{is_large, records_octets};
 use crate::misfit::first_misfit;
 use crate::order::in_order;
+use crate::tally::Tally;
 use swima_model::{Event, Kind, Point, Record};
 use wire_base::Memory;
 
@@ -64,7 +66,8 @@ impl Mirror {
             ≡ (answer, self.new)) }
         ensures unchanged { OnErr result (self.new ≡ self.old) }
     {
-        if let Some(id) = doubled(self.records.allocator(), records.as_slice())? {
+        let alloc = *self.records.allocator();
+        if let Some(id) = doubled(alloc, records.as_slice())? {
             self.off = true;
             return Ok(Taken::Doubled { id });
         }
@@ -77,7 +80,9 @@ impl Mirror {
                 octets,
             });
         }
-        self.records = in_order(records.into_list()?)?;
+        let ordered = in_order(records.into_list()?)?;
+        self.records = keyed(alloc, ordered)?;
+        self.octets = octets;
         self.point = Some(point);
         self.off = false;
         Ok(Taken::Adopted)
@@ -148,13 +153,14 @@ impl Mirror {
             ≡ (answer, self.new)) }
         ensures unchanged { OnErr result (self.new ≡ self.old) }
     {
-        let alloc = self.records.allocator();
-        let records = self.records.as_slice();
-        if let Some(misfit) = first_misfit(alloc, records, held.eid, events.as_slice())? {
+        let mut tally = Tally::new(*self.records.allocator(), &self.records, self.octets);
+        if let Some(misfit) = first_misfit(&mut tally, held.eid, events.as_slice())? {
             self.off = true;
             return Ok(misfit);
         }
+        let octets = tally.into_octets();
         follow(&mut self.records, held.eid, events.into_list()?)?;
+        self.octets = octets;
         self.point = Some(Point {
             epoch: held.epoch,
             eid: consulted,

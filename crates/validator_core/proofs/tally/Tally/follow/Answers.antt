@@ -1,5 +1,5 @@
 -- What the tally says of an event is what is to be said of it.
-use Rattle.std.proofs.Common.{◌∙◌, ℕ, Option, length, refl, ap, arith}
+use Rattle.std.proofs.Common.{◌∙◌, Option, length, refl, ap, arith}
 use Rattle.std.specs.Prelude.{option_to_list}
 use Rattle.swima_model.specs.declared.record.Record.{Record}
 use Rattle.swima_model.specs.Size.{records_octets}

@@ -3,7 +3,7 @@ use Rattle.std.proofs.Common.{◌≡◌, ◌∙◌, false, Result, Ok, Err, sym,
 use Rattle.std.specs.Prelude.{OnOk, is_err}
 use Rattle.std.proofs.lemmas.List.Sorted.{IsNonDecreasingBy-from_sort_by_key}
 use Rattle.swima_model.specs.declared.record.Record.{Record}
-use Rattle.validator_core.proofs.follow.put_in_order.Goals as goal
+use Rattle.validator_core.proofs.anew.put_in_order.Goals as goal
 
 was_ok : {A E : Type 0} (P : Type 0) (result : Result A E) → is_err result ≡ false → OnOk result P → P
 was_ok P (Ok value) is good = good

@@ -9,7 +9,7 @@ use Rattle.swima_model.specs.contracts.event.Action.{the_type}
 use Rattle.swima_model.specs.Live.{is_deletion}
 use denote.Enum.Bare.{sameb}
 use Rattle.validator_core.proofs.Mentioning.{said_earlier}
-use Rattle.validator_core.proofs.follow.Mentions.add_earlier.Goals as goal
+use Rattle.validator_core.proofs.anew.Mentions.add_earlier.Goals as goal
 
 no_deletion : (action : Action) → true ≡ not (sameb the_type action Deletion) → is_deletion action ≡ false
 no_deletion Creation e = refl
