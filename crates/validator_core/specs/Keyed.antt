@@ -27,6 +27,6 @@ abbrev pub AreBelow : ℕ → Entries → Type 0
 AreBelow n [] = Unit {0}
 AreBelow n (e ∷ es) = (e.0 < n) × AreBelow n es
 
--- The entries but those of the identifiers that are gone.
+-- The entries except those of the identifiers that are gone.
 abbrev pub kept : (ℕ → Bool) → Entries → Entries
 kept gone entries = filter (λ (e : ℕ × Record). not (gone e.0)) entries

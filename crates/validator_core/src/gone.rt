@@ -20,7 +20,7 @@ pub(crate) fn gone(alloc: Global, events: &[Event]) -> Result<BTreeSet<u32>, Mem
     Ok(gone)
 }
 
-/// Tells whether a record is gone after one event more.
+/// Notes whether a record is gone after one event more.
 fn tell(gone: &mut BTreeSet<u32>, event: &Event) -> Result<(), Memory>
     ensures gone { (before : List EventValue) → AreGone before gone.old
         → OnOk result (AreGone (before ++ event.now ∷ []) gone.new) }
