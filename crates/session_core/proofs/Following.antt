@@ -1,18 +1,17 @@
 -- A whole session of a validator, by how the loop over its link ended.
-use Rattle.std.proofs.Common.{◌≡◌, ◌≢◌, ◌-◌, ◌^◌, ℕ, false, List, [], ◌∷◌, ◌++◌, Option, Some, None, inl, inr, length, refl, sym, ap, subst, subst₂, ◌∙◌, append-nil, zero-add}
+use Rattle.std.proofs.Common.{◌≡◌, ◌≢◌, ◌-◌, ◌^◌, ℕ, false, List, [], ◌∷◌, ◌++◌, Option, Some, None, inl, inr, length, refl, sym, ap, subst, ◌∙◌, append-nil, zero-add}
 use Rattle.std.specs.Prelude.{map, min}
 use Rattle.wire_base.specs.Turns.{Turn}
 use Rattle.swima_model.specs.History.{History, IsHonest}
 use Rattle.validator_core.specs.declared.mirror.Taken.{Taken}
 use Rattle.validator_core.specs.Held.{Held}
 use Rattle.validator_core.specs.Right.{IsRight}
-use Rattle.session_talk.specs.Course.{Breaks, Gives}
+use Rattle.session_talk.specs.Course.{Gives}
 use Rattle.session_talk.specs.Keeping.{NotesAre}
 use Rattle.session_hear.specs.Hearing.{octets_in}
 use Rattle.session_rules.specs.declared.config.FollowConfig.{FollowConfig}
 use Rattle.session_rules.specs.declared.end.SessionEnd.{SessionEnd}
 use Rattle.session_rules.specs.declared.end.SessionEnd.TheVariants as end
-use Rattle.session_rules.specs.declared.record.SessionRecord.{SessionRecord}
 use Rattle.session_rules.specs.AnySession.{NotesAnswer}
 use Rattle.session_rules.specs.Following.{Stand, TakenReport as TakenValue}
 use Rattle.session_rules.specs.FollowRules.{session}

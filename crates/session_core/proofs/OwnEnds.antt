@@ -1,5 +1,5 @@
 -- No rule of a validator ends a session as a fault of the link does, or as running out of memory.
-use Rattle.std.proofs.Common.{◌≡◌, ℕ, ◌+◌, Bool, true, false, cond, nat_le, List, [], ◌∷◌, ◌++◌, Option, Some, None, length, nat_lt}
+use Rattle.std.proofs.Common.{ℕ, ◌+◌, Bool, true, false, cond, nat_le, List, [], ◌∷◌, Option, Some, None}
 use Rattle.std.specs.Prelude.{◌||◌, ◌==◌}
 use Rattle.wire_base.specs.Turns.{Turn}
 use Rattle.swima_model.specs.declared.report.Report.{Report}

@@ -1,5 +1,5 @@
 -- A whole session of a collector, by how the loop over its link ended.
-use Rattle.std.proofs.Common.{◌≡◌, ◌≢◌, ◌-◌, ◌^◌, ◌+◌, ℕ, false, List, [], ◌++◌, Option, Some, None, inl, length, refl, sym, ap, subst, subst₂, ◌∙◌, append-nil, arith}
+use Rattle.std.proofs.Common.{◌≡◌, ◌≢◌, ◌-◌, ◌^◌, ◌+◌, ℕ, false, List, [], ◌++◌, Option, Some, inl, length, refl, ap, subst, subst₂, ◌∙◌, append-nil, arith}
 use Rattle.std.specs.Prelude.{min}
 use Rattle.wire_base.specs.Turns.{Turn}
 use Rattle.wire_base.proofs.Streams.{adds_none}

@@ -1,4 +1,4 @@
-use Rattle.std.proofs.Common.{List, [], ◌++◌, inl, take, sym, subst, append-nil}
+use Rattle.std.proofs.Common.{List, ◌++◌, inl, take, sym, subst, append-nil}
 use Rattle.wire_base.specs.Turns.{Turn}
 use Rattle.validator_session.specs.Core.{Stood}
 use Rattle.session_core.proofs.session_core.FollowCoreSessionCoreMirror.carried.Goals as goal
