@@ -15,6 +15,4 @@ mod event_tests;
 #[cfg(test)]
 mod mirror_limit_tests;
 #[cfg(test)]
-mod mirror_order_tests;
-#[cfg(test)]
 mod thread_tests;
