@@ -15,8 +15,8 @@ pub record MayAnswer (machine : Position) (kind : BatchKind) : Type 0 where
   pub after_data : kind ≡ kinds.Sdata → IsTrue (may_send machine kinds.Cdata)
   pub after_retry : kind ≡ kinds.Sretry → IsTrue (may_send machine kinds.Cdata)
 
--- It may send what the verdict on a batch of the kind asks for. No batch ends a session as a fault of
--- the link does.
+-- It may send what the verdict on a batch of the kind asks for. No batch ends a session as a fault
+-- of the link does.
 abbrev pub MayFollow : Position → BatchKind → Verdict → Type 0
 MayFollow machine kind PassesOver = machine.state ≢ End
 MayFollow machine kind (Refuses fault) = IsTrue (may_send machine kinds.Close) × IsTold fault.code

@@ -12,8 +12,8 @@ use validator_core::Mirror;
 use validator_session::FollowCore;
 use wire_base::{Failed, Link};
 
-/// Follows one session on a link: asks the other end and lets the mirror take its reports, until one
-/// of the ends of `SessionEnd`. Gives what is noted of the session, and how it ended.
+/// Follows one session on a link: asks the other end and lets the mirror take its reports, until
+/// one of the ends of `SessionEnd`. Gives what is noted of the session, and how it ended.
 pub fn follow_session<L: Link>(
     alloc: Global,
     mirror: &mut Mirror,

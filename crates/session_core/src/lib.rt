@@ -1,13 +1,13 @@
-//! Sessions over a link: both ends, each with its core, and the loop that drives a core. Whoever uses
-//! sessions names this crate.
+//! Sessions over a link: both ends, each with its core, and the loop that drives a core. Whoever
+//! uses sessions names this crate.
 //!
 //! It stands on `collector_session` and `validator_session`, whose cores it exports, on
 //! `session_rules` for configurations, records and ends, and on `wire_base` for links. The crates
 //! above rest on the clauses of the two calls:
 //!
 //! - `served` of `serve_session`, `followed` of `follow_session`: octets, record and end are those
-//!   of the session of the turns that the link gave, over each chronicle that the desk stood for, or
-//!   with the mirror.
+//!   of the session of the turns that the link gave. That is over each chronicle that the desk
+//!   stood for, or with the mirror.
 //! - `cause` of both: a session ends by `LinkFault` exactly where a call of its link failed.
 //!
 //! | file | what it holds |

@@ -28,6 +28,7 @@
 //! | `Clauses` | what a call says that goes on with a session |
 //! | `Meaning` | what the transcripts mean: one outcome, whole and broken-off sessions |
 //! | `AnySession` | a mirror that follows an honest collector stays right |
+//! | `Wanted` | each request of a validator asks for what its mirror wants |
 //! | `Vectors`, `Worked`, `WorkedFaults`, `WorkedEnds` | worked sessions |
 //!
 //! Each worked session is an exchange of octets that was written by hand, and computes to what the
