@@ -28,3 +28,6 @@ pub mod Borrowed
 pub mod Placed
 pub mod Slots
 pub mod Lives
+pub mod Keyed
+pub mod Picked
+pub mod Gathered

@@ -16,3 +16,4 @@ pub mod InTurn
 pub mod Meaning
 pub mod WrittenAnswers
 pub mod Places
+pub mod Index

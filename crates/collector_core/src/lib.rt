@@ -21,6 +21,7 @@
 //! | `answer.rt`, `report_content.rt` | reports that answer, and what they carry |
 //! | `targets.rt`, `moved.rt` | what a request asks for; whether some of it has changed |
 //! | `live.rt` | the live records, in order of identifier |
+//! | `index.rt` | which records have a software identifier |
 //! | `records.rt` | contents, and the records that a book begins with |
 //! | `error.rt` | why a change is refused |
 //! | `laws.rt` | what the definitions mean, proved |
@@ -32,7 +33,7 @@
 //! | `Chronicle`, `Legal` | what was entered, the history that it makes, and what may be entered |
 //! | `Answering`, `BookAnswer` | the answer at a chronicle, and the same by what a book holds |
 //! | `Refusals`, `Edits` | when a change is refused, and which entry it makes |
-//! | `Places` | places of records, of which some are empty |
+//! | `Places`, `Index` | places of records, of which some are empty; keys of records |
 //! | `Standing`, `Desks`, `BookDesk` | which chronicles a book or a desk represents |
 //! | `Meaning`, `WrittenAnswers` | the laws |
 #![tactic(auto)]
@@ -42,6 +43,7 @@ mod book;
 mod chronicle;
 mod desk;
 mod error;
+mod index;
 pub mod laws;
 mod live;
 mod moved;

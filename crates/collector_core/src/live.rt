@@ -1,17 +1,22 @@
 //! The live records, in order of their identifiers.
 //!
 //! A search by halves finds a record. One that is removed leaves its place empty, so that no other
-//! record moves. Where more than a quarter of the places is empty, the records close up.
+//! record moves. Where more than a quarter of the places is empty, the records close up. An index
+//! says which records have a software identifier.
 
-ghost use Rattle.std.specs.Prelude.{◌≡◌, ◌<◌, ◌≤◌, ◌+◌, ◌-◌, ◌^◌, ◌++◌, ◌∷◌, [], IfOk, IsSome, List, None, OnErr, Some, ℕ, OnOk, length};
+ghost use Rattle.std.specs.Prelude.{◌≡◌, ◌<◌, ◌≤◌, ◌+◌, ◌-◌, ◌^◌, ◌++◌, ◌∷◌, [], IfOk, IsSome, List, None, OnErr, Some, ℕ, OnOk, length, vec_capacity, vec_len};
 ghost use Rattle.std.specs.List.Sorted.{IsStrictlyIncreasing};
 ghost use Rattle.std.specs.Option.{option_copied};
 ghost use Rattle.swima_model.specs.declared.record.Record.{Record};
+ghost use Rattle.swima_model.specs.InOrder.{ids};
 ghost use Rattle.swima_model.specs.Live.{record_of};
 ghost use Rattle.collector_core.specs.declared.live.Place.{Place};
+ghost use Rattle.collector_core.specs.Index.{IsIndex};
 ghost use Rattle.collector_core.specs.Places.{AreOwn, ArePlaces, Exchanges, IsSlot, LiveView, Puts, Takes, place_ids, standing};
 
+use crate::index::{drop_key, exchange_key, key_of, put_key};
 use std::alloc::Global;
+use std::collections::BTreeSet;
 use std::marker::Model;
 use swima_model::{Content, Record};
 use wire_base::Memory;
@@ -29,16 +34,18 @@ pub(crate) struct Live {
     next: u32,
     empty: usize,
     places: Vec<Place>,
+    index: BTreeSet<u64>,
 }
 
 impl Model for Live {
+    ghost use Rattle.collector_core.specs.Index.{IsIndex};
     ghost use Rattle.collector_core.specs.Places.{ArePlaces, LiveView, standing};
 
     ghost Value = { LiveView };
 
     ghost view = { λ live. record { next = live.next; records = standing live.places.items } };
 
-    ghost invariant = { λ live. ArePlaces live.next live.empty live.places.items };
+    ghost invariant = { λ live. ArePlaces live.next live.empty live.places.items × IsIndex live.index (standing live.places.items) };
 }
 
 impl Live {
@@ -50,6 +57,7 @@ impl Live {
             next: 1,
             empty: 0,
             places: Vec::with_capacity(alloc, capacity)?,
+            index: BTreeSet::new(alloc),
         })
     }
 
@@ -87,6 +95,16 @@ impl Live {
         self.places.as_slice()
     }
 
+    /// The index of the records.
+    pub(crate) fn index(&self) -> &BTreeSet<u64>
+        ensures index { IsIndex result.now self.now.records }
+        ensures rising { IsStrictlyIncreasing (ids self.now.records ++ self.now.next ∷ []) }
+        ensures next { self.now.next < 2 ^ 32 }
+    {
+        let _next = self.next();
+        &self.index
+    }
+
     /// Puts a record of the next identifier at the end.
     pub(crate) fn push(&mut self, content: Content) -> Result<(), Memory>
         requires next { self.old.next < 2 ^ 32 - 1 }
@@ -97,20 +115,27 @@ impl Live {
         ensures unchanged { OnErr result (self.new ≡ self.old) }
     {
         let id = self.next;
-        push_place(&mut self.places, id, content)?;
+        let key = key_of(&content.ident, id);
+        self.places.reserve(1)?;
+        put_key(&mut self.index, key)?;
+        push_place(&mut self.places, id, content);
         self.next = id + 1;
         Ok(())
     }
 
-    /// Replaces the content of a record. It takes no memory.
-    pub(crate) fn put(&mut self, id: u32, content: Content)
+    /// Replaces the content of a record.
+    pub(crate) fn put(&mut self, id: u32, content: Content) -> Result<(), Memory>
         requires held { IsSome (record_of id self.old.records) }
-        ensures put { Puts id content self.old.records self.new.records }
-        ensures next { self.new.next ≡ self.old.next }
+        ensures put { OnOk result (Puts id content self.old.records self.new.records) }
+        ensures next { OnOk result (self.new.next ≡ self.old.next) }
+        ensures unchanged { OnErr result (self.new ≡ self.old) }
     {
-        if let Some(slot) = slot_of(self.places.as_slice(), id) {
-            exchange(&mut self.places, slot, Some(Record { id, content }));
-        }
+        let held = self.get(id).unwrap();
+        let from = key_of(&held.content.ident, id);
+        let to = key_of(&content.ident, id);
+        exchange_key(&mut self.index, from, to)?;
+        put_content(&mut self.places, id, content);
+        Ok(())
     }
 
     /// Takes a record out. It takes no memory.
@@ -121,6 +146,7 @@ impl Live {
     {
         let slot = slot_of(self.places.as_slice(), id)?;
         let taken = exchange(&mut self.places, slot, None)?;
+        drop_key(&mut self.index, key_of(&taken.content.ident, id));
         self.empty += 1;
         self.close_up();
         Some(taken)
@@ -147,17 +173,30 @@ fn slot_of(places: &[Place], id: u32) -> Option<usize>
     places.binary_search_by_key(&id, |place| place.id).ok()
 }
 
-/// Puts a place with a record at the end.
-fn push_place(places: &mut Vec<Place>, id: u32, content: Content) -> Result<(), Memory>
-    ensures pushed { OnOk result (places.new.items ≡ places.old.items
-        ++ record { id = id; held = Some (record { id = id; content = content }) } ∷ []) }
-    ensures unchanged { OnErr result (places.new.items ≡ places.old.items) }
+/// Puts a place with a record at the end, where there is room for it. It takes no memory.
+fn push_place(places: &mut Vec<Place>, id: u32, content: Content)
+    requires room { vec_len places.old < vec_capacity places.old }
+    ensures pushed { places.new.items ≡ places.old.items
+        ++ record { id = id; held = Some (record { id = id; content = content }) } ∷ [] }
 {
-    places.push(Place {
+    let place = Place {
         id,
         held: Some(Record { id, content }),
-    })?;
-    Ok(())
+    };
+    places.push(place).unwrap();
+}
+
+/// Replaces the content of a record at its place. It takes no memory.
+fn put_content(places: &mut Vec<Place>, id: u32, content: Content)
+    requires rising { IsStrictlyIncreasing (place_ids places.old.items) }
+    requires own { AreOwn places.old.items }
+    requires held { IsSome (record_of id (standing places.old.items)) }
+    ensures put { (next empty : ℕ) → ArePlaces next empty places.old.items
+        → ArePlaces next empty places.new.items × Puts id content (standing places.old.items) (standing places.new.items) }
+{
+    if let Some(slot) = slot_of(places.as_slice(), id) {
+        exchange(places, slot, Some(Record { id, content }));
+    }
 }
 
 /// Puts this at a place, and gives what stood there.

@@ -2,15 +2,21 @@
 
 ghost use Rattle.std.specs.Prelude.{◌≡◌, ◌≤◌, ◌++◌, ℕ, List, IfOk, OnOk, length, option_to_list};
 ghost use Rattle.std.specs.List.{list_any};
+ghost use Rattle.std.specs.BTreeSet.{IsOrdered};
+ghost use Rattle.std.specs.Option.{option_copied};
+ghost use Rattle.std.specs.Ordering.{nat_cmp};
 ghost use Rattle.std.specs.Str.{bytes_eq};
 ghost use Rattle.collector_core.specs.Answering.{is_wanted, wanted_events, wanted_records};
 ghost use Rattle.event_log.specs.Log.{event_at, events_from};
 ghost use Rattle.collector_core.specs.Borrowed.{values};
+ghost use Rattle.collector_core.specs.Index.{picked};
 ghost use Rattle.collector_core.specs.OctetOrder.{Rises};
 
-use crate::live::{Live, Place};
+use crate::index::found;
+use crate::live::Live;
 use event_log::EventLog;
 use std::alloc::Global;
+use std::collections::BTreeSet;
 use std::marker::Model;
 use swima_model::{Event, Ident, Record};
 use swima_request::Idents;
@@ -81,23 +87,55 @@ pub(crate) fn wanted_records<'a>(
     ensures wanted { IfOk result (λ made. values made.items ≡ wanted_records targets.now records.now.records) }
     ensures few { IfOk result (λ made. length made.items ≤ length records.now.records) }
 {
+    if targets.rising.is_empty() {
+        return walked(alloc, targets, records);
+    }
+    let ids = found(alloc, records.index(), targets.rising.as_slice())?;
+    picked(alloc, targets, records, &ids)
+}
+
+/// The records that are asked for, by a walk over all.
+fn walked<'a>(
+    alloc: Global,
+    targets: &Targets,
+    records: &'a Live,
+) -> Result<Vec<&'a Record>, Memory>
+    ensures wanted { IfOk result (λ made. values made.items ≡ wanted_records targets.now records.now.records) }
+{
     let mut chosen = Vec::new(alloc);
     for place in records.places() {
-        choose_record(&mut chosen, targets, place)?;
+        choose_record(&mut chosen, targets, place.held.as_ref())?;
     }
     Ok(chosen)
 }
 
-/// Puts the record of a place at the end, where there is one and it is asked for.
+/// The records that are asked for, of those that have one of the identifiers.
+fn picked<'a>(
+    alloc: Global,
+    targets: &Targets,
+    records: &'a Live,
+    ids: &BTreeSet<u32>,
+) -> Result<Vec<&'a Record>, Memory>
+    ensures picked { IfOk result (λ made. values made.items ≡ wanted_records targets.now (picked ids.now.keys records.now.records)) }
+    ensures ordered { IsOrdered nat_cmp ids.now }
+{
+    let mut chosen = Vec::new(alloc);
+    for id in ids {
+        choose_record(&mut chosen, targets, records.get(*id))?;
+    }
+    Ok(chosen)
+}
+
+/// Puts a record at the end, where there is one and it is asked for.
 fn choose_record<'a>(
     chosen: &mut Vec<&'a Record>,
     targets: &Targets,
-    place: &'a Place,
+    held: Option<&'a Record>,
 ) -> Result<(), Memory>
     ensures chosen { OnOk result (values chosen.new.items
-        ≡ values chosen.old.items ++ wanted_records targets.now (option_to_list place.now.held)) }
+        ≡ values chosen.old.items ++ wanted_records targets.now (option_to_list (option_copied held.entry))) }
 {
-    if let Some(held) = &place.held {
+    if let Some(held) = held {
         if targets.has(&held.content.ident) {
             chosen.push(held)?;
         }

@@ -222,7 +222,7 @@ impl Book {
             },
         };
         let content = content.copy()?;
-        self.records.put(id, content);
+        self.records.put(id, content)?;
         self.octet_count = octets;
         let _oldest = self.log.push(event);
         Ok(())

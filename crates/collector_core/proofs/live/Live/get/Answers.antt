@@ -8,6 +8,6 @@ use Rattle.collector_core.proofs.live.Live.get.Goals as goal
 pub returns : goal.returns
 returns c =
     let at = subst (λ (l : List Place). IsSlot l c.args.id (Some c.in_ok-slot.slot)) c.as_slice.ensures.value c.in_ok-slot.ensures.slot in
-    let here = held_item c.self.inside.next c.self.inside.empty c.self.inside.places.items c.args.id c.in_ok-slot.slot c.self.invariant at c.index.result.now c.index.ensures in
+    let here = held_item c.self.inside.next c.self.inside.empty c.self.inside.places.items c.args.id c.in_ok-slot.slot c.self.invariant.0 at c.index.result.now c.index.ensures in
     let seen = ap (λ (live : LiveView). record_of c.args.id live.records) c.self.view_is in
     record { held = cc (here, seen, c.as_ref.ensures.value) }

@@ -1,37 +1,33 @@
-use Rattle.std.proofs.Common.{◌≡◌, true, List, Some, sym, subst}
-use Rattle.std.specs.Prelude.{is_some}
-use Rattle.std.specs.List.Sorted.{IsStrictlyIncreasing}
+use Rattle.std.proofs.Common.{rules, ◌≡◌, ◌∙◌, ℕ, List, Option, Some, ap, sym, subst}
+use Rattle.std.specs.Option.{option_copied}
+use denote.Ref.{Bor}
+use Rattle.swima_model.specs.declared.record.Record.{Record}
 use Rattle.swima_model.specs.Live.{record_of}
-use Rattle.collector_core.specs.declared.live.Place.{Place}
-use Rattle.collector_core.specs.Places.{IsSlot, LiveView, Puts, place_ids, standing}
+use Rattle.collector_core.specs.Index.{ExchangesKey, key_of}
+use Rattle.collector_core.specs.Places.{LiveView, Puts, standing}
+use Rattle.collector_core.proofs.Keyed.{put_index}
 use Rattle.collector_core.proofs.Placed.{places_rise}
-use Rattle.collector_core.proofs.Slots.{put_places, puts}
 use Rattle.collector_core.proofs.live.Live.put.Goals as goal
-use Rattle.collector_core.proofs.live.Live.put.Goals.{in-Some-1, in-None-1}
 
-pub slot_of-requires-clause-rising : goal.slot_of-requires-clause-rising
-slot_of-requires-clause-rising c =
-    subst (λ (l : List Place). IsStrictlyIncreasing (place_ids l)) (sym c.as_slice.ensures.value) (places_rise c.self.inside.next c.self.inside.empty c.self.inside.places.items c.self.invariant)
+found_is : (found : Option Record) (got : Option (Bor Record)) (held : Bor Record) → option_copied got ≡ found → got ≡ Some held → found ≡ Some held.now
+found_is found got held is some = sym is ∙ ap option_copied some
 
-pub invariant_of-self : goal.invariant_of-self
-invariant_of-self c =
-    let at = subst (λ (l : List Place). IsSlot l c.args.id (Some c.in-Some.slot)) c.as_slice.ensures.value c.in-Some.ensures.slot in
-    let some = subst (λ (live : LiveView). is_some (record_of c.args.id live.records) ≡ true) (sym c.self.view_is) c.requires.held in
-    put_places c.self.inside.next c.self.inside.empty c.self.inside.places.items c.args.id c.in-Some.slot c.self.invariant at c.exchange.new.places.items c.args.content some c.exchange.ensures.exchanged
+pub put_content-requires-clause-rising : goal.put_content-requires-clause-rising
+put_content-requires-clause-rising c = places_rise c.self.inside.next c.self.inside.empty c.self.inside.places.items c.self.invariant.0
 
-pub invariant_of-self-in-Some-2 : goal.invariant_of-self-in-Some-2
-invariant_of-self-in-Some-2 c =
-    let at = subst (λ (l : List Place). IsSlot l c.args.id (Some c.in-Some.slot)) c.as_slice.ensures.value c.in-Some.ensures.slot in
-    let some = subst (λ (live : LiveView). is_some (record_of c.args.id live.records) ≡ true) (sym c.self.view_is) c.requires.held in
-    put_places c.self.inside.next c.self.inside.empty c.self.inside.places.items c.args.id c.in-Some.slot c.self.invariant at c.exchange.new.places.items c.args.content some c.exchange.ensures.exchanged
+pub invariant_of-self-2 : goal.invariant_of-self-2
+invariant_of-self-2 c =
+    let both = c.put_content.ensures.put c.self.inside.next c.self.inside.empty c.self.invariant.0 in
+    let found : record_of c.args.id (standing c.self.inside.places.items) ≡ Some c.unwrap-held.result.now =
+    ap (λ (live : LiveView). record_of c.args.id live.records) c.self.view_is ∙ found_is _ c.get.result c.unwrap-held.result c.get.ensures.held c.unwrap-held.ensures in
+    let exchanges = subst (λ (from : ℕ). ExchangesKey from (key_of c.args.content.ident c.args.id) c.self.inside.index c.exchange_key.new.index) c.key_of-from.ensures.key
+    (subst (λ (to : ℕ). ExchangesKey c.key_of-from.result to c.self.inside.index c.exchange_key.new.index) c.key_of-to.ensures.key c.in_ok-exchange_key.ensures.exchanged) in (
+      both.0,
+      put_index c.self.inside.next c.self.inside.empty c.self.inside.places.items c.self.invariant.0 (search rules) c.self.inside.index c.exchange_key.new.index c.self.invariant.1 c.args.id _ c.args.content
+          c.unwrap-held.result.now found both.1 exchanges,
+    )
 
-pub returns-in-Some-clause-put : goal.returns-in-Some-clause-put
-returns-in-Some-clause-put c =
-    let at = subst (λ (l : List Place). IsSlot l c.args.id (Some c.in-Some.slot)) c.as_slice.ensures.value c.in-Some.ensures.slot in
-    let some = subst (λ (live : LiveView). is_some (record_of c.args.id live.records) ≡ true) (sym c.self.view_is) c.requires.held in
-    let inside = puts c.self.inside.next c.self.inside.empty c.self.inside.places.items c.args.id c.in-Some.slot c.self.invariant at c.exchange.new.places.items c.args.content some c.exchange.ensures.exchanged in
-    let seen = subst (λ (live : LiveView). Puts c.args.id c.args.content live.records (standing c.exchange.new.places.items)) c.self.view_is inside in
-    elim c.match-exchange.branch [
-      | in-Some-1 w ↦ subst (λ (live : LiveView). Puts c.args.id c.args.content c.args.self.now.records live.records) (sym w.self-is) seen
-      | in-None-1 w ↦ subst (λ (live : LiveView). Puts c.args.id c.args.content c.args.self.now.records live.records) (sym w.self-is) seen
-    ]
+pub returns-clause-put : goal.returns-clause-put
+returns-clause-put c =
+    subst (λ (live : LiveView). Puts c.args.id c.args.content live.records (standing c.put_content.new.places.items)) c.self.view_is
+    (c.put_content.ensures.put c.self.inside.next c.self.inside.empty c.self.invariant.0).1
