@@ -106,7 +106,7 @@ fn a_hundred_records_of_one_software_identifier_are_found(rt: HostRuntime) {
 /// Two software identifiers with one digest.
 const ALIKE: [&str; 2] = ["qlpexd", "atppaw"];
 
-/// Whether answers distinguish two software identifiers that have one key in the index.
+/// Whether answers distinguish two software identifiers of one digest..
 fn tells_apart(alloc: Global) -> Option<bool> {
     let mut book = Book::new(alloc, 1, 4, &[]).ok()?;
     for ident in ALIKE.iter() {
