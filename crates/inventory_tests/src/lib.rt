@@ -1,6 +1,5 @@
 //! Tests of inventories at both ends: books and mirrors as large as they may be, the events of a
-//! book and its records by software identifier, a book through the calls of a desk, and what may go
-//! to another thread.
+//! book, a book through the calls of a desk, and what may go to another thread.
 #![tactic(auto)]
 
 #[cfg(test)]
@@ -15,7 +14,5 @@ mod desk_tests;
 mod event_tests;
 #[cfg(test)]
 mod mirror_limit_tests;
-#[cfg(test)]
-mod target_tests;
 #[cfg(test)]
 mod thread_tests;
