@@ -10,7 +10,7 @@ use std::alloc::Global;
 
 /// How many calls were made, which of them fail (the first has the number 1), and how many did.
 #[derive(Debug, Drop)]
-pub struct FailingCalls {
+pub(crate) struct FailingCalls {
     made: u64,
     failing: List<u64>,
     faults: u64,

@@ -46,7 +46,7 @@ const UNKNOWN_TIME: [u8; 20] = *b"0000-00-00T00:00:00Z";
 
 /// A date and a time of day.
 #[derive(Clone, Copy, Debug)]
-pub struct Moment {
+pub(crate) struct Moment {
     year: u32,
     month: u32,
     day: u32,

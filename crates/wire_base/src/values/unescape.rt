@@ -55,7 +55,7 @@ fn put_character(octets: &mut Octets, part: Part, character: u8) -> Result<Optio
 
 /// What the text of an octet begins with.
 #[derive(Clone, Copy, Debug, PartialEq, Eq)]
-pub enum Part {
+pub(crate) enum Part {
     /// No character yet.
     Nothing,
     /// A backslash.
@@ -70,7 +70,7 @@ pub enum Part {
 
 /// What a part and one more character are.
 #[derive(Clone, Copy, Debug, PartialEq, Eq)]
-pub enum Next {
+pub(crate) enum Next {
     /// A longer part.
     Part(Part),
     /// The whole text of an octet.
