@@ -3,9 +3,7 @@
 use crate::words::{digits_of, octets_of};
 use std::alloc::Global;
 use std::str::from_utf8;
-use wire_base::{
-    List, TextRefused, is_stamp, push_escaped, read_decimal, read_escaped, stamp_text,
-};
+use wire_base::{List, TextRefused, is_stamp, put_escaped, read_decimal, read_escaped, stamp_text};
 
 /// `stamp SECONDS`: the stamp of the second since 1970.
 pub(crate) fn stamp(alloc: Global, words: &str) -> Option<String> {
@@ -33,7 +31,7 @@ pub(crate) fn stamp_test(alloc: Global, words: &str) -> Option<String> {
 pub(crate) fn escaped(alloc: Global, words: &str) -> Option<String> {
     let octets = octets_of(alloc, words)?;
     let mut out = List::new(alloc);
-    push_escaped(&mut out, octets.as_slice()).ok()?;
+    put_escaped(&mut out, octets.as_slice()).ok()?;
     String::from_str(alloc, from_utf8(out.as_slice()).ok()?).ok()
 }
 

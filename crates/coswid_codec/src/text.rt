@@ -13,7 +13,7 @@ ghost use Rattle.coswid_tag.specs.Identifier.{identifier_of};
 use crate::write::write_tag;
 use coswid_tag::{Findings, IdentRefused, Tag, TagKind, constraints, kind, software_identifier};
 use std::alloc::Global;
-use wire_base::{List, Memory, Octets, push_escaped};
+use wire_base::{List, Memory, Octets, put_escaped};
 
 /// The lines of the command `tag`: the kind, the software identifier, each finding, and the
 /// canonical spelling; `Memory` where there is no room.
@@ -87,7 +87,7 @@ fn put_told(out: &mut Octets, text: &[u8]) -> Result<(), Memory>
     ensures appended { OnOk result (out.new ≡ out.old ++ identifier_line (Some text.now)) }
 {
     out.extend(b"ident ")?;
-    push_escaped(out, text)?;
+    put_escaped(out, text)?;
     out.push(b'\n')
 }
 

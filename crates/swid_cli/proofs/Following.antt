@@ -9,7 +9,7 @@ use Rattle.validator_core.specs.Held.{Held, empty_mirror}
 use Rattle.swid_cli.specs.declared.ending.Ending.{Ending}
 use Rattle.swid_cli.specs.declared.mirror.step.Step.TheVariants as step
 use Rattle.swid_cli.specs.Run.{Ran}
-use Rattle.wire_base.specs.declared.outside.fill_and_write.Stopped.{Stopped}
+use Rattle.wire_base.specs.declared.outside.stopped.Stopped.{Stopped}
 use Rattle.swid_cli.specs.Steps.{TakesStep}
 use Rattle.swid_cli.specs.Stream.{Printed, after_line, stream, stream_text}
 use Rattle.swid_cli.proofs.Streaming.{goes_on, ends}

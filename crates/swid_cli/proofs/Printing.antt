@@ -4,7 +4,7 @@ use Rattle.std.specs.Prelude.{IfSome}
 use Rattle.std.proofs.lemmas.List.{append-nil}
 use Rattle.wire_base.specs.NamedFile.{Read}
 use Rattle.wire_base.specs.declared.outside.files.NamedFile.{NamedFile}
-use Rattle.wire_base.specs.declared.outside.fill_and_write.Stopped.{Stopped}
+use Rattle.wire_base.specs.declared.outside.stopped.Stopped.{Stopped}
 use Rattle.swima_model.specs.declared.report.Kind.{Kind}
 use Rattle.swid_cli.specs.declared.command.Command.{Command}
 use Rattle.swid_cli.specs.declared.command.Command.TheVariants as command

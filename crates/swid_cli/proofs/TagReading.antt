@@ -4,8 +4,8 @@ use Rattle.std.specs.Prelude.{IfSome}
 use Rattle.std.proofs.lemmas.List.{append-nil}
 use Rattle.wire_base.specs.NamedFile.{Read, with_reads}
 use Rattle.wire_base.specs.Passing.{Fills}
-use Rattle.wire_base.specs.declared.outside.fill_and_write.Stopped.{Stopped}
-use Rattle.wire_base.specs.declared.outside.fill_and_write.Stopped.TheVariants as stopped
+use Rattle.wire_base.specs.declared.outside.stopped.Stopped.{Stopped}
+use Rattle.wire_base.specs.declared.outside.stopped.Stopped.TheVariants as stopped
 use Rattle.cbor_det.specs.Answers.{IsRefusal}
 use Rattle.cbor_det.specs.declared.fault.CborFault.{CborFault}
 use Rattle.cbor_det.specs.declared.fault.CborRefused.TheVariants as cbor

@@ -3,8 +3,8 @@ use Rattle.std.proofs.Common.{◌≡◌, ℕ, ◌<◌, ◌≤◌, ◌⊎◌, inl
 use Rattle.std.specs.Bool.{OnTrue}
 use Rattle.wire_base.specs.Outside.{HasCause, Rose}
 use Rattle.wire_base.specs.Passing.{is_fault}
-use Rattle.wire_base.specs.declared.outside.fill_and_write.Stopped.{Stopped}
-use Rattle.wire_base.specs.declared.outside.fill_and_write.Stopped.TheVariants as stopped
+use Rattle.wire_base.specs.declared.outside.stopped.Stopped.{Stopped}
+use Rattle.wire_base.specs.declared.outside.stopped.Stopped.TheVariants as stopped
 use Rattle.swid_cli.specs.Causes.{HasFilesCauses}
 use Rattle.wire_base.specs.declared.outside.files.NamedFile.{NamedFile}
 use Rattle.coswid_res.specs.declared.verification.verdict.Verdict.{Verdict}

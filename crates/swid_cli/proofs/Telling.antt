@@ -5,8 +5,8 @@ use Rattle.std.proofs.lemmas.Bool.{cases_lt}
 use Rattle.std.proofs.lemmas.List.{append-nil, drop_all, take-append-le}
 use Rattle.wire_base.specs.Outside.{Adds}
 use Rattle.wire_base.specs.Passing.{AddsFront, Fills}
-use Rattle.wire_base.specs.declared.outside.fill_and_write.Stopped.{Stopped}
-use Rattle.wire_base.specs.declared.outside.fill_and_write.Stopped.TheVariants as stopped
+use Rattle.wire_base.specs.declared.outside.stopped.Stopped.{Stopped}
+use Rattle.wire_base.specs.declared.outside.stopped.Stopped.TheVariants as stopped
 use Rattle.swid_cli.specs.declared.ending.Ending.{Ending}
 use Rattle.swid_cli.specs.declared.ending.Ending.TheVariants as ending
 use Rattle.swid_cli.specs.Run.{Prints, status_of}

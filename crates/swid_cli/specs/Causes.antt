@@ -2,8 +2,8 @@
 use Rattle.std.specs.Prelude.{◌≡◌, ◌≤◌, ℕ, Bool, true, Result, Ok, Err}
 use Rattle.std.specs.Prelude.{◌⊎◌}
 use Rattle.wire_base.specs.Outside.{Rose}
-use Rattle.wire_base.specs.declared.outside.fill_and_write.Stopped.{Stopped}
-use Rattle.wire_base.specs.declared.outside.fill_and_write.Stopped.TheVariants as stopped
+use Rattle.wire_base.specs.declared.outside.stopped.Stopped.{Stopped}
+use Rattle.wire_base.specs.declared.outside.stopped.Stopped.TheVariants as stopped
 
 -- A fault stopped it exactly where a count of faults rose, that of the input or that of the output.
 abbrev pub Cause : {A : Type 0} → ℕ → ℕ → ℕ → ℕ → Result A Stopped → Type 0

@@ -4,7 +4,7 @@ use Rattle.std.specs.Prelude.{◌≡◌, ◌⊎◌, ℕ, true, false, List, Opti
 use Rattle.wire_base.specs.NamedFile.{Read}
 use Rattle.wire_base.specs.Passing.{AddsFront}
 use Rattle.wire_base.specs.declared.outside.files.NamedFile.{NamedFile}
-use Rattle.wire_base.specs.declared.outside.fill_and_write.Stopped.{Stopped}
+use Rattle.wire_base.specs.declared.outside.stopped.Stopped.{Stopped}
 use Rattle.swid_cli.specs.declared.command.Command.{Command}
 use Rattle.swid_cli.specs.declared.command.Command.TheVariants.{Mirror, Tag, Links}
 use Rattle.swid_cli.specs.declared.ending.Ending.{Ending}

@@ -1,8 +1,8 @@
 -- Which files `tag verify` reads, of all octets of the input (RFC 9393, section 2.9).
 use Rattle.std.specs.Prelude.{◌≡◌, ◌⊎◌, ℕ, List, [], Option, Some, None, Result, Ok, Err, length}
 use Rattle.wire_base.specs.NamedFile.{Read, with_reads}
-use Rattle.wire_base.specs.declared.outside.fill_and_write.Stopped.{Stopped}
-use Rattle.wire_base.specs.declared.outside.fill_and_write.Stopped.TheVariants as stopped
+use Rattle.wire_base.specs.declared.outside.stopped.Stopped.{Stopped}
+use Rattle.wire_base.specs.declared.outside.stopped.Stopped.TheVariants as stopped
 use Rattle.coswid_res.specs.Listing.{listed}
 use Rattle.coswid_res.specs.Verify.{AreReads, paths_read}
 use Rattle.coswid_res.specs.declared.verification.verify.VerifyRefused.TheVariants as refused

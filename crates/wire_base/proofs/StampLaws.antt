@@ -11,7 +11,7 @@ use Rattle.jiff_core.specs.Calendar.{IsCivilDate}
 use Rattle.jiff_core.proofs.SignedLemmas.{back_small, signed_arith}
 use Rattle.jiff_core.proofs.CalendarLemmas.{days_in_month_bounds, day_count-lt_year, day_count-epoch, days_from_civil-day_count}
 use Rattle.jiff_core.proofs.DateTimeLemmas.{civil_nanos-parts}
-use Rattle.wire_base.specs.declared.values.stamp.Moment.{Moment}
+use Rattle.wire_base.specs.declared.values.moment.Moment.{Moment}
 use Rattle.wire_base.specs.Stamp.{IsMoment, IsStamp, StampTestIsForm, UNKNOWN_TIME, Shows, digits, is_moment, is_stamp, moment_at, moment_text}
 
 -- ---- moments

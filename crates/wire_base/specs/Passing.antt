@@ -1,7 +1,7 @@
 -- What passes between the outside and octets that are held, in many calls.
 use Rattle.std.specs.Prelude.{◌≡◌, ◌<◌, ◌≤◌, ◌++◌, ℕ, Bool, true, false, List, Option, Result, Ok, Err, length}
-use Rattle.wire_base.specs.declared.outside.fill_and_write.Stopped.{Stopped}
-use Rattle.wire_base.specs.declared.outside.fill_and_write.Stopped.TheVariants as stopped
+use Rattle.wire_base.specs.declared.outside.stopped.Stopped.{Stopped}
+use Rattle.wire_base.specs.declared.outside.stopped.Stopped.TheVariants as stopped
 use Rattle.wire_base.specs.Outside.{Moves, Adds, NothingLeft}
 
 -- The call ended by a fault of the outside.

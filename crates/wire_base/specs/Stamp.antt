@@ -7,7 +7,7 @@ use Rattle.jiff.specs.Types.{DateTime}
 use Rattle.jiff.specs.Words.{days_in_month, civil_nanos}
 use Rattle.jiff_core.specs.Calendar.{IsCivilDate}
 use Rattle.wire_base.specs.declared.values.stamp.ClockRange.{ClockRange}
-use Rattle.wire_base.specs.declared.values.stamp.Moment.{Moment}
+use Rattle.wire_base.specs.declared.values.moment.Moment.{Moment}
 
 -- A date of the years 0000 to 9999 that the calendar of `jiff` has, and a time that a clock shows.
 -- A leap second has the number 60.

@@ -13,7 +13,7 @@
 //! - `field` of each method of `Cursor` and of `FieldReader::read`, and `several` of
 //!   `read_several`: what a reader gives, or the place of the first fault.
 //! - `appended` of `put_u8` and its kin, of `put_counted_u16` and of `put_counted_u32`.
-//! - `text` of `stamp_text`, `appended` of `push_escaped`, `stamp` of `is_stamp`, `octets` of
+//! - `text` of `stamp_text`, `appended` of `put_escaped`, `stamp` of `is_stamp`, `octets` of
 //!   `read_escaped`, `number` of `read_decimal`.
 //! - `equal` of `TryCopy::copy`.
 //!
@@ -22,7 +22,8 @@
 //! | `source.rt`, `sink.rt` | where octets come from, and where they go |
 //! | `link.rt`, `door.rt` | a connection between two ends, and where connections come from |
 //! | `files.rt`, `clock.rt` | files by their names, and the time of day |
-//! | `fill_and_write.rt` | octets from a source and into a sink, in as many calls as it takes |
+//! | `fill.rt`, `write_all.rt` | octets from a source and into a sink, in as many calls as it takes |
+//! | `stopped.rt` | why such calls stopped |
 //! | `mem_*.rt`, `failing_calls.rt` | the memory forms, and the plan of their failing calls |
 //! | `no_fault_*.rt` | forms that never fail |
 //! | `file_source.rt`, `folder_files.rt`, `standard_streams.rt`, `system_clock.rt` | the system |
@@ -32,7 +33,8 @@
 //! |---|---|
 //! | `list.rt`, `boxed.rt`, `text.rt` | lists, values in memory of their own, texts |
 //! | `memory.rt`, `text_refused.rt` | out of memory, and why a text is not read |
-//! | `decimal.rt`, `stamp.rt` | decimal numbers, and dates with times of day |
+//! | `decimal.rt` | decimal numbers |
+//! | `stamp.rt`, `moment.rt` | stamps, and the dates with times of day that they name |
 //! | `escape.rt`, `unescape.rt` | octets as printable text, and back |
 //!
 //! | file of `layout/` | what it holds |
@@ -73,7 +75,7 @@ pub use outside::dial_door::DialDoor;
 pub use outside::door::{Came, Door};
 pub use outside::file_source::FileSource;
 pub use outside::files::{FileAnswer, Files, NamedFile};
-pub use outside::fill_and_write::{Stopped, fill, write_all};
+pub use outside::fill::fill;
 pub use outside::folder_files::FolderFiles;
 pub use outside::link::{Link, Took};
 pub use outside::listen_door::ListenDoor;
@@ -88,11 +90,13 @@ pub use outside::no_fault_streams::{NoFaultSink, NoFaultSource};
 pub use outside::sink::Sink;
 pub use outside::source::{Failed, Source};
 pub use outside::standard_streams::{StdinSource, StdoutSink};
+pub use outside::stopped::Stopped;
 pub use outside::system_clock::SystemClock;
 pub use outside::tcp_link::TcpLink;
+pub use outside::write_all::write_all;
 pub use values::boxed::Boxed;
 pub use values::decimal::read_decimal;
-pub use values::escape::push_escaped;
+pub use values::escape::put_escaped;
 pub use values::list::{List, Octets, TryCopy};
 pub use values::memory::Memory;
 pub use values::stamp::{ClockRange, is_stamp, stamp_text};

@@ -6,6 +6,7 @@ pub(crate) mod decimal;
 pub(crate) mod escape;
 pub(crate) mod list;
 pub(crate) mod memory;
+pub(crate) mod moment;
 pub(crate) mod stamp;
 pub(crate) mod text;
 pub(crate) mod text_refused;

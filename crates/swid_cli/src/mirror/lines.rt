@@ -13,7 +13,7 @@ use sha2::{Digest, Sha256};
 use std::alloc::Global;
 use swima_model::{Content, Kind, Model, Point, Record, Report};
 use validator_core::{Mirror, Taken};
-use wire_base::{Memory, Octets, push_escaped};
+use wire_base::{Memory, Octets, put_escaped};
 
 /// The point of a report, and how many records or events it has.
 pub(crate) fn point_and_count(report: &Report) -> (Point, usize)
@@ -123,9 +123,9 @@ fn push_content(out: &mut Octets, kind: Kind, added: &Content) -> Result<(), Mem
 {
     push_number(out, added.source as u64)?;
     out.push(b' ')?;
-    push_escaped(out, added.ident.bytes())?;
+    put_escaped(out, added.ident.bytes())?;
     out.push(b' ')?;
-    push_escaped(out, added.locator.bytes())?;
+    put_escaped(out, added.locator.bytes())?;
     push_body(out, kind, added.body.bytes())
 }
 

@@ -6,7 +6,7 @@ ghost use Rattle.swid_cli.specs.Checking.{file_line, is_wrong, verdict_text};
 
 use coswid_res::Verdict;
 use std::alloc::Global;
-use wire_base::{Memory, Octets, Text, push_escaped};
+use wire_base::{Memory, Octets, Text, put_escaped};
 
 /// Puts a line for each file at the end of `out`: the verdict on it, and its path.
 pub(crate) fn push_files(
@@ -29,7 +29,7 @@ fn push_file(alloc: Global, out: &mut Octets, file: &(Text, Verdict)) -> Result<
     out.extend(b"file ")?;
     push_verdict(alloc, out, *verdict)?;
     out.push(b' ')?;
-    push_escaped(out, path.as_str().as_bytes())?;
+    put_escaped(out, path.as_str().as_bytes())?;
     out.push(b'\n')
 }
 

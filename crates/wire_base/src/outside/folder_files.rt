@@ -11,8 +11,9 @@ ghost use Rattle.wire_base.specs.Unread.{IsLength, IsWithin, unread_by};
 ghost use Rattle.wire_base.specs.declared.outside.folder_files.Unread.TheVariants as unread;
 
 use crate::outside::files::{FileAnswer, Files};
-use crate::outside::fill_and_write::{Stopped, fill};
+use crate::outside::fill::fill;
 use crate::outside::standard_streams::StdinSource;
+use crate::outside::stopped::Stopped;
 use crate::values::list::{List, Octets};
 use crate::values::memory::Memory;
 use crate::values::text::Text;

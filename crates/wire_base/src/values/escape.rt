@@ -9,7 +9,7 @@ use crate::values::memory::Memory;
 
 /// Puts `octets` at the end of `out` as text: printable octets but the backslash as they are, each
 /// other one as `\x` and two lower-case hexadecimal digits, and no octets as `\e`.
-pub fn push_escaped(out: &mut Octets, octets: &[u8]) -> Result<(), Memory>
+pub fn put_escaped(out: &mut Octets, octets: &[u8]) -> Result<(), Memory>
     ensures appended { OnOk result (out.new ≡ out.old ++ escaped octets.now) }
 {
     if octets.is_empty() {

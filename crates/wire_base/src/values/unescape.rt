@@ -12,7 +12,7 @@ use crate::values::memory::Memory;
 use crate::values::text_refused::TextRefused;
 use std::alloc::Global;
 
-/// The octets whose text, as `push_escaped` writes it, is `text`, or the place of the first octet
+/// The octets whose text, as `put_escaped` writes it, is `text`, or the place of the first octet
 /// with which it is the text of none. An escape of an octet that is printed as itself is a fault,
 /// and so are an upper-case digit and an escape that ends too soon. The empty text has its fault at
 /// 0.

@@ -1,5 +1,5 @@
 use Rattle.std.proofs.Common.{Err, refl, ap, ◌∙◌}
-use Rattle.wire_base.specs.declared.outside.fill_and_write.Stopped.{Stopped}
+use Rattle.wire_base.specs.declared.outside.stopped.Stopped.{Stopped}
 use Rattle.std.proofs.lemmas.Result.{err_from_is_err_and}
 use Rattle.swid_cli.specs.declared.answer.Answer.{Answer}
 use Rattle.swid_cli.specs.declared.ending.Ending.{Ending}

@@ -1,7 +1,7 @@
 -- What is not written yet is the rest of the text.
 use Rattle.std.proofs.Common.{◌≡◌, length}
 use Rattle.wire_base.specs.Passing.{WroteFront}
-use Rattle.wire_base.proofs.outside.fill_and_write.write_all.Given as goal
+use Rattle.wire_base.proofs.outside.write_all.write_all.Given as goal
 
 abbrev pub invariant-loop-rest : goal.invariant-loop-rest
 invariant-loop-rest g l = record {

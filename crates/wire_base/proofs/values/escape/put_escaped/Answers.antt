@@ -4,7 +4,7 @@ use Rattle.std.proofs.lemmas.List.{nil_from_length}
 use Rattle.std.proofs.lemmas.List.Sums.{prefix_len-le-length}
 use Rattle.wire_base.specs.Escaped.{is_plain}
 use Rattle.wire_base.proofs.Escaping.{put_all, put_past, said}
-use Rattle.wire_base.proofs.values.escape.push_escaped.Goals as goal
+use Rattle.wire_base.proofs.values.escape.put_escaped.Goals as goal
 
 pub split_at-requires : goal.split_at-requires
 split_at-requires c = omega (arith, c.plain_front.ensures.front, prefix_len-le-length is_plain c.loop-first.rest.now)

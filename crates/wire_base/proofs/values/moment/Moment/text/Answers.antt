@@ -1,5 +1,5 @@
 use Rattle.wire_base.proofs.StampLaws.{text_is}
-use Rattle.wire_base.proofs.values.stamp.Moment.text.Goals as goal
+use Rattle.wire_base.proofs.values.moment.Moment.text.Goals as goal
 
 pub returns : goal.returns
 returns c = record {

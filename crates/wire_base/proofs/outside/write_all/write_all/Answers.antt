@@ -1,6 +1,6 @@
 use Rattle.std.proofs.Common.{◌∙◌}
 use Rattle.wire_base.proofs.Streams.{wrote_more}
-use Rattle.wire_base.proofs.outside.fill_and_write.write_all.Goals as goal
+use Rattle.wire_base.proofs.outside.write_all.write_all.Goals as goal
 
 pub loop-rest-preserved : goal.loop-rest-preserved
 loop-rest-preserved g c = record {

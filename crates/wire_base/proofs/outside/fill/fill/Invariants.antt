@@ -1,7 +1,7 @@
 -- What is held is what was held and what was moved so far.
 use Rattle.std.proofs.Common.{◌≡◌, ◌++◌, ◌-◌, ◌≤◌, List, ℕ, length}
 use Rattle.wire_base.specs.Outside.{Moves}
-use Rattle.wire_base.proofs.outside.fill_and_write.fill.Given as goal
+use Rattle.wire_base.proofs.outside.fill.fill.Given as goal
 
 abbrev pub invariant-loop-buf : goal.invariant-loop-buf
 invariant-loop-buf g l = record {
