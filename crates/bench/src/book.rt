@@ -42,7 +42,7 @@ pub(crate) enum Work {
 
 impl Work {
     /// The work of this name.
-    pub(crate) fn of(name: &str) -> Result<Self, Trouble> {
+    pub(crate) fn from_name(name: &str) -> Result<Self, Trouble> {
         match name {
             "answer" => Ok(Work::Answer),
             "events" => Ok(Work::Events),

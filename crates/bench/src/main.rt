@@ -82,7 +82,7 @@ fn measured<R: Threads + Wait + Sync>(
 ) -> Result<Figures, Trouble> {
     match words {
         ["shelf", place, task, times] => {
-            let (task, times) = (Task::of(task)?, number(times)?);
+            let (task, times) = (Task::from_name(task)?, number(times)?);
             Ok(Figures::One(shelf::done(threads, rt.alloc(), place, task, times)?))
         }
         ["tags", "both"] => tags::both(rt),
@@ -96,7 +96,7 @@ fn figure(rt: &HostRuntime, words: &[&str]) -> Result<u64, Trouble> {
         ["book", records, work, times] => book::done(
             rt.alloc(),
             number(records)?,
-            Work::of(work)?,
+            Work::from_name(work)?,
             number(times)?,
         ),
         ["batches", piece, "large"] => batches::large(rt.alloc(), size(piece)?),

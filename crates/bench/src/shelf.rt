@@ -31,7 +31,7 @@ pub(crate) enum Task {
 
 impl Task {
     /// The task of this name.
-    pub(crate) fn of(name: &str) -> Result<Self, Trouble> {
+    pub(crate) fn from_name(name: &str) -> Result<Self, Trouble> {
         match name {
             "change" => Ok(Task::Change),
             "read" => Ok(Task::Read),

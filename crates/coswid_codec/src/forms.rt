@@ -32,7 +32,7 @@ impl Form for IdentifierForm {
         match item {
             Item::Text(text) => Ok(TagId::Text(text.copy()?)),
             Item::Bytes(octets) => read_uuid(alloc, octets),
-            _ => Err(FormRefused::here(alloc, WRONG_FORM)),
+            _ => Err(FormRefused::new(alloc, WRONG_FORM)),
         }
     }
 
@@ -52,7 +52,7 @@ fn read_uuid(alloc: Global, octets: &Octets) -> Result<TagId, FormRefused>
 {
     match <[u8; 16]>::try_from(octets.as_slice()) {
         Ok(uuid) => Ok(TagId::Uuid(uuid)),
-        Err(_) => Err(FormRefused::here(alloc, WRONG_FORM)),
+        Err(_) => Err(FormRefused::new(alloc, WRONG_FORM)),
     }
 }
 
@@ -74,7 +74,7 @@ impl Form for CodeForm {
         match item {
             Item::Int(number) => Ok(CodeValue::Int(*number)),
             Item::Text(text) => Ok(CodeValue::Text(text.copy()?)),
-            _ => Err(FormRefused::here(alloc, WRONG_FORM)),
+            _ => Err(FormRefused::new(alloc, WRONG_FORM)),
         }
     }
 

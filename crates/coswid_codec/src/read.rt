@@ -92,11 +92,11 @@ fn tag_of(alloc: Global, item: &Item) -> Result<Tag, FormRefused>
     ensures told { Gives (λ g. TagForm g (view item.now)) (tag_fault (view item.now)) result }
 {
     if is_deep(item) {
-        return Err(FormRefused::here(alloc, DEEP));
+        return Err(FormRefused::new(alloc, DEEP));
     }
     let content = content(item);
     if has_both(content) {
-        return Err(FormRefused::here(alloc, BOTH));
+        return Err(FormRefused::new(alloc, BOTH));
     }
     MapForm::<TagTable>::read(alloc, content)
 }

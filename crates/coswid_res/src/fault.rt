@@ -96,7 +96,7 @@ impl From<Memory> for FormRefused {
 
 impl FormRefused {
     /// A fault of the item itself. It takes no memory.
-    pub fn here(alloc: Global, kind: u8) -> Self
+    pub fn new(alloc: Global, kind: u8) -> Self
         ensures fault { result ≡ refused.Form (record { kind = kind; path = [] }) }
     {
         let path = List::new(alloc);
@@ -105,7 +105,7 @@ impl FormRefused {
 
     /// A fault of what stands at the key or index `place` of the item; `Memory` where the path has
     /// no room.
-    pub fn at(alloc: Global, kind: u8, place: u32) -> Self
+    pub fn with_place(alloc: Global, kind: u8, place: u32) -> Self
         ensures told { Tells (fault kind (pos place ∷ [])) result }
     {
         let mut path = List::new(alloc);

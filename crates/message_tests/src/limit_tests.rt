@@ -58,7 +58,7 @@ fn octets_are_compared_one_by_one(rt: HostRuntime) {
 
 /// Whether octets that are known to be few are taken, and none too.
 fn takes_few(alloc: Global) -> Result<bool, Memory> {
-    let few = Ident::of(alloc, b"ab")?.bytes() == b"ab".as_slice();
+    let few = Ident::from_octets(alloc, b"ab")?.bytes() == b"ab".as_slice();
     Ok(few & Locator::empty(alloc).bytes().is_empty() & Body::empty(alloc).bytes().is_empty())
 }
 

@@ -54,14 +54,14 @@ fn check_fields(from_server: bool, fields: HeaderFields) -> Result<Header, PbFau
     }
     let is_of_server = fields.flags.value & SERVER != 0;
     if is_of_server != from_server {
-        return Err(PbFault::at(PbErrorCode::InvalidParameter, fields.flags.at));
+        return Err(PbFault::new(PbErrorCode::InvalidParameter, fields.flags.at));
     }
     let Some(kind) = BatchKind::from_number(fields.kind.value % BATCH_TYPES) else {
-        return Err(PbFault::at(PbErrorCode::InvalidParameter, fields.kind.at));
+        return Err(PbFault::new(PbErrorCode::InvalidParameter, fields.kind.at));
     };
     let count = fields.octets.value;
     if count < HEADER as u32 || MOST_BATCH_OCTETS < count {
-        return Err(PbFault::at(PbErrorCode::InvalidParameter, fields.octets.at));
+        return Err(PbFault::new(PbErrorCode::InvalidParameter, fields.octets.at));
     }
     Ok(Header {
         kind,

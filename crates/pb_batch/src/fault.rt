@@ -26,7 +26,7 @@ pub struct PbFault {
 
 impl PbFault {
     /// The fault of the code at a place.
-    pub(crate) fn at(code: PbErrorCode, offset: u32) -> Self
+    pub(crate) fn new(code: PbErrorCode, offset: u32) -> Self
         ensures fault { result ≡ fault (number_of_code code) offset }
     {
         PbFault {
@@ -75,7 +75,7 @@ pub(crate) fn in_value(refused: FieldRefused) -> BatchRefused
 {
     match refused {
         FieldRefused::Fault { offset } => {
-            Refused::Fault(PbFault::at(PbErrorCode::InvalidParameter, offset))
+            Refused::Fault(PbFault::new(PbErrorCode::InvalidParameter, offset))
         }
         FieldRefused::Memory => Refused::Memory,
     }

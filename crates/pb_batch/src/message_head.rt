@@ -44,10 +44,10 @@ pub(crate) fn read_head(left: usize, at: u32, rest: &[u8]) -> Result<MessageHead
     ensures may { IfOk result (λ head. IsTrue (may_have (type_of head.vendor head.kind) head.octets)) }
 {
     if left == 0 {
-        return Err(PbFault::at(PbErrorCode::InvalidParameter, at));
+        return Err(PbFault::new(PbErrorCode::InvalidParameter, at));
     }
     let Ok(fields) = read_fields(Cursor::new(at, rest)) else {
-        return Err(PbFault::at(PbErrorCode::InvalidParameter, at));
+        return Err(PbFault::new(PbErrorCode::InvalidParameter, at));
     };
     check_fields(fields, rest.len())
 }
@@ -62,16 +62,16 @@ fn check_fields(fields: HeadFields, left: usize) -> Result<MessageHead, PbFault>
     let noskip = fields.flags.value & NOSKIP != 0;
     let (vendor, kind, octets) = (fields.vendor.value, fields.kind.value, fields.octets.value);
     if noskip && !is_known(vendor, kind) {
-        return Err(PbFault::at(PbErrorCode::UnsupportedMandatoryMessage, fields.flags.at));
+        return Err(PbFault::new(PbErrorCode::UnsupportedMandatoryMessage, fields.flags.at));
     }
     if vendor == NO_VENDOR {
-        return Err(PbFault::at(PbErrorCode::InvalidParameter, fields.vendor.at));
+        return Err(PbFault::new(PbErrorCode::InvalidParameter, fields.vendor.at));
     }
     if kind == NO_TYPE {
-        return Err(PbFault::at(PbErrorCode::InvalidParameter, fields.kind.at));
+        return Err(PbFault::new(PbErrorCode::InvalidParameter, fields.kind.at));
     }
     if left < octets as usize || !may_have(MessageType::from_numbers(vendor, kind), octets) {
-        return Err(PbFault::at(PbErrorCode::InvalidParameter, fields.octets.at));
+        return Err(PbFault::new(PbErrorCode::InvalidParameter, fields.octets.at));
     }
     Ok(MessageHead {
         noskip,

@@ -22,7 +22,7 @@ use crate::answer::{Answer, beyond_limit, ending_of, refused};
 use crate::ending::Ending;
 use crate::refusal_lines::{fault_line, refusal};
 use crate::tag::lines::form_line;
-use crate::tag::verdict_lines::{has_wrong, push_files};
+use crate::tag::verdict_lines::{has_wrong, put_files};
 use coswid_codec::{TagRefused, put_canonical, put_summary, read_tag};
 use coswid_res::{Verdict, Verdicts, VerifyRefused, verify};
 use coswid_tag::Tag;
@@ -149,7 +149,7 @@ fn checked(alloc: Global, tag: &Tag, verdicts: &[(Text, Verdict)]) -> Result<Ans
 {
     let mut text = List::new(alloc);
     let found = put_summary(alloc, &mut text, tag)?;
-    push_files(alloc, &mut text, verdicts)?;
+    put_files(alloc, &mut text, verdicts)?;
     put_canonical(alloc, &mut text, tag)?;
     let ending = checked_ending(found.as_slice(), verdicts);
     Ok(Answer { text, ending })

@@ -72,11 +72,11 @@ impl<L: Limit> Bounded<L> {
                 len: bytes.len() as u64,
             });
         }
-        Ok(Self::of(alloc, bytes)?)
+        Ok(Self::from_octets(alloc, bytes)?)
     }
 
     /// A copy of `bytes`, of which there are no more than the limit.
-    pub fn of(alloc: Global, bytes: &[u8]) -> Result<Self, Memory>
+    pub fn from_octets(alloc: Global, bytes: &[u8]) -> Result<Self, Memory>
         requires { length bytes.now ≤ L.OCTETS }
         ensures octets { IfOk result (λ made. made ≡ bytes.now) }
     {

@@ -83,7 +83,7 @@ pub(crate) fn bounded<L: Limit>(
     requires { 65535 ≤ L.OCTETS }
     ensures counted { Gives (λ read. (read, cursor.new)) result (counted 2 cursor.old) }
 {
-    Ok(Bounded::of(alloc, cursor.counted(2)?)?)
+    Ok(Bounded::from_octets(alloc, cursor.counted(2)?)?)
 }
 
 /// The body of a record, which stands in reports of whole records alone; a fault at its length

@@ -68,7 +68,7 @@ impl FieldReader for TargetReader {
 
     /// A target; a fault in it is at its length.
     fn read(&self, alloc: Global, cursor: &mut Cursor) -> Result<Ident, FieldRefused> {
-        Ok(Ident::of(alloc, cursor.counted(2)?)?)
+        Ok(Ident::from_octets(alloc, cursor.counted(2)?)?)
     }
 }
 

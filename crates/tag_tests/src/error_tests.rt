@@ -18,11 +18,11 @@ fn says<E: Display + Drop>(alloc: Global, refused: E, text: &str) -> Result<bool
 #[test]
 fn a_form_fault_says_its_path(rt: HostRuntime) -> Result<(), Fail> {
     let alloc = rt.alloc();
-    let file = FormRefused::at(alloc, MISSING_KEY, 24).under(0);
+    let file = FormRefused::with_place(alloc, MISSING_KEY, 24).under(0);
     let path = says(alloc, file.under(17).under(6), "missing key at 6/17/0/24")?;
     let item = says(
         alloc,
-        FormRefused::here(alloc, BOTH),
+        FormRefused::new(alloc, BOTH),
         "both payload and evidence at .",
     )?;
     assert!(rt; path && item);

@@ -35,7 +35,7 @@ impl Anew {
         ensures room { IfOk result (λ made. HasRoom (index_map_len records.now) made) }
     {
         let alloc = *records.allocator();
-        let mentions = Mentions::of(alloc, events)?;
+        let mentions = Mentions::from_events(alloc, events)?;
         let count = records.len() + mentions.last.len();
         let items = Vec::with_capacity(alloc, count)?;
         let empty = IndexMap::with_capacity(alloc, count)?;
@@ -78,7 +78,7 @@ pub(crate) struct Mentions {
 
 impl Mentions {
     /// The mentions of events.
-    fn of(alloc: Global, events: Vec<Event>) -> Result<Self, Memory>
+    fn from_events(alloc: Global, events: Vec<Event>) -> Result<Self, Memory>
         ensures mentions { IfOk result (λ made. AreOf events.items made) }
     {
         let mut mentions = Mentions {

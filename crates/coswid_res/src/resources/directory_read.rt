@@ -76,7 +76,7 @@ fn path_of(alloc: Global, item: &Item) -> Result<PathElements, FormRefused>
 {
     match item {
         Item::Map(pairs) => read_path(alloc, pairs),
-        _ => Err(FormRefused::here(alloc, WRONG_FORM)),
+        _ => Err(FormRefused::new(alloc, WRONG_FORM)),
     }
 }
 
@@ -127,7 +127,7 @@ fn directories_of(alloc: Global, item: &Item) -> Result<List<DirEntry>, FormRefu
     match item {
         Item::Array(items) => {
             if items.is_empty() {
-                return Err(FormRefused::here(alloc, WRONG_FORM));
+                return Err(FormRefused::new(alloc, WRONG_FORM));
             }
             read_elements(alloc, items.as_slice())
         }
@@ -171,6 +171,6 @@ fn directory_of(alloc: Global, item: &Item) -> Result<DirEntry, FormRefused>
 {
     match item {
         Item::Map(pairs) => read_directory(alloc, pairs),
-        _ => Err(FormRefused::here(alloc, WRONG_FORM)),
+        _ => Err(FormRefused::new(alloc, WRONG_FORM)),
     }
 }

@@ -61,7 +61,7 @@ impl<M: Mapped> Form for MapForm<M> {
     fn read(alloc: Global, item: &Item) -> Result<M::Value, FormRefused> {
         match item {
             Item::Map(pairs) => M::read(alloc, pairs),
-            _ => Err(FormRefused::here(alloc, WRONG_FORM)),
+            _ => Err(FormRefused::new(alloc, WRONG_FORM)),
         }
     }
 

@@ -11,5 +11,5 @@ use std::alloc::Global;
 pub(crate) fn missing_key(alloc: Global, key: u32) -> FormRefused
     ensures told { Tells (absent key None) result }
 {
-    FormRefused::at(alloc, MISSING_KEY, key)
+    FormRefused::with_place(alloc, MISSING_KEY, key)
 }

@@ -38,7 +38,7 @@ fn read_row<F: Form>(alloc: Global, item: &Item) -> Result<List<F::Value>, FormR
     match item {
         Item::Array(items) => {
             if items.is_empty() {
-                return Err(FormRefused::here(alloc, WRONG_FORM));
+                return Err(FormRefused::new(alloc, WRONG_FORM));
             }
             read_elements::<F>(alloc, items.as_slice())
         }

@@ -33,7 +33,7 @@ impl Form for TextForm {
     fn read(alloc: Global, item: &Item) -> Result<Text, FormRefused> {
         match item {
             Item::Text(text) => Ok(text.copy()?),
-            _ => Err(FormRefused::here(alloc, WRONG_FORM)),
+            _ => Err(FormRefused::new(alloc, WRONG_FORM)),
         }
     }
 
@@ -59,7 +59,7 @@ impl Form for BoolForm {
     fn read(alloc: Global, item: &Item) -> Result<bool, FormRefused> {
         match item {
             Item::Bool(value) => Ok(*value),
-            _ => Err(FormRefused::here(alloc, WRONG_FORM)),
+            _ => Err(FormRefused::new(alloc, WRONG_FORM)),
         }
     }
 
@@ -85,7 +85,7 @@ impl Form for IntForm {
     fn read(alloc: Global, item: &Item) -> Result<i64, FormRefused> {
         match item {
             Item::Int(number) => Ok(*number),
-            _ => Err(FormRefused::here(alloc, WRONG_FORM)),
+            _ => Err(FormRefused::new(alloc, WRONG_FORM)),
         }
     }
 
@@ -111,7 +111,7 @@ impl Form for UintForm {
     fn read(alloc: Global, item: &Item) -> Result<u64, FormRefused> {
         match item {
             Item::Int(number) if *number >= 0 => Ok(*number as u64),
-            _ => Err(FormRefused::here(alloc, WRONG_FORM)),
+            _ => Err(FormRefused::new(alloc, WRONG_FORM)),
         }
     }
 
@@ -142,7 +142,7 @@ impl Form for UriForm {
         match item {
             Item::Text(_) => TextForm::read(alloc, item),
             Item::Tag(URI_TAG, content) => TextForm::read(alloc, content.get()),
-            _ => Err(FormRefused::here(alloc, WRONG_FORM)),
+            _ => Err(FormRefused::new(alloc, WRONG_FORM)),
         }
     }
 
@@ -174,7 +174,7 @@ impl Form for TimeForm {
         match item {
             Item::Int(number) => Ok(*number),
             Item::Tag(TIME_TAG, content) => IntForm::read(alloc, content.get()),
-            _ => Err(FormRefused::here(alloc, WRONG_FORM)),
+            _ => Err(FormRefused::new(alloc, WRONG_FORM)),
         }
     }
 
@@ -200,7 +200,7 @@ impl Form for HashForm {
     fn read(alloc: Global, item: &Item) -> Result<HashEntry, FormRefused> {
         match item {
             Item::Array(parts) => read_hash(alloc, parts),
-            _ => Err(FormRefused::here(alloc, WRONG_FORM)),
+            _ => Err(FormRefused::new(alloc, WRONG_FORM)),
         }
     }
 
@@ -216,7 +216,7 @@ fn read_hash(alloc: Global, parts: &Items) -> Result<HashEntry, FormRefused>
     ensures told { Gives (λ h. terms_of (map view parts.now) ≡ term (integer h.algorithm) (term (octets h.value) no_terms)) (hash_fault (terms_of (map view parts.now))) result }
 {
     if parts.len() != 2 {
-        return Err(FormRefused::here(alloc, WRONG_FORM));
+        return Err(FormRefused::new(alloc, WRONG_FORM));
     }
     let slice = parts.as_slice();
     let (first, second) = (&slice[0], &slice[1]);
@@ -230,7 +230,7 @@ fn algorithm(alloc: Global, item: &Item) -> Result<i64, FormRefused>
 {
     match item {
         Item::Int(number) => Ok(*number),
-        _ => Err(FormRefused::at(alloc, WRONG_FORM, 0)),
+        _ => Err(FormRefused::with_place(alloc, WRONG_FORM, 0)),
     }
 }
 
@@ -239,6 +239,6 @@ fn hash_value(alloc: Global, item: &Item) -> Result<Octets, FormRefused>
 {
     match item {
         Item::Bytes(octets) => Ok(octets.copy()?),
-        _ => Err(FormRefused::at(alloc, WRONG_FORM, 1)),
+        _ => Err(FormRefused::with_place(alloc, WRONG_FORM, 1)),
     }
 }

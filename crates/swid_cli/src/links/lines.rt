@@ -23,20 +23,20 @@ pub(crate) fn findings_text(
     let lines = found.len().saturating_mul(LINE_OCTETS);
     let mut out = List::with_capacity(alloc, lines.saturating_add(first.len()))?;
     out.extend(first.as_bytes())?;
-    push_findings(alloc, &mut out, found)?;
+    put_findings(alloc, &mut out, found)?;
     Ok(out)
 }
 
-fn push_findings(alloc: Global, out: &mut Octets, found: &[LinkFinding]) -> Result<(), Memory>
+fn put_findings(alloc: Global, out: &mut Octets, found: &[LinkFinding]) -> Result<(), Memory>
     ensures appended { OnOk result (out.new ≡ out.old ++ flat_map finding_line found.now) }
 {
     for finding in found {
-        push_finding(alloc, out, *finding)?;
+        put_finding(alloc, out, *finding)?;
     }
     Ok(())
 }
 
-fn push_finding(alloc: Global, out: &mut Octets, finding: LinkFinding) -> Result<(), Memory>
+fn put_finding(alloc: Global, out: &mut Octets, finding: LinkFinding) -> Result<(), Memory>
     ensures appended { OnOk result (out.new ≡ out.old ++ finding_line finding) }
 {
     let kind = finding.kind;

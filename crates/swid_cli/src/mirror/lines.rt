@@ -88,81 +88,81 @@ pub(crate) fn mirror_text(alloc: Global, mirror: &Mirror) -> Result<Octets, Memo
     let eid = point.eid;
     let count = mirror.count();
     let mut out = from_string(format!(in alloc; "mirror {epoch} {eid} {count}\n")?);
-    push_records(&mut out, mirror)?;
+    put_records(&mut out, mirror)?;
     Ok(out)
 }
 
 /// Puts a line for each record of a mirror at the end of `out`.
-fn push_records(out: &mut Octets, mirror: &Mirror) -> Result<(), Memory>
+fn put_records(out: &mut Octets, mirror: &Mirror) -> Result<(), Memory>
     ensures appended { OnOk result
         (out.new ≡ out.old ++ flat_map (record_line mirror.now.kind) mirror.now.records) }
 {
     for place in 0..mirror.count() {
         if let Some(record) = mirror.record_at(place) {
-            push_record(out, mirror.kind(), record)?;
+            put_record(out, mirror.kind(), record)?;
         }
     }
     Ok(())
 }
 
 #[tactic(auto, unfolding(crate::specs::Text::record_line))]
-fn push_record(out: &mut Octets, kind: Kind, added: &Record) -> Result<(), Memory>
+fn put_record(out: &mut Octets, kind: Kind, added: &Record) -> Result<(), Memory>
     ensures appended { OnOk result (out.new ≡ out.old ++ record_line kind added.now) }
 {
     out.extend(b"record ")?;
-    push_number(out, added.id as u64)?;
+    put_number(out, added.id as u64)?;
     out.push(b' ')?;
-    push_model(out, added.content.model)?;
+    put_model(out, added.content.model)?;
     out.push(b' ')?;
-    push_content(out, kind, &added.content)
+    put_content(out, kind, &added.content)
 }
 
 /// Puts the end of a record's line at the end of `out`: the words after that of its data model.
-fn push_content(out: &mut Octets, kind: Kind, added: &Content) -> Result<(), Memory>
+fn put_content(out: &mut Octets, kind: Kind, added: &Content) -> Result<(), Memory>
     ensures appended { OnOk result (out.new ≡ out.old ++ line (content_words kind added.now)) }
 {
-    push_number(out, added.source as u64)?;
+    put_number(out, added.source as u64)?;
     out.push(b' ')?;
     put_escaped(out, added.ident.bytes())?;
     out.push(b' ')?;
     put_escaped(out, added.locator.bytes())?;
-    push_body(out, kind, added.body.bytes())
+    put_body(out, kind, added.body.bytes())
 }
 
-fn push_model(out: &mut Octets, model: Model) -> Result<(), Memory>
+fn put_model(out: &mut Octets, model: Model) -> Result<(), Memory>
     ensures appended { OnOk result (out.new ≡ out.old ++ model_text model) }
 {
-    push_number(out, model.pen as u64)?;
+    put_number(out, model.pen as u64)?;
     out.push(b'/')?;
-    push_number(out, model.kind as u64)
+    put_number(out, model.kind as u64)
 }
 
 /// Puts the last word of a record's line at the end of `out`, with the space before it and the line
 /// feed after it.
-fn push_body(out: &mut Octets, kind: Kind, body: &[u8]) -> Result<(), Memory>
+fn put_body(out: &mut Octets, kind: Kind, body: &[u8]) -> Result<(), Memory>
     ensures appended { OnOk result (out.new ≡ out.old ++ 32 ∷ (body_text kind body.now ++ 10 ∷ [])) }
 {
     match kind {
         Kind::Ids => out.extend(b" -\n"),
-        Kind::Full => push_digest(out, body),
+        Kind::Full => put_digest(out, body),
     }
 }
 
 /// Puts the length and the digest of a body at the end of `out`, with the space before them and the
 /// line feed after.
-fn push_digest(out: &mut Octets, body: &[u8]) -> Result<(), Memory>
+fn put_digest(out: &mut Octets, body: &[u8]) -> Result<(), Memory>
     ensures appended { OnOk result (out.new ≡ out.old ++ 32 ∷ (body_text kinds.Full body.now ++ 10 ∷ [])) }
 {
     let mut digest = [0u8; 64];
     hex::encode_to_slice(Sha256::digest(body), &mut digest).unwrap();
     out.push(b' ')?;
-    push_number(out, body.len() as u64)?;
+    put_number(out, body.len() as u64)?;
     out.push(b':')?;
     out.extend(&digest)?;
     out.push(b'\n')
 }
 
-fn push_number(out: &mut Octets, number: u64) -> Result<(), Memory>
+fn put_number(out: &mut Octets, number: u64) -> Result<(), Memory>
     ensures appended { OnOk result (out.new ≡ out.old ++ decimal number) }
 {
     let mut buffer = Buffer::new();

@@ -17,43 +17,43 @@ pub(crate) fn form_line(alloc: Global, fault: &FormFault) -> Result<Octets, Memo
     let mut out = List::new(alloc);
     let word = format!(in alloc; "form {kind} ")?;
     out.extend(word.as_bytes())?;
-    push_path(alloc, &mut out, fault.path.as_slice())?;
+    put_path(alloc, &mut out, fault.path.as_slice())?;
     out.push(b'\n')?;
     Ok(out)
 }
 
 /// Puts the steps of a path at the end of `out`, a stroke between them; a point where there are
 /// none.
-fn push_path(alloc: Global, out: &mut Octets, path: &[i64]) -> Result<(), Memory>
+fn put_path(alloc: Global, out: &mut Octets, path: &[i64]) -> Result<(), Memory>
     ensures appended { OnOk result (out.new ≡ out.old ++ path_text path.now) }
 {
     match path.split_first() {
         None => out.push(b'.'),
         Some((first, others)) => {
-            push_step(alloc, out, *first)?;
-            push_others(alloc, out, others)
+            put_step(alloc, out, *first)?;
+            put_others(alloc, out, others)
         }
     }
 }
 
 /// Puts the steps after the first at the end of `out`.
-fn push_others(alloc: Global, out: &mut Octets, steps: &[i64]) -> Result<(), Memory>
+fn put_others(alloc: Global, out: &mut Octets, steps: &[i64]) -> Result<(), Memory>
     ensures appended { OnOk result (out.new ≡ out.old ++ flat_map step_behind steps.now) }
 {
     for step in steps {
-        push_behind(alloc, out, *step)?;
+        put_behind(alloc, out, *step)?;
     }
     Ok(())
 }
 
-fn push_behind(alloc: Global, out: &mut Octets, step: i64) -> Result<(), Memory>
+fn put_behind(alloc: Global, out: &mut Octets, step: i64) -> Result<(), Memory>
     ensures appended { OnOk result (out.new ≡ out.old ++ step_behind step) }
 {
     out.push(b'/')?;
-    push_step(alloc, out, step)
+    put_step(alloc, out, step)
 }
 
-fn push_step(alloc: Global, out: &mut Octets, step: i64) -> Result<(), Memory>
+fn put_step(alloc: Global, out: &mut Octets, step: i64) -> Result<(), Memory>
     ensures appended { OnOk result (out.new ≡ out.old ++ signed_decimal step) }
 {
     let number = format!(in alloc; "{step}")?;

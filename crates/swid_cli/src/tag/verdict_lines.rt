@@ -9,7 +9,7 @@ use std::alloc::Global;
 use wire_base::{Memory, Octets, Text, put_escaped};
 
 /// Puts a line for each file at the end of `out`: the verdict on it, and its path.
-pub(crate) fn push_files(
+pub(crate) fn put_files(
     alloc: Global,
     out: &mut Octets,
     files: &[(Text, Verdict)],
@@ -17,23 +17,23 @@ pub(crate) fn push_files(
     ensures appended { OnOk result (out.new ≡ out.old ++ flat_map file_line files.now) }
 {
     for file in files {
-        push_file(alloc, out, file)?;
+        put_file(alloc, out, file)?;
     }
     Ok(())
 }
 
-fn push_file(alloc: Global, out: &mut Octets, file: &(Text, Verdict)) -> Result<(), Memory>
+fn put_file(alloc: Global, out: &mut Octets, file: &(Text, Verdict)) -> Result<(), Memory>
     ensures appended { OnOk result (out.new ≡ out.old ++ file_line file.now) }
 {
     let (path, verdict) = file;
     out.extend(b"file ")?;
-    push_verdict(alloc, out, *verdict)?;
+    put_verdict(alloc, out, *verdict)?;
     out.push(b' ')?;
     put_escaped(out, path.as_str().as_bytes())?;
     out.push(b'\n')
 }
 
-fn push_verdict(alloc: Global, out: &mut Octets, verdict: Verdict) -> Result<(), Memory>
+fn put_verdict(alloc: Global, out: &mut Octets, verdict: Verdict) -> Result<(), Memory>
     ensures appended { OnOk result (out.new ≡ out.old ++ verdict_text verdict) }
 {
     match verdict {

@@ -4,18 +4,18 @@ use Rattle.std.specs.Option.{option_copied}
 use Rattle.swima_model.specs.declared.report.Kind.{Kind}
 use Rattle.swid_cli.specs.Text.{record_line}
 use Rattle.swid_cli.proofs.Printed.{line_put, none_put}
-use Rattle.swid_cli.proofs.mirror.lines.push_records.Goals.{in-Some+in_ok-push_record, in_default}
-use Rattle.swid_cli.proofs.mirror.lines.push_records.Goals as goal
+use Rattle.swid_cli.proofs.mirror.lines.put_records.Goals.{in-Some+in_ok-put_record, in_default}
+use Rattle.swid_cli.proofs.mirror.lines.put_records.Goals as goal
 
 pub loop-place-preserved : goal.loop-place-preserved
 loop-place-preserved c =
     let mirror = c.args.mirror.now in
     let out = c.loop-place.out in
     elim c.match-record_at.branch [
-      | in-Some+in_ok-push_record w ↦
+      | in-Some+in_ok-put_record w ↦
           line_put (record_line mirror.kind) mirror.records c.loop-place.place w.in-Some.record.now c.args.out.now out c.match-record_at.out
           (sym c.record_at.ensures.record ∙ ap option_copied w.in-Some.is) c.loop-place.invariant
-          (w.out-is ∙ w.in_ok-push_record.ensures.appended ∙ ap (λ (kind : Kind). out ++ record_line kind w.in-Some.record.now) w.kind.ensures.kind)
+          (w.out-is ∙ w.in_ok-put_record.ensures.appended ∙ ap (λ (kind : Kind). out ++ record_line kind w.in-Some.record.now) w.kind.ensures.kind)
       | in_default w ↦
           w.out-is ∙ none_put (record_line mirror.kind) mirror.records c.loop-place.place c.args.out.now out
           (sym c.record_at.ensures.record ∙ ap option_copied w.in_default.is) c.loop-place.invariant

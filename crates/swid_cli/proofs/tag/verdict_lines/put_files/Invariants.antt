@@ -2,7 +2,7 @@
 use Rattle.std.proofs.Common.{◌≡◌, ◌++◌, take}
 use Rattle.std.specs.List.{flat_map}
 use Rattle.swid_cli.specs.Checking.{file_line}
-use Rattle.swid_cli.proofs.tag.verdict_lines.push_files.Given as goal
+use Rattle.swid_cli.proofs.tag.verdict_lines.put_files.Given as goal
 
 abbrev pub invariant-loop-file : goal.invariant-loop-file
 invariant-loop-file l = l.out ≡ l.fn.out ++ flat_map file_line (take l.file-index l.files)
