@@ -1,0 +1,5 @@
+pub mod Items
+pub mod Words
+pub mod Reading
+pub mod LineItems
+pub mod Lines

@@ -1,0 +1,54 @@
+-- The lines of octets, and the items that a source of lines reports.
+use Rattle.std.specs.Prelude.{◌≡◌, ◌==◌, ◌+◌, ◌<◌, ◌≤◌, ◌⊎◌, ℕ, List, [], ◌∷◌, ◌++◌, Option, Some, length, take, drop, if◌then◌else◌}
+use Rattle.wire_base.specs.Counter.{next}
+use Rattle.source_set.specs.LineItems.{IsItem}
+use Rattle.source_set.specs.declared.told.Told.{Told}
+use Rattle.source_set.specs.declared.told.Told.TheVariants as told
+
+-- The most octets of a line, without the line feed that ends it.
+abbrev pub MOST_OCTETS : ℕ
+MOST_OCTETS = 4194304
+
+-- How many octets stand before the first line feed; all, where there is none.
+unfoldable pub before_feed : List ℕ → ℕ
+before_feed [] = 0
+before_feed (octet ∷ octets) = if octet == 10 then 0 else 1 + before_feed octets
+
+-- Octets begin with a line that is short enough, which is this item; the rest stands after its line
+-- feed.
+pub record BeginsLine (number : ℕ) (octets : List ℕ) (item : Told) (rest : List ℕ) : Type 0 where
+  pub short : before_feed octets ≤ MOST_OCTETS
+  pub ended : before_feed octets < length octets
+  pub item : IsItem number (take (before_feed octets) octets) item
+  pub rest : rest ≡ drop (before_feed octets + 1) octets
+
+-- Octets begin with more of them than a line may have. So many are a bad line, and what follows
+-- begins the next.
+pub record BeginsLong (number : ℕ) (octets : List ℕ) (item : Told) (rest : List ℕ) : Type 0 where
+  pub long : MOST_OCTETS < before_feed octets
+  pub item : item ≡ told.Bad number
+  pub rest : rest ≡ drop MOST_OCTETS octets
+
+-- No line is whole yet.
+pub record IsUnfinished (octets : List ℕ) : Type 0 where
+  pub short : length octets ≤ MOST_OCTETS
+  pub open_end : before_feed octets ≡ length octets
+
+-- The items that octets are, the first of which is the line of that number.
+abbrev pub AreItems : ℕ → List ℕ → List Told → Type 0
+AreItems number octets [] = IsUnfinished octets
+AreItems number octets (item ∷ items) = (rest : List ℕ)
+    × (BeginsLine number octets item rest ⊎ BeginsLong number octets item rest) × AreItems (next number) rest items
+
+-- ---- a source of lines
+
+-- A source of lines: its input, the octets that were read of it and not reported, and the number of
+-- the next line.
+pub record LineView (S : Type 0) : Type 0 where
+  pub input : S
+  pub held : List ℕ
+  pub number : ℕ
+
+-- Where the input exposes what is left, the items are those of the octets that are held and left.
+abbrev pub WillReport : {S : Type 0} → (S → Option (List ℕ)) → LineView S → List Told → Type 0
+WillReport left source items = (octets : List ℕ) × (left source.input ≡ Some octets) × AreItems source.number (source.held ++ octets) items

@@ -1,0 +1,226 @@
+//! The sources of an inventory, and what they reported of it.
+
+use crate::doing::{Keys, Undone, perform};
+use crate::swept::{SweepError, Swept};
+use crate::told::{TagSource, Told};
+use collector_core::{BookError, Desk};
+use std::alloc::Global;
+use swima_model::Content;
+use wire_base::Memory;
+
+/// How many items one sweep takes of one source at most.
+const MOST_ITEMS: u32 = 1024;
+
+/// A source that has not ended, and the records of its keys.
+#[derive(Drop)]
+struct Seat {
+    source: Option<Box<dyn TagSource + Send>>,
+    keys: Keys,
+}
+
+/// An item that was reported and is not done, and the number of its source.
+#[derive(Debug, Drop)]
+struct Kept {
+    source: u8,
+    item: Told,
+}
+
+/// The sources of an inventory, numbered from 0, with the record of each key that they hold.
+#[derive(Drop)]
+pub struct SourceSet {
+    seats: Vec<Seat>,
+    kept: Option<Kept>,
+    faults: u64,
+}
+
+/// Why a source was asked no further, and its item where that is to be done first next time.
+#[derive(Debug, Drop)]
+struct Stop {
+    error: SweepError,
+    item: Option<Told>,
+}
+
+impl SourceSet {
+    /// The set of these sources, which hold no key yet.
+    pub fn new(
+        alloc: Global,
+        sources: Vec<Box<dyn TagSource + Send>>,
+    ) -> Result<SourceSet, Memory> {
+        let mut seats = Vec::with_capacity(alloc, sources.len())?;
+        for source in sources {
+            seats.push(Seat {
+                source: Some(source),
+                keys: Keys::new(alloc),
+            })?;
+        }
+        Ok(SourceSet {
+            seats,
+            kept: None,
+            faults: 0,
+        })
+    }
+
+    /// Does the item that was kept, and then asks each source in order, until it is quiet, has
+    /// ended or has reported 1024 items, and does what it reports at the desk.
+    pub fn sweep<D: Desk>(
+        &mut self,
+        desk: &mut D,
+        stamp: &[u8; 20],
+    ) -> (Swept, Result<(), SweepError>) {
+        let mut swept = Swept::NOTHING;
+        let result = self.sweep_all(desk, stamp, &mut swept);
+        if let Err(SweepError::SourceFailed { .. }) = result {
+            self.faults = self.faults.saturating_add(1);
+        }
+        (swept, result)
+    }
+
+    fn sweep_all<D: Desk>(
+        &mut self,
+        desk: &mut D,
+        stamp: &[u8; 20],
+        swept: &mut Swept,
+    ) -> Result<(), SweepError> {
+        let alloc = *self.seats.allocator();
+        if let Some(kept) = self.kept.take() {
+            let place = kept.source as usize;
+            let done = do_item(
+                alloc,
+                &mut self.seats[place],
+                kept.source,
+                kept.item,
+                desk,
+                stamp,
+                swept,
+            );
+            self.keep(kept.source, done)?;
+        }
+        for place in 0..self.seats.len() {
+            let number = place as u8;
+            let asked = ask(alloc, &mut self.seats[place], number, desk, stamp, swept);
+            self.keep(number, asked)?;
+        }
+        Ok(())
+    }
+
+    /// Keeps the item of a source that stopped, where it is to be done first next time.
+    fn keep(&mut self, source: u8, asked: Result<(), Stop>) -> Result<(), SweepError> {
+        match asked {
+            Ok(()) => Ok(()),
+            Err(Stop { error, item }) => {
+                if let Some(item) = item {
+                    self.kept = Some(Kept { source, item });
+                }
+                Err(error)
+            }
+        }
+    }
+}
+
+/// Asks a source until it is quiet, has ended or has reported 1024 items.
+fn ask<D: Desk>(
+    alloc: Global,
+    seat: &mut Seat,
+    number: u8,
+    desk: &mut D,
+    stamp: &[u8; 20],
+    swept: &mut Swept,
+) -> Result<(), Stop> {
+    for _ in 0..MOST_ITEMS {
+        let Some(source) = &mut seat.source else {
+            return Ok(());
+        };
+        let told = source.next();
+        if !hear(alloc, seat, number, told, desk, stamp, swept)? {
+            return Ok(());
+        }
+    }
+    Ok(())
+}
+
+/// Does what a source reports. Whether it may be asked for more.
+fn hear<D: Desk>(
+    alloc: Global,
+    seat: &mut Seat,
+    number: u8,
+    told: Told,
+    desk: &mut D,
+    stamp: &[u8; 20],
+    swept: &mut Swept,
+) -> Result<bool, Stop> {
+    match told {
+        Told::Quiet => Ok(false),
+        Told::Bad { line } => Err(without_item(SweepError::BadLine {
+            source: number,
+            line,
+        })),
+        Told::Failed => Err(without_item(SweepError::SourceFailed { source: number })),
+        Told::Memory => Err(without_item(SweepError::Memory)),
+        item => {
+            do_item(alloc, seat, number, item, desk, stamp, swept)?;
+            Ok(true)
+        }
+    }
+}
+
+fn without_item(error: SweepError) -> Stop {
+    Stop { error, item: None }
+}
+
+/// Does an item of a source, and gives the source up where it ended.
+fn do_item<D: Desk>(
+    alloc: Global,
+    seat: &mut Seat,
+    number: u8,
+    item: Told,
+    desk: &mut D,
+    stamp: &[u8; 20],
+    swept: &mut Swept,
+) -> Result<(), Stop> {
+    let item = numbered(item, number);
+    match perform(alloc, &mut seat.keys, desk, stamp, &item, swept) {
+        Ok(()) => {
+            give_up(seat, &item, swept);
+            Ok(())
+        }
+        Err(Undone::UnknownKey { key }) => Err(without_item(SweepError::UnknownKey {
+            source: number,
+            key,
+        })),
+        Err(Undone::Book(BookError::Memory)) => Err(Stop {
+            error: SweepError::Memory,
+            item: Some(item),
+        }),
+        Err(Undone::Book(error)) => Err(Stop {
+            error: SweepError::Book(error),
+            item: Some(item),
+        }),
+    }
+}
+
+/// Gives a source up, where its item is that it ended.
+fn give_up(seat: &mut Seat, item: &Told, swept: &mut Swept) {
+    if let Told::Ended = item {
+        seat.source = None;
+        swept.dropped = swept.dropped.saturating_add(1);
+    }
+}
+
+/// The item with the number of its source in its content.
+fn numbered(item: Told, source: u8) -> Told {
+    match item {
+        Told::Add { key, content } => Told::Add {
+            key,
+            content: of_source(content, source),
+        },
+        Told::Change { key, content } => Told::Change {
+            key,
+            content: of_source(content, source),
+        },
+        other => other,
+    }
+}
+
+fn of_source(content: Content, source: u8) -> Content {
+    Content { source, ..content }
+}

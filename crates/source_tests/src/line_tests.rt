@@ -1,0 +1,1 @@
+//! Lines and the items that they are.
