@@ -37,11 +37,18 @@ pub record IsText (limit : ℕ) (word octets : List ℕ) : Type 0 where
 abbrev pub IsHex : List ℕ → List ℕ → Type 0
 IsHex word octets = ((word ≡ codes "-") × (octets ≡ [])) ⊎ ((word ≢ codes "-") × (word ≢ []) × (decode_of word ≡ Ok octets))
 
--- The octets are a tag's, all of them. The package is its software identifier, which a creator
--- gave, and its canonical octets (RFC 8412, section 3.4.1; RFC 9393, section 2).
-pub record IsPackage (octets : List ℕ) (package : Package) : Type 0 where
+-- The tag's software identifier, which a creator gave (RFC 8412, section 3.4.1).
+pub record IsIdentOf (tag : Tag) (ident : List ℕ) : Type 0 where
+  pub is : identifier_of tag ≡ Some ident
+  pub within : length ident ≤ 65535
+
+-- What is kept of a tag: its software identifier, and its canonical octets (RFC 9393, section 2).
+pub record IsPackageOf (tag : Tag) (made : Package) : Type 0 where
+  pub ident : IsIdentOf tag made.ident
+  pub body : IsWithin 1048576 (canon (tag_item tag)) made.body
+
+-- The octets are a tag's, all of them, and this is kept of it.
+pub record IsPackage (octets : List ℕ) (made : Package) : Type 0 where
   pub tag : Tag
   pub whole : BeginsTag octets tag (length octets)
-  pub ident : identifier_of tag ≡ Some package.ident
-  pub body : package.body ≡ canon (tag_item tag)
-  pub within : (length package.ident ≤ 65535) × (length package.body ≤ 1048576)
+  pub parts : IsPackageOf tag made

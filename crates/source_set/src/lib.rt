@@ -8,6 +8,7 @@
 #![tactic(auto)]
 
 mod doing;
+mod line_buffer;
 mod line_item;
 mod line_source;
 mod reading;

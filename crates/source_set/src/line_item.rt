@@ -1,5 +1,10 @@
 //! The item that a line is.
 
+ghost use Rattle.std.specs.Prelude.{◌≡◌, List, ℕ, None, Some};
+ghost use Rattle.std.specs.Option.{option_map};
+ghost use Rattle.source_set.specs.LineItems.{AreTagged, AreDescribed, IsAlone, IsDescribed, IsGone, IsTagged, Says, added, changed};
+ghost use Rattle.source_set.specs.Reading.{Finds, FindsExactly};
+
 use crate::reading::{bounded, read_key, read_octets, read_package, read_text};
 use crate::told::Told;
 use crate::words::Words;
@@ -17,7 +22,9 @@ pub struct Keyed {
 }
 
 /// The item that the line is; `None` exactly where it is none.
-pub fn item_of(alloc: Global, line: &[u8]) -> Result<Option<Told>, Memory> {
+pub fn item_of(alloc: Global, line: &[u8]) -> Result<Option<Told>, Memory>
+    ensures item { Finds (Says line.now) result }
+{
     let mut words = Words::new(line);
     let Some(verb) = words.next() else {
         return Ok(None);
@@ -38,19 +45,25 @@ pub fn item_of(alloc: Global, line: &[u8]) -> Result<Option<Told>, Memory> {
 }
 
 /// An addition, where there is one.
-fn as_added(keyed: Option<Keyed>) -> Option<Told> {
+fn as_added(keyed: Option<Keyed>) -> Option<Told>
+    ensures item { result ≡ option_map added keyed }
+{
     let Keyed { key, content } = keyed?;
     Some(Told::Add { key, content })
 }
 
 /// A change, where there is one.
-fn as_changed(keyed: Option<Keyed>) -> Option<Told> {
+fn as_changed(keyed: Option<Keyed>) -> Option<Told>
+    ensures item { result ≡ option_map changed keyed }
+{
     let Keyed { key, content } = keyed?;
     Some(Told::Change { key, content })
 }
 
 /// What a key, a locator and a tag say.
-fn of_tag(alloc: Global, words: Words<'_>) -> Result<Option<Keyed>, Memory> {
+fn of_tag(alloc: Global, words: Words<'_>) -> Result<Option<Keyed>, Memory>
+    ensures tag { Finds (IsTagged words) result }
+{
     let mut words = words;
     let (Some(key), Some(locator), Some(digits), None) = (
         words.next(),
@@ -69,7 +82,9 @@ fn tagged(
     key: &[u8],
     locator: &[u8],
     digits: &[u8],
-) -> Result<Option<Keyed>, Memory> {
+) -> Result<Option<Keyed>, Memory>
+    ensures tag { Finds (AreTagged key.now locator.now digits.now) result }
+{
     let Some(key) = read_key(key) else {
         return Ok(None);
     };
@@ -95,7 +110,9 @@ fn tagged(
 }
 
 /// What a key, an identifier, a locator and a body say.
-fn of_xml(alloc: Global, words: Words<'_>) -> Result<Option<Keyed>, Memory> {
+fn of_xml(alloc: Global, words: Words<'_>) -> Result<Option<Keyed>, Memory>
+    ensures xml { Finds (IsDescribed words) result }
+{
     let mut words = words;
     let (Some(key), Some(ident), Some(locator), Some(digits), None) = (
         words.next(),
@@ -116,7 +133,9 @@ fn described(
     ident: &[u8],
     locator: &[u8],
     digits: &[u8],
-) -> Result<Option<Keyed>, Memory> {
+) -> Result<Option<Keyed>, Memory>
+    ensures xml { Finds (AreDescribed key.now ident.now locator.now digits.now) result }
+{
     let Some(key) = read_key(key) else {
         return Ok(None);
     };
@@ -145,7 +164,9 @@ fn described(
 }
 
 /// That the software of a key is gone. It takes no memory.
-fn of_key(words: Words<'_>) -> Option<Told> {
+fn of_key(words: Words<'_>) -> Option<Told>
+    ensures gone { FindsExactly (IsGone words) result }
+{
     let mut words = words;
     let (Some(key), None) = (words.next(), words.next()) else {
         return None;
@@ -156,7 +177,9 @@ fn of_key(words: Words<'_>) -> Option<Told> {
 }
 
 /// The item of a word that stands alone. It takes no memory.
-fn alone(verb: &[u8], words: Words<'_>) -> Option<Told> {
+fn alone(verb: &[u8], words: Words<'_>) -> Option<Told>
+    ensures alone { FindsExactly (IsAlone verb.now words) result }
+{
     let mut words = words;
     if words.next().is_some() {
         return None;

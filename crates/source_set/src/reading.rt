@@ -1,6 +1,15 @@
 //! The words of a line as values. Each reader gives `None` exactly where the word is that of no
 //! value.
 
+ghost use Rattle.std.specs.Fmt.{decimal};
+ghost use Rattle.std.specs.Prelude.{◌≡◌, ◌≤◌, Some, length};
+ghost use Rattle.wire_base.specs.Texts.{IsU32, Spells};
+ghost use Rattle.cbor_det.specs.Term.{depth};
+ghost use Rattle.coswid_codec.specs.Items.{tag_item};
+ghost use Rattle.coswid_codec.specs.SizesFit.{SizesFit};
+ghost use Rattle.coswid_tag.specs.Identifier.{identifier_of};
+ghost use Rattle.source_set.specs.Reading.{Finds, FindsExactly, IsHex, IsIdentOf, IsPackage, IsPackageOf, IsText, IsWithin};
+
 use coswid_codec::{TagRefused, read_tag, write_tag};
 use coswid_tag::{IdentRefused, Tag, software_identifier};
 use hex::FromHexError;
@@ -18,12 +27,19 @@ pub struct Package {
 }
 
 /// A key: a decimal number of at most 32 bits. It takes no memory.
-pub fn read_key(word: &[u8]) -> Option<u32> {
-    read_decimal(word).ok()
+pub fn read_key(word: &[u8]) -> Option<u32>
+    ensures key { FindsExactly (Spells decimal IsU32 word.now) result }
+{
+    match read_decimal(word) {
+        Ok(key) => Some(key),
+        Err(_) => None,
+    }
 }
 
 /// Octets within their limit, from their printable text.
-pub fn read_text<L: Limit>(alloc: Global, word: &[u8]) -> Result<Option<Bounded<L>>, Memory> {
+pub fn read_text<L: Limit>(alloc: Global, word: &[u8]) -> Result<Option<Bounded<L>>, Memory>
+    ensures text { Finds (IsText L.OCTETS word.now) result }
+{
     match read_escaped(alloc, word) {
         Ok(octets) => bounded(alloc, octets.as_slice()),
         Err(TextRefused::Fault { .. }) => Ok(None),
@@ -32,7 +48,9 @@ pub fn read_text<L: Limit>(alloc: Global, word: &[u8]) -> Result<Option<Bounded<
 }
 
 /// Octets in hexadecimal digits, at least one; a hyphen is no octets.
-pub fn read_octets(alloc: Global, word: &[u8]) -> Result<Option<Octets>, Memory> {
+pub fn read_octets(alloc: Global, word: &[u8]) -> Result<Option<Octets>, Memory>
+    ensures octets { Finds (IsHex word.now) result }
+{
     if word == b"-".as_slice() {
         return Ok(Some(Octets::new(alloc)));
     }
@@ -47,7 +65,9 @@ pub fn read_octets(alloc: Global, word: &[u8]) -> Result<Option<Octets>, Memory>
 }
 
 /// Octets within their limit.
-pub fn bounded<L: Limit>(alloc: Global, octets: &[u8]) -> Result<Option<Bounded<L>>, Memory> {
+pub fn bounded<L: Limit>(alloc: Global, octets: &[u8]) -> Result<Option<Bounded<L>>, Memory>
+    ensures within { Finds (IsWithin L.OCTETS octets.now) result }
+{
     match Bounded::new(alloc, octets) {
         Ok(made) => Ok(Some(made)),
         Err(LongRefused::TooLong { .. }) => Ok(None),
@@ -56,17 +76,27 @@ pub fn bounded<L: Limit>(alloc: Global, octets: &[u8]) -> Result<Option<Bounded<
 }
 
 /// The package whose tag the octets are, all of them.
-pub fn read_package(alloc: Global, octets: &[u8]) -> Result<Option<Package>, Memory> {
+pub fn read_package(alloc: Global, octets: &[u8]) -> Result<Option<Package>, Memory>
+    ensures whole { Finds (IsPackage octets.now) result }
+{
     match read_tag(alloc, octets) {
-        Ok((tag, used)) if used == octets.len() => package_of(alloc, &tag),
-        Ok(_) => Ok(None),
+        Ok((tag, used)) => {
+            if used < octets.len() {
+                return Ok(None);
+            }
+            package_of(alloc, &tag)
+        }
         Err(TagRefused::Memory) => Err(Memory),
         Err(_) => Ok(None),
     }
 }
 
 /// The package of a tag: it has a creator, and its parts are within their limits.
-fn package_of(alloc: Global, tag: &Tag) -> Result<Option<Package>, Memory> {
+fn package_of(alloc: Global, tag: &Tag) -> Result<Option<Package>, Memory>
+    requires depth { depth (tag_item tag.now) ≤ 64 }
+    requires sizes { SizesFit tag.now }
+    ensures parts { Finds (IsPackageOf tag.now) result }
+{
     let Some(ident) = identifier_of(alloc, tag)? else {
         return Ok(None);
     };
@@ -78,9 +108,11 @@ fn package_of(alloc: Global, tag: &Tag) -> Result<Option<Package>, Memory> {
 }
 
 /// The software identifier of a tag that a creator made, where it is within the limit.
-fn identifier_of(alloc: Global, tag: &Tag) -> Result<Option<Ident>, Memory> {
+fn identifier_of(alloc: Global, tag: &Tag) -> Result<Option<Ident>, Memory>
+    ensures ident { Finds (IsIdentOf tag.now) result }
+{
     match software_identifier(alloc, tag) {
-        Ok(text) => bounded(alloc, text.as_slice()),
+        Ok(text) => Ok(Some(Ident::of(alloc, text.as_slice())?)),
         Err(IdentRefused::Memory) => Err(Memory),
         Err(_) => Ok(None),
     }
