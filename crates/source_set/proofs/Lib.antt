@@ -1,0 +1,5 @@
+pub mod Feeds
+pub mod Wording
+pub mod Finding
+pub mod OneItem
+pub mod LinesOf

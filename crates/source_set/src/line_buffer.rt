@@ -39,8 +39,8 @@ pub enum Front {
 }
 
 impl Model for LineBuffer {
-    ghost use Rattle.std.specs.Prelude.{◌≤◌, ◌+◌, ◌-◌, drop, length};
-    ghost use Rattle.std.specs.Vec.{vec_capacity, vec_len};
+    ghost use Rattle.std.specs.Prelude.{◌≤◌, ◌+◌, ◌-◌, drop, length, vec_capacity, vec_len};
+    
     ghost use Rattle.source_set.specs.Lines.{BufferView, before_feed};
 
     ghost Value = { BufferView };

@@ -1,0 +1,69 @@
+-- What the readers of words find, and that it is one value.
+use Rattle.std.proofs.Common.{◌≡◌, ◌≢◌, ◌<◌, ◌≤◌, inl, inr, ℕ, List, [], length, Option, Some, None, Result, Ok, Err, refl, sym, ap, ◌∙◌, subst, arith}
+use Rattle.std.specs.Fmt.{decimal}
+use Rattle.hex.specs.Hex.{decode_of}
+use Rattle.wire_base.specs.Escaped.{escaped}
+use Rattle.wire_base.specs.Layout.{AreOctets}
+use Rattle.wire_base.specs.Texts.{IsU32, Spells, StopsAt}
+use Rattle.wire_base.specs.declared.values.memory.Memory.{Memory}
+use Rattle.wire_base.proofs.Decimals.{decimal_or_fault}
+use Rattle.wire_base.proofs.Unescaping.{escaped_or_fault}
+use Rattle.cbor_det.specs.Canonical.{canon}
+use Rattle.coswid_tag.specs.declared.tag.Tag.{Tag}
+use Rattle.coswid_tag.specs.Identifier.{identifier_of}
+use Rattle.coswid_codec.specs.Answers.{BeginsTag}
+use Rattle.coswid_codec.specs.Items.{tag_item}
+use Rattle.coswid_codec.proofs.Outcomes.{begins_one_tag}
+use Rattle.source_set.specs.Reading.{Finds, IsHex, IsIdentOf, IsPackage, IsPackageOf, IsText, IsWithin}
+use Rattle.source_set.specs.declared.reading.Package.{Package}
+
+-- ---- one value
+
+pub one_key : (word : List ℕ) (one other : ℕ) → Spells decimal IsU32 word one → Spells decimal IsU32 word other → one ≡ other
+one_key word one other a b = (decimal_or_fault word).one_value one other a b
+
+pub one_text : (limit : ℕ) (word one other : List ℕ) → IsText limit word one → IsText limit word other → one ≡ other
+one_text limit word one other a b = (escaped_or_fault word).one_value one other (a.octets, a.is) (b.octets, b.is)
+
+ok_same : {E : Type 0} (xs ys : List ℕ) → Ok {T = List ℕ} {E = E} xs ≡ Ok ys → xs ≡ ys
+ok_same xs ys e = cc
+
+pub one_hex : (word one other : List ℕ) → IsHex word one → IsHex word other → one ≡ other
+one_hex word one other (inl a) (inl b) = a.1 ∙ sym b.1
+one_hex word one other (inl a) (inr b) = absurd (b.0 a.0)
+one_hex word one other (inr a) (inl b) = absurd (a.0 b.0)
+one_hex word one other (inr a) (inr b) = ok_same one other (sym a.2 ∙ b.2)
+
+some_same : (xs ys : List ℕ) → Some xs ≡ Some ys → xs ≡ ys
+some_same xs ys e = cc
+
+pub one_package : (octets : List ℕ) (one other : Package) → IsPackage octets one → IsPackage octets other → (one.ident ≡ other.ident) × (one.body ≡ other.body)
+one_package octets one other a b =
+    let same = (begins_one_tag octets a.tag b.tag _ _ a.whole b.whole).0 in (
+      some_same one.ident other.ident (sym a.parts.ident.is ∙ ap identifier_of same ∙ b.parts.ident.is),
+      a.parts.body.is ∙ ap (λ (tag : Tag). canon (tag_item tag)) same ∙ sym b.parts.body.is,
+    )
+
+-- ---- what is found of one thing is found of another
+
+-- Where each value of the one kind is one of the other, and the reverse.
+pub finds_by : {A : Type 0} (Is Also : A → Type 0) (result : Result (Option A) Memory) → ((value : A) → Is value → Also value) → ((value : A) → Also value → Is value)
+    → Finds Is result → Finds Also result
+finds_by Is Also (Ok (Some value)) to from found = to value found
+finds_by Is Also (Ok None) to from found = λ value also. found value (from value also)
+finds_by Is Also (Err memory) to from found = tt
+
+-- Octets within the limit are those of the text.
+pub finds_text : (limit : ℕ) (word octets : List ℕ) (result : Result (Option (List ℕ)) Memory) → Spells escaped AreOctets word octets
+    → Finds (IsWithin limit octets) result → Finds (IsText limit word) result
+finds_text limit word octets result spelled found =
+    finds_by (IsWithin limit octets) (IsText limit word) result
+    (λ made is. record {
+      octets = subst AreOctets (sym is.is) spelled.0;
+      is = ap escaped is.is ∙ spelled.1;
+      within = omega (arith, ap (λ (o : List ℕ). length o) is.is, is.within);
+    })
+    (λ made is.
+        let same = (escaped_or_fault word).one_value made octets (is.octets, is.is) spelled in
+        record { is = same; within = omega (arith, ap (λ (o : List ℕ). length o) same, is.within) })
+    found
