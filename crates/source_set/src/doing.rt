@@ -1,5 +1,12 @@
 //! An item of a source, done at a desk.
 
+ghost use Rattle.std.specs.Prelude.{◌≡◌, true, Ok, IfOk};
+ghost use Rattle.wire_base.specs.Stamp.{IsStamp};
+ghost use Rattle.source_set.specs.Doing.{Performs};
+ghost use Rattle.source_set.specs.Keys.{by_id};
+ghost use Rattle.source_set.specs.declared.doing.Undone.TheVariants as undone;
+ghost use Rattle.source_set.specs.declared.told.Told.TheVariants as told;
+
 use crate::swept::Swept;
 use crate::told::Told;
 use collector_core::{BookError, Desk};
@@ -7,7 +14,6 @@ use std::alloc::{AllocError, Global};
 use std::collections::BTreeMap;
 use std::collections::btree_map::Entry;
 use swima_model::Content;
-use wire_base::Memory;
 
 /// The record of each key that a source added and that is not gone, by its identifier.
 pub type Keys = BTreeMap<u32, u32>;
@@ -25,14 +31,10 @@ pub enum Undone {
 }
 
 impl From<BookError> for Undone {
+    ghost from_gives = { λ error e. e ≡ undone.Book error };
+
     fn from(refused: BookError) -> Self {
         Undone::Book(refused)
-    }
-}
-
-impl From<Memory> for Undone {
-    fn from(_memory: Memory) -> Self {
-        Undone::Book(BookError::Memory)
     }
 }
 
@@ -44,7 +46,12 @@ pub fn perform<D: Desk>(
     stamp: &[u8; 20],
     item: &Told,
     swept: &mut Swept,
-) -> Result<(), Undone> {
+) -> Result<(), Undone>
+    requires takes { D.takes desk.old ≡ true }
+    requires stamp { IsStamp stamp.now }
+    ensures performed { Performs D.stands D.went stamp.now item.now (record { keys = keys.old.entries; desk = desk.old; swept = swept.old }) (record { keys = keys.new.entries; desk = desk.new; swept = swept.new }) result }
+    ensures takes { D.takes desk.new ≡ true }
+{
     match item {
         Told::Add { key, content } => add(keys, desk, stamp, *key, content, swept),
         Told::Change { key, content } => change(keys, desk, stamp, *key, content, swept),
@@ -63,7 +70,12 @@ fn add<D: Desk>(
     key: u32,
     content: &Content,
     swept: &mut Swept,
-) -> Result<(), Undone> {
+) -> Result<(), Undone>
+    requires takes { D.takes desk.old ≡ true }
+    requires stamp { IsStamp stamp.now }
+    ensures performed { Performs D.stands D.went stamp.now (told.Add key content.now) (record { keys = keys.old.entries; desk = desk.old; swept = swept.old }) (record { keys = keys.new.entries; desk = desk.new; swept = swept.new }) result }
+    ensures takes { D.takes desk.new ≡ true }
+{
     match keys.entry(key) {
         Ok(Entry::Occupied(held)) => {
             desk.alter(stamp, *held.get(), content)?;
@@ -88,7 +100,12 @@ fn change<D: Desk>(
     key: u32,
     content: &Content,
     swept: &mut Swept,
-) -> Result<(), Undone> {
+) -> Result<(), Undone>
+    requires takes { D.takes desk.old ≡ true }
+    requires stamp { IsStamp stamp.now }
+    ensures performed { Performs D.stands D.went stamp.now (told.Change key content.now) (record { keys = keys.old.entries; desk = desk.old; swept = swept.old }) (record { keys = keys.new.entries; desk = desk.new; swept = swept.new }) result }
+    ensures takes { D.takes desk.new ≡ true }
+{
     let Some(id) = keys.get(&key) else {
         return Err(Undone::UnknownKey { key });
     };
@@ -104,7 +121,12 @@ fn remove<D: Desk>(
     stamp: &[u8; 20],
     key: u32,
     swept: &mut Swept,
-) -> Result<(), Undone> {
+) -> Result<(), Undone>
+    requires takes { D.takes desk.old ≡ true }
+    requires stamp { IsStamp stamp.now }
+    ensures performed { Performs D.stands D.went stamp.now (told.Gone key) (record { keys = keys.old.entries; desk = desk.old; swept = swept.old }) (record { keys = keys.new.entries; desk = desk.new; swept = swept.new }) result }
+    ensures takes { D.takes desk.new ≡ true }
+{
     let Some(id) = keys.get(&key) else {
         return Err(Undone::UnknownKey { key });
     };
@@ -121,7 +143,12 @@ fn remove_all<D: Desk>(
     desk: &mut D,
     stamp: &[u8; 20],
     swept: &mut Swept,
-) -> Result<(), Undone> {
+) -> Result<(), Undone>
+    requires takes { D.takes desk.old ≡ true }
+    requires stamp { IsStamp stamp.now }
+    ensures performed { Performs D.stands D.went stamp.now told.Ended (record { keys = keys.old.entries; desk = desk.old; swept = swept.old }) (record { keys = keys.new.entries; desk = desk.new; swept = swept.new }) result }
+    ensures takes { D.takes desk.new ≡ true }
+{
     let Ok(held) = in_order(alloc, keys) else {
         return Err(Undone::Book(BookError::Memory));
     };
@@ -130,11 +157,14 @@ fn remove_all<D: Desk>(
         keys.remove(key);
         swept.gone = swept.gone.saturating_add(1);
     }
+    keys.clear();
     Ok(())
 }
 
 /// The keys and the identifiers of their records, in order of identifier.
-fn in_order(alloc: Global, keys: &Keys) -> Result<Vec<(u32, u32)>, AllocError> {
+fn in_order(alloc: Global, keys: &Keys) -> Result<Vec<(u32, u32)>, AllocError>
+    ensures order { IfOk result (λ held. held.items ≡ by_id keys.now.entries) }
+{
     let mut held = Vec::with_capacity(alloc, keys.len())?;
     for (key, id) in keys {
         held.push((*key, *id))?;
