@@ -2,9 +2,9 @@
 
 use crate::values::{STAMP, TAG, counts, empty_book, is_at, lines, says, swept};
 use collector_core::{Book, BookError};
-use source_set::{LineSource, SourceSet, SweepError, TagSource};
+use source_set::{SourceSet, SweepError, TagSource};
 use swima_model::{Body, Content, Ident, Locator, Model};
-use wire_base::{MemSource, Memory};
+use wire_base::Memory;
 
 #[test]
 fn an_ended_source_leaves_nothing(rt: HostRuntime) -> Result<(), Memory> {
