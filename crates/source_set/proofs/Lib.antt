@@ -3,3 +3,5 @@ pub mod Wording
 pub mod Finding
 pub mod OneItem
 pub mod LinesOf
+pub mod ByIdentifier
+pub mod Working

@@ -6,3 +6,4 @@ pub mod Lines
 pub mod Keys
 pub mod Deeds
 pub mod Doing
+pub mod Asking

@@ -1,6 +1,5 @@
 -- The words of a line: what stands before, between and after its spaces.
 use Rattle.std.specs.Prelude.{◌==◌, ℕ, List, [], ◌∷◌, Option, None, Some, if◌then◌else◌}
-use base.Stored.{Bor}
 
 -- An octet before the first word.
 abbrev pub onto_first : ℕ → List (List ℕ) → List (List ℕ)

@@ -1,5 +1,11 @@
 //! The sources of an inventory, and what they reported of it.
 
+ghost use Rattle.std.specs.Prelude.{◌≡◌, ◌≤◌, [], true, None, Some, OnOk, IfOk, IfErr, length};
+ghost use Rattle.wire_base.specs.Outside.{HasCause};
+ghost use Rattle.wire_base.specs.Stamp.{IsStamp};
+ghost use Rattle.source_set.specs.Asking.{Hears, Tries, asked_failed, left_by, numbered, sweep_failed, without_item};
+ghost use Rattle.source_set.specs.Deeds.{count, gives_up};
+
 use crate::doing::{Keys, Undone, perform};
 use crate::swept::{SweepError, Swept};
 use crate::told::{TagSource, Told};
@@ -45,7 +51,9 @@ impl SourceSet {
     pub fn new(
         alloc: Global,
         sources: Vec<Box<dyn TagSource + Send>>,
-    ) -> Result<SourceSet, Memory> {
+    ) -> Result<SourceSet, Memory>
+        requires few { length sources.items ≤ 255 }
+    {
         let mut seats = Vec::with_capacity(alloc, sources.len())?;
         for source in sources {
             seats.push(Seat {
@@ -66,7 +74,11 @@ impl SourceSet {
         &mut self,
         desk: &mut D,
         stamp: &[u8; 20],
-    ) -> (Swept, Result<(), SweepError>) {
+    ) -> (Swept, Result<(), SweepError>)
+        requires takes { D.takes desk.old ≡ true }
+        requires stamp { IsStamp stamp.now }
+        ensures takes { D.takes desk.new ≡ true }
+    {
         let mut swept = Swept::NOTHING;
         let result = self.sweep_all(desk, stamp, &mut swept);
         if let Err(SweepError::SourceFailed { .. }) = result {
@@ -80,7 +92,11 @@ impl SourceSet {
         desk: &mut D,
         stamp: &[u8; 20],
         swept: &mut Swept,
-    ) -> Result<(), SweepError> {
+    ) -> Result<(), SweepError>
+        requires takes { D.takes desk.old ≡ true }
+        requires stamp { IsStamp stamp.now }
+        ensures takes { D.takes desk.new ≡ true }
+    {
         let alloc = *self.seats.allocator();
         if let Some(kept) = self.kept.take() {
             let place = kept.source as usize;
@@ -125,12 +141,16 @@ fn ask<D: Desk>(
     desk: &mut D,
     stamp: &[u8; 20],
     swept: &mut Swept,
-) -> Result<(), Stop> {
+) -> Result<(), Stop>
+    requires takes { D.takes desk.old ≡ true }
+    requires stamp { IsStamp stamp.now }
+    ensures takes { D.takes desk.new ≡ true }
+{
     for _ in 0..MOST_ITEMS {
         let Some(source) = &mut seat.source else {
             return Ok(());
         };
-        let told = source.next();
+        let told = numbered(source.next(), number);
         if !hear(alloc, seat, number, told, desk, stamp, swept)? {
             return Ok(());
         }
@@ -147,7 +167,12 @@ fn hear<D: Desk>(
     desk: &mut D,
     stamp: &[u8; 20],
     swept: &mut Swept,
-) -> Result<bool, Stop> {
+) -> Result<bool, Stop>
+    requires takes { D.takes desk.old ≡ true }
+    requires stamp { IsStamp stamp.now }
+    ensures heard { Hears D.stands D.went stamp.now told number (record { source = seat.old.source; place = record { keys = seat.old.keys.entries; desk = desk.old; swept = swept.old } }) (record { source = seat.new.source; place = record { keys = seat.new.keys.entries; desk = desk.new; swept = swept.new } }) result }
+    ensures takes { D.takes desk.new ≡ true }
+{
     match told {
         Told::Quiet => Ok(false),
         Told::Bad { line } => Err(without_item(SweepError::BadLine {
@@ -163,7 +188,9 @@ fn hear<D: Desk>(
     }
 }
 
-fn without_item(error: SweepError) -> Stop {
+fn without_item(error: SweepError) -> Stop
+    ensures stop { result ≡ without_item error }
+{
     Stop { error, item: None }
 }
 
@@ -176,8 +203,12 @@ fn do_item<D: Desk>(
     desk: &mut D,
     stamp: &[u8; 20],
     swept: &mut Swept,
-) -> Result<(), Stop> {
-    let item = numbered(item, number);
+) -> Result<(), Stop>
+    requires takes { D.takes desk.old ≡ true }
+    requires stamp { IsStamp stamp.now }
+    ensures tried { Tries D.stands D.went stamp.now item number (record { source = seat.old.source; place = record { keys = seat.old.keys.entries; desk = desk.old; swept = swept.old } }) (record { source = seat.new.source; place = record { keys = seat.new.keys.entries; desk = desk.new; swept = swept.new } }) result }
+    ensures takes { D.takes desk.new ≡ true }
+{
     match perform(alloc, &mut seat.keys, desk, stamp, &item, swept) {
         Ok(()) => {
             give_up(seat, &item, swept);
@@ -199,7 +230,11 @@ fn do_item<D: Desk>(
 }
 
 /// Gives a source up, where its item is that it ended.
-fn give_up(seat: &mut Seat, item: &Told, swept: &mut Swept) {
+fn give_up(seat: &mut Seat, item: &Told, swept: &mut Swept)
+    ensures source { seat.new.source ≡ left_by item.now seat.old.source }
+    ensures keys { seat.new.keys ≡ seat.old.keys }
+    ensures counted { swept.new ≡ count swept.old (gives_up item.now) }
+{
     if let Told::Ended = item {
         seat.source = None;
         swept.dropped = swept.dropped.saturating_add(1);
@@ -207,7 +242,9 @@ fn give_up(seat: &mut Seat, item: &Told, swept: &mut Swept) {
 }
 
 /// The item with the number of its source in its content.
-fn numbered(item: Told, source: u8) -> Told {
+fn numbered(item: Told, source: u8) -> Told
+    ensures item { result ≡ numbered source item }
+{
     match item {
         Told::Add { key, content } => Told::Add {
             key,
@@ -221,6 +258,8 @@ fn numbered(item: Told, source: u8) -> Told {
     }
 }
 
-fn of_source(content: Content, source: u8) -> Content {
+fn of_source(content: Content, source: u8) -> Content
+    ensures content { result ≡ record content { source = source } }
+{
     Content { source, ..content }
 }

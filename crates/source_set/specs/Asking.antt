@@ -1,0 +1,104 @@
+-- How a source is asked, and what is done of what it reports.
+use Rattle.std.specs.Prelude.{◌≡◌, ◌<◌, ◌≤◌, ◌⊎◌, ℕ, Bool, true, false, List, [], ◌∷◌, ◌++◌, Option, Some, None, Result, Ok, Err, length, map}
+use Rattle.wire_base.specs.Outside.{HasCause}
+use Rattle.collector_core.specs.declared.chronicle.Mark.{Mark}
+use Rattle.collector_core.specs.declared.error.BookError.{BookError}
+use Rattle.collector_core.specs.declared.error.BookError.TheVariants as refused
+use Rattle.collector_core.specs.Chronicle.{Chronicle}
+use Rattle.source_set.specs.Deeds.{Done, deeds, does, gives_up, keys_after, leaves}
+use Rattle.source_set.specs.Doing.{IsKnown, Performs, Place, Works}
+use Rattle.source_set.specs.Items.{Tells}
+use Rattle.source_set.specs.Keys.{Held}
+use Rattle.source_set.specs.declared.doing.Undone.{Undone}
+use Rattle.source_set.specs.declared.doing.Undone.TheVariants as undone
+use Rattle.source_set.specs.declared.set.Stop.{Stop}
+use Rattle.source_set.specs.declared.swept.SweepError.{SweepError}
+use Rattle.source_set.specs.declared.swept.SweepError.TheVariants as swept
+use Rattle.source_set.specs.declared.told.Told.{Told}
+use Rattle.source_set.specs.declared.told.Told.TheVariants as told
+
+-- The item with the number of its source in its content.
+abbrev pub numbered : ℕ → Told → Told
+numbered source (told.Add key content) = told.Add key (record content { source = source })
+numbered source (told.Change key content) = told.Change key (record content { source = source })
+numbered source other = other
+
+-- A source, unless it was given up, with its keys, a desk and the counts.
+pub record Stand (B D : Type 0) : Type 0 where
+  pub source : Option B
+  pub place : Place D
+
+-- ---- why a source is asked no further
+
+abbrev pub without_item : SweepError → Stop
+without_item error = record { error = error; item = None }
+
+-- The error of an item that was not done, and whether it is kept.
+abbrev pub stop_of : ℕ → Told → Undone → Stop
+stop_of source item (undone.UnknownKey key) = without_item (swept.UnknownKey source key)
+stop_of source item (undone.Book refused.Memory) = record { error = swept.Memory; item = Some item }
+stop_of source item (undone.Book error) = record { error = swept.Book error; item = Some item }
+
+-- A call of the outside failed.
+abbrev pub has_failed : SweepError → Bool
+has_failed (swept.SourceFailed source) = true
+has_failed other = false
+
+abbrev pub asked_failed : {T : Type 0} → Result T Stop → Bool
+asked_failed (Ok done) = false
+asked_failed (Err stop) = has_failed stop.error
+
+abbrev pub sweep_failed : Result Unit SweepError → Bool
+sweep_failed (Ok done) = false
+sweep_failed (Err error) = has_failed error
+
+-- ---- what is done of an item
+
+-- What it is that a source reports: something to be done, or not.
+abbrev pub IsItem : Told → Type 0
+IsItem (told.Add key content) = Unit {0}
+IsItem (told.Change key content) = Unit {0}
+IsItem (told.Gone key) = Unit {0}
+IsItem told.Ended = Unit {0}
+IsItem other = ⊥
+
+-- A source that ended is given up.
+abbrev pub left_by : {B : Type 0} → Told → Option B → Option B
+left_by told.Ended source = None
+left_by other source = source
+
+-- Of any boxes and any desk, at one stamp.
+module _ {B D : Type 0} (stands : D → Chronicle → Type 0) (went : D → List Mark → D → Type 0) (stamp : List ℕ) where
+  -- The item was done.
+  pub record Does (item : Told) (before after : Stand B D) : Type 0 where
+    pub new : ℕ
+    pub known : IsKnown before.place.keys item
+    pub works : Works stands went stamp before.place after.place (does before.place.keys new item ++ gives_up item)
+    pub keys : after.place.keys ≡ leaves before.place.keys new item
+    pub source : after.source ≡ left_by item before.source
+
+  -- The item was not done, for this reason.
+  pub record Refused (item : Told) (number : ℕ) (before after : Stand B D) (stop : Stop) : Type 0 where
+    pub why : Undone
+    pub stop : stop ≡ stop_of number item why
+    pub undone : Performs stands went stamp item before.place after.place (Err why)
+    pub source : after.source ≡ before.source
+
+  -- The item was done or not.
+  abbrev pub Tries : Told → ℕ → Stand B D → Stand B D → Result Unit Stop → Type 0
+  Tries item number before after (Ok done) = Does item before after
+  Tries item number before after (Err stop) = Refused item number before after stop
+
+  -- Nothing is done of what is no item.
+  abbrev pub Stops : Told → ℕ → Stand B D → Stand B D → Stop → Type 0
+  Stops (told.Bad line) number before after stop = (stop ≡ without_item (swept.BadLine number line)) × (after ≡ before)
+  Stops told.Failed number before after stop = (stop ≡ without_item (swept.SourceFailed number)) × (after ≡ before)
+  Stops told.Memory number before after stop = (stop ≡ without_item swept.Memory) × (after ≡ before)
+  Stops told.Quiet number before after stop = ⊥
+  Stops item number before after stop = Refused item number before after stop
+
+  -- What was done of what a source reported: it may be asked for more, or is quiet, or stops.
+  abbrev pub Hears : Told → ℕ → Stand B D → Stand B D → Result Bool Stop → Type 0
+  Hears item number before after (Ok true) = IsItem item × Does item before after
+  Hears item number before after (Ok false) = (item ≡ told.Quiet) × (after ≡ before)
+  Hears item number before after (Err stop) = Stops item number before after stop
