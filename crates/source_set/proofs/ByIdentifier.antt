@@ -1,5 +1,5 @@
 -- Keys put in order of the identifiers of their records.
-use Rattle.std.proofs.Common.{◌≡◌, inl, inr, ℕ, ◌<◌, ◌≤◌, eqb, leb, ltb, cond, not, ◌&&◌, Bool, true, false, List, [], ◌∷◌, length, Less, Equal, Greater, is_lt, nat_cmp, refl, sym, ap, ap₂, ◌∙◌, subst, arith, leb-true, leb-false, eq-eqb, ne_eqb, eqb-true}
+use Rattle.std.proofs.Common.{◌≡◌, filter, inl, inr, ℕ, ◌<◌, ◌≤◌, eqb, leb, ltb, cond, not, ◌&&◌, Bool, true, false, List, [], ◌∷◌, length, Less, Equal, Greater, is_lt, nat_cmp, refl, sym, ap, ap₂, ◌∙◌, subst, arith, leb-true, leb-false, eq-eqb, ne_eqb, eqb-true}
 use Rattle.std.specs.List.Sorted.{IsNonDecreasingBy, IsStableByKey, ties}
 use Rattle.std.proofs.lemmas.Bool.{cases_lt, cond_both, cond-true, cond-false}
 use Rattle.std.proofs.lemmas.Bool.Decides.{nat_tests}
@@ -122,4 +122,3 @@ sorted_is_by_id keys ordered up stable =
     let tie = ties (λ (a b : Held). is_lt (nat_cmp a.1 b.1)) x in
     sym (filter_agree tie (λ (r : Held). eqb r.1 x.1) (ties_of_id x) ordered) ∙ stable x
     ∙ filter_agree tie (λ (r : Held). eqb r.1 x.1) (ties_of_id x) keys)
-

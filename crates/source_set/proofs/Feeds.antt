@@ -5,12 +5,12 @@ use Rattle.memchr.specs.Find.{IsFirstByte, is_byte}
 use Rattle.source_set.specs.Lines.{before_feed}
 
 -- What an octet and others have before the first line feed, by whether the octet is one.
-unfolding before_feed
 feed_at : (octet : ℕ) (octets : List ℕ) (test : Bool) → (octet == 10) ≡ test → before_feed (octet ∷ octets) ≡ cond test 0 (1 + before_feed octets)
+unfolding before_feed
 feed_at octet octets test is = ap (λ (t : Bool). cond t 0 (1 + before_feed octets)) is
 
-unfolding before_feed
 feed_none : before_feed [] ≡ 0
+unfolding before_feed
 feed_none = refl
 
 -- ---- octets one after another

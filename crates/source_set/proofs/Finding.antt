@@ -64,6 +64,6 @@ finds_text limit word octets result spelled found =
       within = omega (arith, ap (λ (o : List ℕ). length o) is.is, is.within);
     })
     (λ made is.
-        let same = (escaped_or_fault word).one_value made octets (is.octets, is.is) spelled in
-        record { is = same; within = omega (arith, ap (λ (o : List ℕ). length o) same, is.within) })
+    let same = (escaped_or_fault word).one_value made octets (is.octets, is.is) spelled in
+    record { is = same; within = omega (arith, ap (λ (o : List ℕ). length o) same, is.within) })
     found

@@ -5,3 +5,6 @@ pub mod OneItem
 pub mod LinesOf
 pub mod ByIdentifier
 pub mod Working
+pub mod KeyLaws
+pub mod Performing
+pub mod Asked

@@ -4,12 +4,12 @@ use Rattle.std.specs.Prelude.{◌==◌}
 use Rattle.memchr.specs.Find.{IsFirstByte, is_byte}
 use Rattle.source_set.specs.Words.{onto_first, words}
 
-unfolding words
 words_at : (octet : ℕ) (octets : List ℕ) (test : Bool) → (octet == 32) ≡ test → words (octet ∷ octets) ≡ cond test ([] ∷ words octets) (onto_first octet (words octets))
+unfolding words
 words_at octet octets test is = ap (λ (t : Bool). cond t ([] ∷ words octets) (onto_first octet (words octets))) is
 
-unfolding words
 words_none : words [] ≡ [] ∷ []
+unfolding words
 words_none = refl
 
 -- No octet before a place is a space.
@@ -38,8 +38,9 @@ words_cut (suc n) (x ∷ xs) less none is =
 -- What a search for the first space found.
 pub words_found : (xs : List ℕ) (k : ℕ) → IsFirstByte (is_byte 32) xs (Some k) → words xs ≡ take k xs ∷ words (drop (k + 1) xs)
 words_found xs k found =
+    let next : suc k ≡ k + 1 = omega arith in
     words_cut k xs found.0.high (λ j less is. found.0.before j (omega arith) less is) found.1
-    ∙ ap (λ (n : ℕ). take k xs ∷ words (drop n xs)) (omega arith)
+    ∙ ap (λ (n : ℕ). take k xs ∷ words (drop n xs)) next
 
 pub words_missed : (xs : List ℕ) → IsFirstByte (is_byte 32) xs None → words xs ≡ xs ∷ []
 words_missed xs none = words_whole xs (λ j less is. none j (omega arith) less is)

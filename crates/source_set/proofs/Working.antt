@@ -1,5 +1,5 @@
 -- Deeds at a desk, and how they join.
-use Rattle.std.proofs.Common.{◌≡◌, List, [], ◌∷◌, ◌++◌, Option, None, Some, Result, Ok, Err, true, ℕ, refl, sym, ap, ◌∙◌, subst}
+use Rattle.std.proofs.Common.{◌≡◌, Bool, List, [], ◌∷◌, ◌++◌, Option, None, Some, Result, Ok, Err, true, ℕ, refl, sym, ap, ◌∙◌, subst}
 use Rattle.std.specs.List.{fold}
 use Rattle.collector_core.specs.declared.chronicle.Entry.{Entry}
 use Rattle.collector_core.specs.declared.chronicle.Mark.{Mark}
@@ -9,7 +9,7 @@ use Rattle.collector_core.specs.Chronicle.{Chronicle, extended}
 use Rattle.collector_core.specs.Desks.{AreOthers, Does, Edits, State, entries, own_mark, owned, state_of}
 use Rattle.collector_core.proofs.Owning.{owned_joins, owned_none}
 use Rattle.source_set.specs.Deeds.{Alters, Creates, Deed, Deletes, GivesUp, Make, count, counted}
-use Rattle.source_set.specs.Doing.{Place, Refuses, Works}
+use Rattle.source_set.specs.Doing.{Refuses, Works}
 use Rattle.source_set.specs.declared.swept.Swept.{Swept}
 
 -- ---- entries and counts
@@ -34,36 +34,35 @@ module _ {D : Type 0} (stands : D → Chronicle → Type 0) (went : D → List M
     (stays : (desk : D) → went desk [] desk)
     (follows : (one two three : D) (first second : List Mark) → went one first two → went two second three → went one (first ++ second) three)
     (carries : (before after : D) (marks : List Mark) (chronicle : Chronicle) → went before marks after → stands before chronicle → stands after (extended chronicle (entries marks))) where
-
   -- Nothing was done.
-  pub works_none : (place : Place D) → Works stands went stamp place place []
-  works_none place = record { marks = []; grows = stays place.desk; made = refl; counted = refl }
+  pub works_none : (desk : D) (swept : Swept) → Works stands went stamp desk desk swept swept []
+  works_none desk swept = record { marks = []; grows = stays desk; made = refl; counted = refl }
 
   -- One thing after another.
-  pub works_more : (one two three : Place D) (first second : List Deed) → Works stands went stamp one two first → Works stands went stamp two three second
-      → Works stands went stamp one three (first ++ second)
-  works_more one two three first second a b = record {
+  pub works_more : (one two three : D) (swept between counts : Swept) (first second : List Deed) → Works stands went stamp one two swept between first
+      → Works stands went stamp two three between counts second → Works stands went stamp one three swept counts (first ++ second)
+  works_more one two three swept between counts first second a b = record {
     marks = a.marks ++ b.marks;
-    grows = follows one.desk two.desk three.desk a.marks b.marks a.grows b.grows;
+    grows = follows one two three a.marks b.marks a.grows b.grows;
     made = subst (Make stamp (first ++ second)) (sym (owned_joins a.marks b.marks)) (make_joins stamp first second (owned a.marks) (owned b.marks) a.made b.made);
-    counted = b.counted ∙ ap (λ (s : Swept). count s second) a.counted ∙ sym (count_joins one.swept first second);
+    counted = b.counted ∙ ap (λ (s : Swept). count s second) a.counted ∙ sym (count_joins swept first second);
   }
 
   -- A change that the desk made.
   own_after : (others : List Mark) (made : Entry) → AreOthers others → owned (others ++ own_mark made ∷ []) ≡ made ∷ []
   own_after others made theirs = owned_joins others (own_mark made ∷ []) ∙ ap (λ (es : List Entry). es ++ made ∷ []) (owned_none others theirs)
 
-  pub works_once : {T : Type 0} (says : T → State → Entry → Type 0) (refusal : State → Option BookError) (before after : Place D) (told : T) (deed : Deed)
-      → Edits stands went says refusal before.desk after.desk (Ok told) → ((state : State) (made : Entry) → says told state made → Make stamp (deed ∷ []) (made ∷ []))
-      → after.swept ≡ counted before.swept deed → Works stands went stamp before after (deed ∷ [])
-  works_once says refusal before after told deed edited to counts =
+  pub works_once : {T : Type 0} (says : T → State → Entry → Type 0) (refusal : State → Option BookError) (before after : D) (swept counts : Swept) (told : T) (deed : Deed)
+      → Edits stands went says refusal before after (Ok told) → ((state : State) (made : Entry) → says told state made → Make stamp (deed ∷ []) (made ∷ []))
+      → counts ≡ counted swept deed → Works stands went stamp before after swept counts (deed ∷ [])
+  works_once says refusal before after swept counts told deed edited to is =
       let made = edited.done.0 in
       let said = edited.done.2 edited.some.0 edited.some.1 in
       record {
         marks = edited.others ++ own_mark made ∷ [];
         grows = edited.done.1;
         made = subst (Make stamp (deed ∷ [])) (sym (own_after edited.others made edited.theirs)) (to (state_of (extended edited.some.0 (entries edited.others))) made said.1);
-        counted = counts;
+        counted = is;
       }
 
   -- A change that it refused.
@@ -78,13 +77,13 @@ module _ {D : Type 0} (stands : D → Chronicle → Type 0) (went : D → List M
   others_went says refusal before after others (refused.TrimPast last given) done = done.0
   others_went says refusal before after others refused.Memory done = done.0
 
-  pub works_refused : {T : Type 0} (says : T → State → Entry → Type 0) (refusal : State → Option BookError) (before after : Place D) (error : BookError)
-      → Edits stands went says refusal before.desk after.desk (Err {T = T} error) → after.swept ≡ before.swept → Works stands went stamp before after []
-  works_refused says refusal before after error edited counts = record {
+  pub works_refused : {T : Type 0} (says : T → State → Entry → Type 0) (refusal : State → Option BookError) (before after : D) (swept : Swept) (error : BookError)
+      → Edits stands went says refusal before after (Err {T = T} error) → Works stands went stamp before after swept swept []
+  works_refused says refusal before after swept error edited = record {
     marks = edited.others;
-    grows = others_went says refusal before.desk after.desk edited.others error edited.done;
+    grows = others_went says refusal before after edited.others error edited.done;
     made = owned_none edited.others edited.theirs;
-    counted = counts;
+    counted = refl;
   }
 
   refuses_as : {T : Type 0} (says : T → State → Entry → Type 0) (refusal : State → Option BookError) (before after : D) (others : List Mark) (some : (chronicle : Chronicle) × stands before chronicle) (error : BookError)
@@ -101,3 +100,8 @@ module _ {D : Type 0} (stands : D → Chronicle → Type 0) (went : D → List M
   pub refuses : {T : Type 0} (says : T → State → Entry → Type 0) (refusal : State → Option BookError) (before after : D) (error : BookError)
       → Edits stands went says refusal before after (Err {T = T} error) → Refuses stands went stamp after refusal error
   refuses says refusal before after error edited = refuses_as says refusal before after edited.others edited.some error edited.done
+
+  -- Whether a desk takes changes stays as it is.
+  pub takes_after : (takes : D → Bool) (keeps : (before after : D) (marks : List Mark) → went before marks after → takes after ≡ takes before) (before after : D) (swept counts : Swept) (deeds : List Deed)
+      → Works stands went stamp before after swept counts deeds → takes before ≡ true → takes after ≡ true
+  takes_after takes keeps before after swept counts deeds works is = keeps before after works.marks works.grows ∙ is

@@ -73,7 +73,7 @@ module _ {B D : Type 0} (stands : D → Chronicle → Type 0) (went : D → List
   pub record Does (item : Told) (before after : Stand B D) : Type 0 where
     pub new : ℕ
     pub known : IsKnown before.place.keys item
-    pub works : Works stands went stamp before.place after.place (does before.place.keys new item ++ gives_up item)
+    pub works : Works stands went stamp before.place.desk after.place.desk before.place.swept after.place.swept (does before.place.keys new item ++ gives_up item)
     pub keys : after.place.keys ≡ leaves before.place.keys new item
     pub source : after.source ≡ left_by item before.source
 
@@ -102,3 +102,40 @@ module _ {B D : Type 0} (stands : D → Chronicle → Type 0) (went : D → List
   Hears item number before after (Ok true) = IsItem item × Does item before after
   Hears item number before after (Ok false) = (item ≡ told.Quiet) × (after ≡ before)
   Hears item number before after (Err stop) = Stops item number before after stop
+
+-- ---- what a source reports in a row
+
+-- Of the items, these were reported one after another, and these are left. Where none is left the
+-- source is quiet.
+abbrev pub Follows : List Told → List Told → List Told → Type 0
+Follows items [] later = later ≡ items
+Follows items (item ∷ run) later = (between : List Told) × Tells items item between × Follows between run later
+
+-- The items that were done.
+abbrev pub items_of : List Done → List Told
+items_of dones = map (λ (done : Done). done.item) dones
+
+-- Each is something that is done.
+abbrev pub AreDone : List Told → Type 0
+AreDone [] = Unit {0}
+AreDone (item ∷ run) = IsItem item × AreDone run
+
+-- Of any boxes, which report items, and any desk, at one stamp.
+module _ {B D : Type 0} (reports : B → List Told → Type 0) (stands : D → Chronicle → Type 0) (went : D → List Mark → D → Type 0) (stamp : List ℕ) where
+  -- A source will report these items, unless it was given up.
+  abbrev pub IsLeft : Option B → List Told → Type 0
+  IsLeft None items = Unit {0}
+  IsLeft (Some source) items = reports source items
+
+  -- A source reported these items one after another, the first of those that it would report.
+  abbrev pub Ran : Option B → List Told → Option B → Type 0
+  Ran None run after = (run ≡ []) × (after ≡ None)
+  Ran (Some source) run after = (items : List Told) → reports source items → (later : List Told) × Follows items run later × IsLeft after later
+
+  -- The source of this number was asked for items, and each was done.
+  pub record Asked (number : ℕ) (before after : Stand B D) (run : List Told) (dones : List Done) : Type 0 where
+    pub ran : Ran before.source run after.source
+    pub are : items_of dones ≡ map (numbered number) run
+    pub done : AreDone (items_of dones)
+    pub works : Works stands went stamp before.place.desk after.place.desk before.place.swept after.place.swept (deeds before.place.keys dones)
+    pub keys : after.place.keys ≡ keys_after before.place.keys dones

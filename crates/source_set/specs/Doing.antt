@@ -6,7 +6,7 @@ use Rattle.collector_core.specs.declared.error.BookError.{BookError}
 use Rattle.collector_core.specs.declared.error.BookError.TheVariants as refused
 use Rattle.collector_core.specs.Chronicle.{Chronicle}
 use Rattle.collector_core.specs.Desks.{State, alters_not, creates_not, deletes_not, owned, state_of}
-use Rattle.source_set.specs.Deeds.{Deed, Make, count, deletions, does, leaves}
+use Rattle.source_set.specs.Deeds.{Creates, Deed, Make, count, deletions, does, leaves}
 use Rattle.source_set.specs.Keys.{Held, by_id, id_at, without_all}
 use Rattle.source_set.specs.declared.doing.Undone.{Undone}
 use Rattle.source_set.specs.declared.doing.Undone.TheVariants as undone
@@ -67,22 +67,35 @@ IsPart other done = done ≡ 0
 
 -- Of any desk, at one stamp.
 module _ {D : Type 0} (stands : D → Chronicle → Type 0) (went : D → List Mark → D → Type 0) (stamp : List ℕ) where
-  -- From the one to the other these deeds were done, in order, and counted.
-  pub record Works (before after : Place D) (deeds : List Deed) : Type 0 where
+  -- From the one desk to the other these deeds were done, in order, and counted.
+  pub record Works (before after : D) (swept counts : Swept) (deeds : List Deed) : Type 0 where
     pub marks : List Mark
-    pub grows : went before.desk marks after.desk
+    pub grows : went before marks after
     pub made : Make stamp deeds (owned marks)
-    pub counted : after.swept ≡ count before.swept deeds
+    pub counted : counts ≡ count swept deeds
 
   -- At some chronicle that the desk stands for, this is the refusal.
   abbrev pub Refuses : D → (State → Option BookError) → BookError → Type 0
   Refuses desk refusal refused.Memory = Unit {0}
   Refuses desk refusal error = (chronicle : Chronicle) × stands desk chronicle × (refusal (state_of chronicle) ≡ Some error)
 
+  -- A record was created, with the identifier that is answered, or the desk refused it.
+  abbrev pub CreatesOne : Content → D → D → Swept → Swept → Result ℕ BookError → Type 0
+  CreatesOne content before after swept counts (Ok id) = Works before after swept counts (Creates id content ∷ [])
+  CreatesOne content before after swept counts (Err error) = Works before after swept counts [] × Refuses after (creates_not content) error
+
+  -- One deed was done, or the desk refused it.
+  abbrev pub Once : Deed → (State → Option BookError) → D → D → Swept → Swept → Result Unit Undone → Type 0
+  Once deed refusal before after swept counts (Ok done) = Works before after swept counts (deed ∷ [])
+  Once deed refusal before after swept counts (Err (undone.UnknownKey key)) = ⊥
+  Once deed refusal before after swept counts (Err (undone.Book error)) = Works before after swept counts [] × Refuses after refusal error
+
   -- The item was done; or it is of no key that is held, and nothing was done; or the desk refused
   -- it, or memory ran out. Then the first deletions of an end may be done, and their keys are gone.
   abbrev pub Performs : Told → Place D → Place D → Result Unit Undone → Type 0
-  Performs item before after (Ok done) = (new : ℕ) × IsKnown before.keys item × Works before after (does before.keys new item) × (after.keys ≡ leaves before.keys new item)
-  Performs item before after (Err (undone.UnknownKey key)) = IsUnknown before.keys item key × Works before after [] × (after.keys ≡ before.keys)
-  Performs item before after (Err (undone.Book error)) = (part : ℕ) × IsPart item part × Works before after (deletions (take part (by_id before.keys)))
+  Performs item before after (Ok done) = (new : ℕ) × IsKnown before.keys item × Works before.desk after.desk before.swept after.swept (does before.keys new item)
+      × (after.keys ≡ leaves before.keys new item)
+  Performs item before after (Err (undone.UnknownKey key)) = IsUnknown before.keys item key × Works before.desk after.desk before.swept after.swept [] × (after.keys ≡ before.keys)
+  Performs item before after (Err (undone.Book error)) = (part : ℕ) × IsPart item part
+      × Works before.desk after.desk before.swept after.swept (deletions (take part (by_id before.keys)))
       × (after.keys ≡ without_all (take part (by_id before.keys)) before.keys) × Refuses after.desk (does_not before.keys part item) error

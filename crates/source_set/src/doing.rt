@@ -1,22 +1,19 @@
 //! An item of a source, done at a desk.
 
-ghost use Rattle.std.specs.Prelude.{◌≡◌, true, Ok, IfOk};
+ghost use Rattle.std.specs.Prelude.{◌≡◌, None, Some, true};
 ghost use Rattle.wire_base.specs.Stamp.{IsStamp};
-ghost use Rattle.source_set.specs.Doing.{Performs};
-ghost use Rattle.source_set.specs.Keys.{by_id};
-ghost use Rattle.source_set.specs.declared.doing.Undone.TheVariants as undone;
+ghost use Rattle.collector_core.specs.Desks.{alters_not, deletes_not};
+ghost use Rattle.source_set.specs.Deeds.{Alters, Deletes};
+ghost use Rattle.source_set.specs.Doing.{CreatesOne, Once, Performs};
+ghost use Rattle.source_set.specs.Keys.{id_at};
 ghost use Rattle.source_set.specs.declared.told.Told.TheVariants as told;
 
+use crate::keys::Keys;
 use crate::swept::Swept;
 use crate::told::Told;
 use collector_core::{BookError, Desk};
-use std::alloc::{AllocError, Global};
-use std::collections::BTreeMap;
-use std::collections::btree_map::Entry;
+use std::alloc::Global;
 use swima_model::Content;
-
-/// The record of each key that a source added and that is not gone, by its identifier.
-pub type Keys = BTreeMap<u32, u32>;
 
 /// Why an item was not done.
 #[derive(Clone, Copy, Debug, PartialEq, Eq)]
@@ -30,14 +27,6 @@ pub enum Undone {
     Book(BookError),
 }
 
-impl From<BookError> for Undone {
-    ghost from_gives = { λ error e. e ≡ undone.Book error };
-
-    fn from(refused: BookError) -> Self {
-        Undone::Book(refused)
-    }
-}
-
 /// Does an item of a source that holds these keys.
 pub fn perform<D: Desk>(
     alloc: Global,
@@ -49,20 +38,32 @@ pub fn perform<D: Desk>(
 ) -> Result<(), Undone>
     requires takes { D.takes desk.old ≡ true }
     requires stamp { IsStamp stamp.now }
-    ensures performed { Performs D.stands D.went stamp.now item.now (record { keys = keys.old.entries; desk = desk.old; swept = swept.old }) (record { keys = keys.new.entries; desk = desk.new; swept = swept.new }) result }
+    ensures performed { Performs D.stands D.went stamp.now item.now (record { keys = keys.old; desk = desk.old; swept = swept.old }) (record { keys = keys.new; desk = desk.new; swept = swept.new }) result }
     ensures takes { D.takes desk.new ≡ true }
 {
     match item {
-        Told::Add { key, content } => add(keys, desk, stamp, *key, content, swept),
-        Told::Change { key, content } => change(keys, desk, stamp, *key, content, swept),
-        Told::Gone { key } => remove(keys, desk, stamp, *key, swept),
+        Told::Add { key, content } => match keys.id_at(*key) {
+            Some(id) => alter(desk, stamp, id, content, swept),
+            None => add(keys, desk, stamp, *key, content, swept),
+        },
+        Told::Change { key, content } => match keys.id_at(*key) {
+            Some(id) => alter(desk, stamp, id, content, swept),
+            None => Err(Undone::UnknownKey { key: *key }),
+        },
+        Told::Gone { key } => match keys.id_at(*key) {
+            Some(id) => remove(keys, desk, stamp, *key, id, swept),
+            None => Err(Undone::UnknownKey { key: *key }),
+        },
         Told::Ended => remove_all(alloc, keys, desk, stamp, swept),
-        _ => Ok(()),
+        Told::Bad { .. } => Ok(()),
+        Told::Quiet => Ok(()),
+        Told::Failed => Ok(()),
+        Told::Memory => Ok(()),
     }
 }
 
-/// Creates the record of a key, or replaces its content where there is one. The memory for the key
-/// is taken before the desk is changed.
+/// Creates the record of a key that is not held. The memory for the key is taken before the desk is
+/// changed.
 fn add<D: Desk>(
     keys: &mut Keys,
     desk: &mut D,
@@ -73,45 +74,82 @@ fn add<D: Desk>(
 ) -> Result<(), Undone>
     requires takes { D.takes desk.old ≡ true }
     requires stamp { IsStamp stamp.now }
-    ensures performed { Performs D.stands D.went stamp.now (told.Add key content.now) (record { keys = keys.old.entries; desk = desk.old; swept = swept.old }) (record { keys = keys.new.entries; desk = desk.new; swept = swept.new }) result }
+    requires absent { id_at key keys.old ≡ None }
+    ensures added { Performs D.stands D.went stamp.now (told.Add key content.now) (record { keys = keys.old; desk = desk.old; swept = swept.old }) (record { keys = keys.new; desk = desk.new; swept = swept.new }) result }
     ensures takes { D.takes desk.new ≡ true }
 {
-    match keys.entry(key) {
-        Ok(Entry::Occupied(held)) => {
-            desk.alter(stamp, *held.get(), content)?;
-            swept.changed = swept.changed.saturating_add(1);
-            Ok(())
-        }
-        Ok(Entry::Vacant(free)) => {
-            let id = desk.create(stamp, content)?;
-            free.insert(id);
-            swept.added = swept.added.saturating_add(1);
-            Ok(())
-        }
+    match keys.hold(key) {
         Err(_) => Err(Undone::Book(BookError::Memory)),
+        Ok(()) => match create(desk, stamp, content, swept) {
+            Ok(id) => {
+                keys.set(key, id);
+                Ok(())
+            }
+            Err(refused) => {
+                keys.remove(key);
+                Err(Undone::Book(refused))
+            }
+        },
     }
 }
 
-/// Replaces the content of the record of a key.
-fn change<D: Desk>(
-    keys: &mut Keys,
+/// Creates a record.
+fn create<D: Desk>(
     desk: &mut D,
     stamp: &[u8; 20],
-    key: u32,
+    content: &Content,
+    swept: &mut Swept,
+) -> Result<u32, BookError>
+    requires takes { D.takes desk.old ≡ true }
+    requires stamp { IsStamp stamp.now }
+    ensures created { CreatesOne D.stands D.went stamp.now content.now desk.old desk.new swept.old swept.new result }
+    ensures takes { D.takes desk.new ≡ true }
+{
+    match desk.create(stamp, content) {
+        Ok(id) => {
+            swept.added = swept.added.saturating_add(1);
+            Ok(id)
+        }
+        Err(refused) => Err(refused),
+    }
+}
+
+/// Replaces the content of a record.
+fn alter<D: Desk>(
+    desk: &mut D,
+    stamp: &[u8; 20],
+    id: u32,
     content: &Content,
     swept: &mut Swept,
 ) -> Result<(), Undone>
     requires takes { D.takes desk.old ≡ true }
     requires stamp { IsStamp stamp.now }
-    ensures performed { Performs D.stands D.went stamp.now (told.Change key content.now) (record { keys = keys.old.entries; desk = desk.old; swept = swept.old }) (record { keys = keys.new.entries; desk = desk.new; swept = swept.new }) result }
+    ensures altered { Once D.stands D.went stamp.now (Alters id content.now) (alters_not id content.now) desk.old desk.new swept.old swept.new result }
     ensures takes { D.takes desk.new ≡ true }
 {
-    let Some(id) = keys.get(&key) else {
-        return Err(Undone::UnknownKey { key });
-    };
-    desk.alter(stamp, *id, content)?;
-    swept.changed = swept.changed.saturating_add(1);
-    Ok(())
+    match desk.alter(stamp, id, content) {
+        Ok(()) => {
+            swept.changed = swept.changed.saturating_add(1);
+            Ok(())
+        }
+        Err(refused) => Err(Undone::Book(refused)),
+    }
+}
+
+/// Deletes a record.
+fn delete<D: Desk>(desk: &mut D, stamp: &[u8; 20], id: u32, swept: &mut Swept) -> Result<(), Undone>
+    requires takes { D.takes desk.old ≡ true }
+    requires stamp { IsStamp stamp.now }
+    ensures deleted { Once D.stands D.went stamp.now (Deletes id) (deletes_not id) desk.old desk.new swept.old swept.new result }
+    ensures takes { D.takes desk.new ≡ true }
+{
+    match desk.delete(stamp, id) {
+        Ok(()) => {
+            swept.gone = swept.gone.saturating_add(1);
+            Ok(())
+        }
+        Err(refused) => Err(Undone::Book(refused)),
+    }
 }
 
 /// Deletes the record of a key.
@@ -120,20 +158,22 @@ fn remove<D: Desk>(
     desk: &mut D,
     stamp: &[u8; 20],
     key: u32,
+    id: u32,
     swept: &mut Swept,
 ) -> Result<(), Undone>
     requires takes { D.takes desk.old ≡ true }
     requires stamp { IsStamp stamp.now }
-    ensures performed { Performs D.stands D.went stamp.now (told.Gone key) (record { keys = keys.old.entries; desk = desk.old; swept = swept.old }) (record { keys = keys.new.entries; desk = desk.new; swept = swept.new }) result }
+    requires held { id_at key keys.old ≡ Some id }
+    ensures removed { Performs D.stands D.went stamp.now (told.Gone key) (record { keys = keys.old; desk = desk.old; swept = swept.old }) (record { keys = keys.new; desk = desk.new; swept = swept.new }) result }
     ensures takes { D.takes desk.new ≡ true }
 {
-    let Some(id) = keys.get(&key) else {
-        return Err(Undone::UnknownKey { key });
-    };
-    desk.delete(stamp, *id)?;
-    keys.remove(&key);
-    swept.gone = swept.gone.saturating_add(1);
-    Ok(())
+    match delete(desk, stamp, id, swept) {
+        Ok(()) => {
+            keys.remove(key);
+            Ok(())
+        }
+        Err(undone) => Err(undone),
+    }
 }
 
 /// Deletes the records of all keys, in order of identifier.
@@ -146,29 +186,18 @@ fn remove_all<D: Desk>(
 ) -> Result<(), Undone>
     requires takes { D.takes desk.old ≡ true }
     requires stamp { IsStamp stamp.now }
-    ensures performed { Performs D.stands D.went stamp.now told.Ended (record { keys = keys.old.entries; desk = desk.old; swept = swept.old }) (record { keys = keys.new.entries; desk = desk.new; swept = swept.new }) result }
+    ensures removed { Performs D.stands D.went stamp.now told.Ended (record { keys = keys.old; desk = desk.old; swept = swept.old }) (record { keys = keys.new; desk = desk.new; swept = swept.new }) result }
     ensures takes { D.takes desk.new ≡ true }
 {
-    let Ok(held) = in_order(alloc, keys) else {
+    let Ok(order) = keys.by_id(alloc) else {
         return Err(Undone::Book(BookError::Memory));
     };
-    for (key, id) in held.as_slice() {
-        desk.delete(stamp, *id)?;
-        keys.remove(key);
-        swept.gone = swept.gone.saturating_add(1);
+    for held in order.as_slice() {
+        match delete(desk, stamp, held.1, swept) {
+            Ok(()) => keys.remove(held.0),
+            Err(undone) => return Err(undone),
+        }
     }
     keys.clear();
     Ok(())
-}
-
-/// The keys and the identifiers of their records, in order of identifier.
-fn in_order(alloc: Global, keys: &Keys) -> Result<Vec<(u32, u32)>, AllocError>
-    ensures order { IfOk result (λ held. held.items ≡ by_id keys.now.entries) }
-{
-    let mut held = Vec::with_capacity(alloc, keys.len())?;
-    for (key, id) in keys {
-        held.push((*key, *id))?;
-    }
-    held.sort_by_key(|entry| entry.1)?;
-    Ok(held)
 }

@@ -8,6 +8,7 @@
 #![tactic(auto)]
 
 mod doing;
+mod keys;
 mod line_buffer;
 mod line_item;
 mod line_source;

@@ -40,7 +40,6 @@ pub enum Front {
 
 impl Model for LineBuffer {
     ghost use Rattle.std.specs.Prelude.{◌≤◌, ◌+◌, ◌-◌, drop, length, vec_capacity, vec_len};
-    
     ghost use Rattle.source_set.specs.Lines.{BufferView, before_feed};
 
     ghost Value = { BufferView };
@@ -48,8 +47,8 @@ impl Model for LineBuffer {
     ghost view = { λ buffer. record { held = drop buffer.place buffer.octets.items; number = buffer.number; room = vec_capacity buffer.octets - vec_len buffer.octets } };
 
     ghost invariant = { λ buffer. (buffer.place ≤ buffer.searched) × (buffer.searched ≤ length buffer.octets.items)
-      × (buffer.searched ≤ buffer.place + before_feed (drop buffer.place buffer.octets.items))
-      × (buffer.searched ≤ buffer.place + 4194304) };
+        × (buffer.searched ≤ buffer.place + before_feed (drop buffer.place buffer.octets.items))
+        × (buffer.searched ≤ buffer.place + 4194304) };
 }
 
 impl LineBuffer {

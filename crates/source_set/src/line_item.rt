@@ -77,12 +77,7 @@ fn of_tag(alloc: Global, words: Words<'_>) -> Result<Option<Keyed>, Memory>
 }
 
 /// What the words of a key, of a locator and of a tag's octets say.
-fn tagged(
-    alloc: Global,
-    key: &[u8],
-    locator: &[u8],
-    digits: &[u8],
-) -> Result<Option<Keyed>, Memory>
+fn tagged(alloc: Global, key: &[u8], locator: &[u8], digits: &[u8]) -> Result<Option<Keyed>, Memory>
     ensures tag { Finds (AreTagged key.now locator.now digits.now) result }
 {
     let Some(key) = read_key(key) else {

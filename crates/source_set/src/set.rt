@@ -6,7 +6,8 @@ ghost use Rattle.wire_base.specs.Stamp.{IsStamp};
 ghost use Rattle.source_set.specs.Asking.{Hears, Tries, asked_failed, left_by, numbered, sweep_failed, without_item};
 ghost use Rattle.source_set.specs.Deeds.{count, gives_up};
 
-use crate::doing::{Keys, Undone, perform};
+use crate::doing::{Undone, perform};
+use crate::keys::Keys;
 use crate::swept::{SweepError, Swept};
 use crate::told::{TagSource, Told};
 use collector_core::{BookError, Desk};
@@ -48,10 +49,7 @@ struct Stop {
 
 impl SourceSet {
     /// The set of these sources, which hold no key yet.
-    pub fn new(
-        alloc: Global,
-        sources: Vec<Box<dyn TagSource + Send>>,
-    ) -> Result<SourceSet, Memory>
+    pub fn new(alloc: Global, sources: Vec<Box<dyn TagSource + Send>>) -> Result<SourceSet, Memory>
         requires few { length sources.items ≤ 255 }
     {
         let mut seats = Vec::with_capacity(alloc, sources.len())?;
@@ -170,7 +168,7 @@ fn hear<D: Desk>(
 ) -> Result<bool, Stop>
     requires takes { D.takes desk.old ≡ true }
     requires stamp { IsStamp stamp.now }
-    ensures heard { Hears D.stands D.went stamp.now told number (record { source = seat.old.source; place = record { keys = seat.old.keys.entries; desk = desk.old; swept = swept.old } }) (record { source = seat.new.source; place = record { keys = seat.new.keys.entries; desk = desk.new; swept = swept.new } }) result }
+    ensures heard { Hears D.stands D.went stamp.now told number (record { source = seat.old.source; place = record { keys = seat.old.keys; desk = desk.old; swept = swept.old } }) (record { source = seat.new.source; place = record { keys = seat.new.keys; desk = desk.new; swept = swept.new } }) result }
     ensures takes { D.takes desk.new ≡ true }
 {
     match told {
@@ -206,7 +204,7 @@ fn do_item<D: Desk>(
 ) -> Result<(), Stop>
     requires takes { D.takes desk.old ≡ true }
     requires stamp { IsStamp stamp.now }
-    ensures tried { Tries D.stands D.went stamp.now item number (record { source = seat.old.source; place = record { keys = seat.old.keys.entries; desk = desk.old; swept = swept.old } }) (record { source = seat.new.source; place = record { keys = seat.new.keys.entries; desk = desk.new; swept = swept.new } }) result }
+    ensures tried { Tries D.stands D.went stamp.now item number (record { source = seat.old.source; place = record { keys = seat.old.keys; desk = desk.old; swept = swept.old } }) (record { source = seat.new.source; place = record { keys = seat.new.keys; desk = desk.new; swept = swept.new } }) result }
     ensures takes { D.takes desk.new ≡ true }
 {
     match perform(alloc, &mut seat.keys, desk, stamp, &item, swept) {
