@@ -21,10 +21,12 @@ follows_more items (first ∷ run) between later item run-on tells = (run-on.0, 
 
 pub deeds_more : (keys : List Held) (dones : List Done) (done : Done)
     → deeds keys (dones ++ done ∷ []) ≡ deeds keys dones ++ (does (keys_after keys dones) done.id done.item ++ gives_up done.item)
-deeds_more keys [] done = append-nil _
+deeds_more keys [] done = append-nil (does keys done.id done.item ++ gives_up done.item)
 deeds_more keys (first ∷ dones) done =
-    ap (λ (ds : List Deed). (does keys first.id first.item ++ gives_up first.item) ++ ds) (deeds_more (leaves keys first.id first.item) dones done)
-    ∙ sym (append_assoc _ _ _)
+    let one = does keys first.id first.item ++ gives_up first.item in
+    let left = leaves keys first.id first.item in
+    ap (λ (ds : List Deed). one ++ ds) (deeds_more left dones done)
+    ∙ sym (append_assoc one (deeds left dones) (does (keys_after left dones) done.id done.item ++ gives_up done.item))
 
 pub keys_more : (keys : List Held) (dones : List Done) (done : Done) → keys_after keys (dones ++ done ∷ []) ≡ leaves (keys_after keys dones) done.id done.item
 keys_more keys [] done = refl

@@ -25,7 +25,10 @@ one_key word one other a b = (decimal_or_fault word).one_value one other a b
 pub one_text : (limit : ℕ) (word one other : List ℕ) → IsText limit word one → IsText limit word other → one ≡ other
 one_text limit word one other a b = (escaped_or_fault word).one_value one other (a.octets, a.is) (b.octets, b.is)
 
-ok_same : {E : Type 0} (xs ys : List ℕ) → Ok {T = List ℕ} {E = E} xs ≡ Ok ys → xs ≡ ys
+abbrev decoded : (E : Type 0) → List ℕ → Result (List ℕ) E
+decoded E octets = Ok octets
+
+ok_same : {E : Type 0} (xs ys : List ℕ) → decoded E xs ≡ decoded E ys → xs ≡ ys
 ok_same xs ys e = cc
 
 pub one_hex : (word one other : List ℕ) → IsHex word one → IsHex word other → one ≡ other

@@ -28,6 +28,10 @@ pub count_joins : (swept : Swept) (xs ys : List Deed) → count swept (xs ++ ys)
 count_joins swept [] ys = refl
 count_joins swept (x ∷ xs) ys = count_joins (counted swept x) xs ys
 
+-- A refusal, of any call.
+abbrev pub failed : (T : Type 0) → BookError → Result T BookError
+failed T error = Err error
+
 -- ---- at any desk
 
 module _ {D : Type 0} (stands : D → Chronicle → Type 0) (went : D → List Mark → D → Type 0) (stamp : List ℕ)
@@ -67,7 +71,7 @@ module _ {D : Type 0} (stands : D → Chronicle → Type 0) (went : D → List M
 
   -- A change that it refused.
   others_went : {T : Type 0} (says : T → State → Entry → Type 0) (refusal : State → Option BookError) (before after : D) (others : List Mark) (error : BookError)
-      → Does stands went says refusal before others after (Err {T = T} error) → went before others after
+      → Does stands went says refusal before others after (failed T error) → went before others after
   others_went says refusal before after others (refused.EidsSpent last) done = done.0
   others_went says refusal before after others (refused.IdsSpent next) done = done.0
   others_went says refusal before after others (refused.UnknownRecord id) done = done.0
@@ -78,7 +82,7 @@ module _ {D : Type 0} (stands : D → Chronicle → Type 0) (went : D → List M
   others_went says refusal before after others refused.Memory done = done.0
 
   pub works_refused : {T : Type 0} (says : T → State → Entry → Type 0) (refusal : State → Option BookError) (before after : D) (swept : Swept) (error : BookError)
-      → Edits stands went says refusal before after (Err {T = T} error) → Works stands went stamp before after swept swept []
+      → Edits stands went says refusal before after (failed T error) → Works stands went stamp before after swept swept []
   works_refused says refusal before after swept error edited = record {
     marks = edited.others;
     grows = others_went says refusal before after edited.others error edited.done;
@@ -87,7 +91,7 @@ module _ {D : Type 0} (stands : D → Chronicle → Type 0) (went : D → List M
   }
 
   refuses_as : {T : Type 0} (says : T → State → Entry → Type 0) (refusal : State → Option BookError) (before after : D) (others : List Mark) (some : (chronicle : Chronicle) × stands before chronicle) (error : BookError)
-      → Does stands went says refusal before others after (Err {T = T} error) → Refuses stands went stamp after refusal error
+      → Does stands went says refusal before others after (failed T error) → Refuses stands went stamp after refusal error
   refuses_as says refusal before after others some (refused.EidsSpent last) done = (extended some.0 (entries others), carries before after others some.0 done.0 some.1, done.1 some.0 some.1)
   refuses_as says refusal before after others some (refused.IdsSpent next) done = (extended some.0 (entries others), carries before after others some.0 done.0 some.1, done.1 some.0 some.1)
   refuses_as says refusal before after others some (refused.UnknownRecord id) done = (extended some.0 (entries others), carries before after others some.0 done.0 some.1, done.1 some.0 some.1)
@@ -98,7 +102,7 @@ module _ {D : Type 0} (stands : D → Chronicle → Type 0) (went : D → List M
   refuses_as says refusal before after others some refused.Memory done = tt
 
   pub refuses : {T : Type 0} (says : T → State → Entry → Type 0) (refusal : State → Option BookError) (before after : D) (error : BookError)
-      → Edits stands went says refusal before after (Err {T = T} error) → Refuses stands went stamp after refusal error
+      → Edits stands went says refusal before after (failed T error) → Refuses stands went stamp after refusal error
   refuses says refusal before after error edited = refuses_as says refusal before after edited.others edited.some error edited.done
 
   -- Whether a desk takes changes stays as it is.

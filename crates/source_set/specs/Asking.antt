@@ -80,7 +80,7 @@ module _ {B D : Type 0} (stands : D → Chronicle → Type 0) (went : D → List
   -- The item was not done, for this reason.
   pub record Refused (item : Told) (number : ℕ) (before after : Stand B D) (stop : Stop) : Type 0 where
     pub why : Undone
-    pub stop : stop ≡ stop_of number item why
+    pub is : stop ≡ stop_of number item why
     pub undone : Performs stands went stamp item before.place after.place (Err why)
     pub source : after.source ≡ before.source
 

@@ -192,7 +192,8 @@ fn remove_all<D: Desk>(
     let Ok(order) = keys.by_id(alloc) else {
         return Err(Undone::Book(BookError::Memory));
     };
-    for held in order.as_slice() {
+    let all = order.as_slice();
+    for held in all {
         match delete(desk, stamp, held.1, swept) {
             Ok(()) => keys.remove(held.0),
             Err(undone) => return Err(undone),

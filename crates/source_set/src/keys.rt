@@ -84,11 +84,19 @@ impl Keys {
     pub fn by_id(&self, alloc: Global) -> Result<List<(u32, u32)>, Memory>
         ensures order { IfOk result (λ held. held ≡ by_id self.now) }
     {
-        let mut held = Vec::with_capacity(alloc, self.ids.len())?;
-        for (key, id) in &self.ids {
-            held.push((*key, *id))?;
-        }
+        let mut held = entries_of(alloc, &self.ids)?;
         held.sort_by_key(|entry| entry.1)?;
         Ok(List::from_vec(held))
     }
+}
+
+/// The entries of a map, in order of key.
+fn entries_of(alloc: Global, ids: &BTreeMap<u32, u32>) -> Result<Vec<(u32, u32)>, Memory>
+    ensures entries { IfOk result (λ held. held.items ≡ ids.now.entries) }
+{
+    let mut held = Vec::with_capacity(alloc, ids.len())?;
+    for (key, id) in ids {
+        held.push((*key, *id))?;
+    }
+    Ok(held)
 }

@@ -34,15 +34,19 @@ impl<'a> Words<'a> {
     pub fn next(&mut self) -> Option<&'a [u8]>
         ensures word { MatchOption result ((self.old ≡ []) × (self.new ≡ [])) (λ word. self.old ≡ word.now ∷ self.new) }
     {
-        let rest = self.rest?;
+        let Some(rest) = self.rest else {
+            return None;
+        };
         match memchr(b' ', rest) {
             None => {
                 self.rest = None;
                 Some(rest)
             }
             Some(place) => {
-                self.rest = Some(&rest[place + 1..]);
-                Some(&rest[..place])
+                let (word, _) = rest.split_at(place);
+                let (_, others) = rest.split_at(place + 1);
+                self.rest = Some(others);
+                Some(word)
             }
         }
     }
