@@ -2,15 +2,17 @@
 use Rattle.std.proofs.Common.{◌≡◌, ℕ, List, [], ◌∷◌, ◌++◌, Option, None, Some, refl, sym, ap, ◌∙◌, subst, append_assoc}
 use Rattle.std.specs.Prelude.{map}
 use Rattle.std.proofs.lemmas.List.{append-nil, map-append}
+use Rattle.std.proofs.lemmas.Option.{none-some}
 use Rattle.collector_core.specs.declared.chronicle.Mark.{Mark}
 use Rattle.collector_core.specs.Chronicle.{Chronicle, extended}
 use Rattle.collector_core.specs.Desks.{entries}
-use Rattle.source_set.specs.Asking.{AreDone, Asked, Does, Follows, IsItem, IsLeft, Ran, Stand, items_of, numbered}
+use Rattle.source_set.specs.Asking.{AreDone, Asked, Does, Follows, IsItem, IsLeft, Ran, Stand, items_of, left_by, numbered}
 use Rattle.source_set.specs.Deeds.{Deed, Done, deeds, does, gives_up, keys_after, leaves}
 use Rattle.source_set.specs.Doing.{Place, Works}
-use Rattle.source_set.specs.Items.{Tells}
+use Rattle.source_set.specs.Items.{Gave, Reported, Tells}
 use Rattle.source_set.specs.Keys.{Held}
 use Rattle.source_set.specs.declared.told.Told.{Told}
+use Rattle.source_set.specs.declared.told.Told.TheVariants as told
 use Rattle.source_set.proofs.Working.{works_more, works_none}
 
 -- ---- lists
@@ -35,3 +37,75 @@ keys_more keys (first ∷ dones) done = keys_more (leaves keys first.id first.it
 are_done_more : (run : List Told) (item : Told) → AreDone run → IsItem item → AreDone (run ++ item ∷ [])
 are_done_more [] item all is = (is, tt)
 are_done_more (first ∷ run) item all is = (all.0, are_done_more run item all.1 is)
+
+module _ {B D : Type 0} (reports : B → List Told → Type 0) (stands : D → Chronicle → Type 0) (went : D → List Mark → D → Type 0) (stamp : List ℕ)
+    (stays : (desk : D) → went desk [] desk)
+    (follows : (one two three : D) (first second : List Mark) → went one first two → went two second three → went one (first ++ second) three)
+    (carries : (before after : D) (marks : List Mark) (chronicle : Chronicle) → went before marks after → stands before chronicle → stands after (extended chronicle (entries marks))) where
+  ran_none : (source : Option B) → Ran reports stands went stamp source [] source
+  ran_none None = (refl, refl)
+  ran_none (Some source) = λ items left. (items, refl, left)
+
+  -- Nothing was asked yet.
+  pub asked_none : (number : ℕ) (stand : Stand B D) → Asked reports stands went stamp number stand stand [] []
+  asked_none number stand = record {
+    ran = ran_none stand.source;
+    are = refl;
+    done = tt;
+    works = works_none stands went stamp stays follows carries stand.place.desk stand.place.swept;
+    keys = refl;
+  }
+
+  -- What is done is no failure, so the source says which item it was.
+  gave : (number : ℕ) (source onward : B) (item : Told) → IsItem (numbered number item) → Reported reports source item onward → Gave reports source item onward
+  gave number source onward (told.Add key content) is gives = gives
+  gave number source onward (told.Change key content) is gives = gives
+  gave number source onward (told.Gone key) is gives = gives
+  gave number source onward (told.Bad line) is gives = absurd is
+  gave number source onward told.Quiet is gives = absurd is
+  gave number source onward told.Ended is gives = gives
+  gave number source onward told.Failed is gives = absurd is
+  gave number source onward told.Memory is gives = absurd is
+
+  left_after : (number : ℕ) (onward : B) (item : Told) (later : List Told) → reports onward later → IsLeft reports stands went stamp (left_by (numbered number item) (Some onward)) later
+  left_after number onward (told.Add key content) later left = left
+  left_after number onward (told.Change key content) later left = left
+  left_after number onward (told.Gone key) later left = left
+  left_after number onward (told.Bad line) later left = left
+  left_after number onward told.Quiet later left = left
+  left_after number onward told.Ended later left = tt
+  left_after number onward told.Failed later left = left
+  left_after number onward told.Memory later left = left
+
+  ran_more : (number : ℕ) (before middle after : Option B) (run : List Told) (item : Told) (source onward : B) → Ran reports stands went stamp before run middle → middle ≡ Some source
+      → Gave reports source item onward → after ≡ left_by (numbered number item) (Some onward) → Ran reports stands went stamp before (run ++ item ∷ []) after
+  ran_more number None middle after run item source onward ran is gives left = absurd (none-some source (sym ran.1 ∙ is))
+  ran_more number (Some first) middle after run item source onward ran is gives left = λ items reported.
+      let so-far = ran items reported in
+      let one = gives so-far.0 (subst (λ (o : Option B). IsLeft reports stands went stamp o so-far.0) is so-far.2) in (
+        one.0,
+        follows_more items run so-far.0 one.0 item so-far.1 one.1,
+        subst (λ (o : Option B). IsLeft reports stands went stamp o one.0) (sym left) (left_after number onward item one.0 one.2),
+      )
+
+  -- One item more was reported and done.
+  pub asked_more : (number : ℕ) (before middle after : Stand B D) (run : List Told) (dones : List Done) (source onward : B) (item : Told) → Asked reports stands went stamp number before middle run dones
+      → middle.source ≡ Some source → Reported reports source item onward → IsItem (numbered number item) → (done : Does stands went stamp (numbered number item) (record middle { source = Some onward }) after)
+      → Asked reports stands went stamp number before after (run ++ item ∷ []) (dones ++ record { item = numbered number item; id = done.new } ∷ [])
+  asked_more number before middle after run dones source onward item asked is gives takes done =
+      let one : Done = record { item = numbered number item; id = done.new } in
+      let keys = before.place.keys in
+      record {
+        ran = ran_more number before.source middle.source after.source run item source onward asked.ran is (gave number source onward item takes gives) done.source;
+        are =
+            map-append (λ (d : Done). d.item) dones (one ∷ []) ∙ ap (λ (items : List Told). items ++ numbered number item ∷ []) asked.are
+            ∙ sym (map-append (numbered number) run (item ∷ []));
+        done = subst AreDone (sym (map-append (λ (d : Done). d.item) dones (one ∷ []))) (are_done_more (items_of dones) (numbered number item) asked.done takes);
+        works =
+            subst (Works stands went stamp before.place.desk after.place.desk before.place.swept after.place.swept) (sym (deeds_more keys dones one))
+            (works_more stands went stamp stays follows carries before.place.desk middle.place.desk after.place.desk before.place.swept middle.place.swept after.place.swept (deeds keys dones)
+            (does (keys_after keys dones) done.new (numbered number item) ++ gives_up (numbered number item)) asked.works
+            (subst (λ (ks : List Held). Works stands went stamp middle.place.desk after.place.desk middle.place.swept after.place.swept (does ks done.new (numbered number item) ++ gives_up (numbered number item)))
+            asked.keys done.works));
+        keys = done.keys ∙ ap (λ (ks : List Held). leaves ks done.new (numbered number item)) asked.keys ∙ sym (keys_more keys dones one);
+      }

@@ -23,7 +23,7 @@ pub one_key : (word : List ℕ) (one other : ℕ) → Spells decimal IsU32 word 
 one_key word one other a b = (decimal_or_fault word).one_value one other a b
 
 pub one_text : (limit : ℕ) (word one other : List ℕ) → IsText limit word one → IsText limit word other → one ≡ other
-one_text limit word one other a b = (escaped_or_fault word).one_value one other (a.octets, a.is) (b.octets, b.is)
+one_text limit word one other a b = (escaped_or_fault word).one_value one other (a.are, a.is) (b.are, b.is)
 
 abbrev decoded : (E : Type 0) → List ℕ → Result (List ℕ) E
 decoded E octets = Ok octets
@@ -62,11 +62,11 @@ pub finds_text : (limit : ℕ) (word octets : List ℕ) (result : Result (Option
 finds_text limit word octets result spelled found =
     finds_by (IsWithin limit octets) (IsText limit word) result
     (λ made is. record {
-      octets = subst AreOctets (sym is.is) spelled.0;
+      are = subst AreOctets (sym is.is) spelled.0;
       is = ap escaped is.is ∙ spelled.1;
       within = omega (arith, ap (λ (o : List ℕ). length o) is.is, is.within);
     })
     (λ made is.
-    let same = (escaped_or_fault word).one_value made octets (is.octets, is.is) spelled in
+    let same = (escaped_or_fault word).one_value made octets (is.are, is.is) spelled in
     record { is = same; within = omega (arith, ap (λ (o : List ℕ). length o) same, is.within) })
     found

@@ -8,3 +8,4 @@ pub mod Working
 pub mod KeyLaws
 pub mod Performing
 pub mod Asked
+pub mod Hearing

@@ -32,8 +32,8 @@ line_first : (number : ℕ) (octets more : List ℕ) (item first : Told) (others
 line_first number octets more item first others rest less short is (inl line) =
     let same = feed_short octets more less in
     let front = ap (λ (n : ℕ). take n (octets ++ more)) same ∙ take-append-le (before_feed octets) octets more (omega (arith, less)) in (
-      one_item number (take (before_feed octets) octets) item first is (subst (λ (o : List ℕ). IsItem number o first) front line.item),
-      line.rest ∙ ap (λ (n : ℕ). drop (n + 1) (octets ++ more)) same ∙ drop-append-le (before_feed octets + 1) octets more (omega (arith, less)),
+      one_item number (take (before_feed octets) octets) item first is (subst (λ (o : List ℕ). IsItem number o first) front line.says),
+      line.leaves ∙ ap (λ (n : ℕ). drop (n + 1) (octets ++ more)) same ∙ drop-append-le (before_feed octets + 1) octets more (omega (arith, less)),
     )
 line_first number octets more item first others rest less short is (inr long) = absurd (omega (arith, long.long, short, feed_short octets more less))
 
@@ -50,7 +50,7 @@ line_comes number octets more item (first ∷ others) less short is are =
 long_first : (number : ℕ) (octets more : List ℕ) (first : Told) (rest : List ℕ) → MOST_OCTETS < before_feed octets
     → BeginsLine number (octets ++ more) first rest ⊎ BeginsLong number (octets ++ more) first rest → (told.Bad number ≡ first) × (rest ≡ drop MOST_OCTETS octets ++ more)
 long_first number octets more first rest long (inl line) = absurd (omega (arith, line.short, long, feed_more octets more))
-long_first number octets more first rest long (inr bad) = (sym bad.item, bad.rest ∙ drop-append-le MOST_OCTETS octets more (omega (arith, long, feed_le octets)))
+long_first number octets more first rest long (inr bad) = (sym bad.bad, bad.leaves ∙ drop-append-le MOST_OCTETS octets more (omega (arith, long, feed_le octets)))
 
 pub long_comes : (number : ℕ) (octets more : List ℕ) (items : List Told) → MOST_OCTETS < before_feed octets → AreItems number (octets ++ more) items
     → Comes number items (told.Bad number) (drop MOST_OCTETS octets ++ more)

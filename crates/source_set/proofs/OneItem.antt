@@ -25,21 +25,21 @@ one_tagged_of key locator digits one other a b =
     let octets = one_hex digits a.octets b.octets a.hex b.hex in
     let tag = one_package b.octets _ _ (subst (λ (o : List ℕ). IsPackage o (record { ident = one.content.ident; body = one.content.body })) octets a.tag) b.tag in
     record {
-      key = one_key key one.key other.key a.key b.key;
+      key = one_key key one.key other.key a.number b.number;
       content =
           content_same one.content other.content (a.model ∙ sym b.model) (a.source ∙ sym b.source) tag.0
-          (one_text 65535 locator one.content.locator other.content.locator a.locator b.locator) tag.1;
+          (one_text 65535 locator one.content.locator other.content.locator a.place b.place) tag.1;
     }
 
 one_described_of : (key ident locator digits : List ℕ) (one other : Keyed) → AreDescribed key ident locator digits one → AreDescribed key ident locator digits other → SameKeyed one other
 one_described_of key ident locator digits one other a b =
     let octets = one_hex digits a.octets b.octets a.hex b.hex in
     record {
-      key = one_key key one.key other.key a.key b.key;
+      key = one_key key one.key other.key a.number b.number;
       content =
           content_same one.content other.content (a.model ∙ sym b.model) (a.source ∙ sym b.source)
-          (one_text 65535 ident one.content.ident other.content.ident a.ident b.ident)
-          (one_text 65535 locator one.content.locator other.content.locator a.locator b.locator)
+          (one_text 65535 ident one.content.ident other.content.ident a.name b.name)
+          (one_text 65535 locator one.content.locator other.content.locator a.place b.place)
           (a.body.is ∙ octets ∙ sym b.body.is);
     }
 

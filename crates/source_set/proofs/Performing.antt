@@ -77,43 +77,36 @@ module _ {D : Type 0} (stands : D → Chronicle → Type 0) (went : D → List M
 
   -- ---- all keys
 
-  deletions_more : (order : List Held) (i : ℕ) (held : Held) → i < length order → held ≡ get_or order i held → deletions (take (i + 1) order) ≡ deletions (take i order) ++ Deletes held.1 ∷ []
-  deletions_more order i held less is =
-      ap deletions (take_more order i held less) ∙ map-append (λ (h : Held). Deletes h.1) (take i order) (get_or order i held ∷ [])
-      ∙ ap (λ (h : Held). deletions (take i order) ++ Deletes h.1 ∷ []) (sym is)
+  deletions_more : (order : List Held) (i : ℕ) (d : Held) → i < length order → deletions (take (i + 1) order) ≡ deletions (take i order) ++ Deletes (get_or order i d).1 ∷ []
+  deletions_more order i d less = ap deletions (take_more order i d less) ∙ map-append (λ (h : Held). Deletes h.1) (take i order) (get_or order i d ∷ [])
 
-  pub end_more : (order : List Held) (i : ℕ) (held : Held) (first before after : D) (swept between counts : Swept) → i < length order → held ≡ get_or order i held
-      → Works stands went stamp first before swept between (deletions (take i order)) → Works stands went stamp before after between counts (Deletes held.1 ∷ [])
+  pub end_more : (order : List Held) (i : ℕ) (d : Held) (first before after : D) (swept between counts : Swept) → i < length order
+      → Works stands went stamp first before swept between (deletions (take i order)) → Works stands went stamp before after between counts (Deletes (get_or order i d).1 ∷ [])
       → Works stands went stamp first after swept counts (deletions (take (i + 1) order))
-  end_more order i held first before after swept between counts less is so-far once =
-      subst (Works stands went stamp first after swept counts) (sym (deletions_more order i held less is))
-      (works_more stands went stamp stays follows carries first before after swept between counts (deletions (take i order)) (Deletes held.1 ∷ []) so-far once)
+  end_more order i d first before after swept between counts less so-far once =
+      subst (Works stands went stamp first after swept counts) (sym (deletions_more order i d less))
+      (works_more stands went stamp stays follows carries first before after swept between counts (deletions (take i order)) (Deletes (get_or order i d).1 ∷ []) so-far once)
 
   without_joins : (some more keys : List Held) → without_all (some ++ more) keys ≡ without_all more (without_all some keys)
   without_joins [] more keys = refl
   without_joins (h ∷ some) more keys = without_joins some more (without h.0 keys)
 
-  pub end_keys : (order keys : List Held) (i : ℕ) (held : Held) → i < length order → held ≡ get_or order i held → without_all (take (i + 1) order) keys ≡ without held.0 (without_all (take i order) keys)
-  end_keys order keys i held less is =
-      ap (λ (some : List Held). without_all some keys) (take_more order i held less)
-      ∙ without_joins (take i order) (get_or order i held ∷ []) keys
-      ∙ ap (λ (h : Held). without h.0 (without_all (take i order) keys)) (sym is)
+  pub end_keys : (order keys : List Held) (i : ℕ) (d : Held) → i < length order → without_all (take (i + 1) order) keys ≡ without (get_or order i d).0 (without_all (take i order) keys)
+  end_keys order keys i d less =
+      ap (λ (some : List Held). without_all some keys) (take_more order i d less) ∙ without_joins (take i order) (get_or order i d ∷ []) keys
 
-  drop_here : (order : List Held) (i : ℕ) (held : Held) → i < length order → held ≡ get_or order i held → (rest : List Held) × (drop i order ≡ held ∷ rest)
-  drop_here order i held less is = (drop (i + 1) order, drop_more order i held less ∙ ap (λ (h : Held). h ∷ drop (i + 1) order) (sym is))
-
-  pub end_refused : (order keys left : List Held) (i : ℕ) (held : Held) (first before after : D) (swept between counts : Swept) (why : Undone) → order ≡ by_id keys → i < length order
-      → held ≡ get_or order i held → left ≡ without_all (take i order) keys → Works stands went stamp first before swept between (deletions (take i order))
-      → Once stands went stamp (Deletes held.1) (deletes_not held.1) before after between counts (Err why)
+  pub end_refused : (order keys left : List Held) (i : ℕ) (d : Held) (first before after : D) (swept between counts : Swept) (why : Undone) → order ≡ by_id keys → i < length order
+      → left ≡ without_all (take i order) keys → Works stands went stamp first before swept between (deletions (take i order))
+      → Once stands went stamp (Deletes (get_or order i d).1) (deletes_not (get_or order i d).1) before after between counts (Err why)
       → Performs stands went stamp told.Ended (record { keys = keys; desk = first; swept = swept }) (record { keys = left; desk = after; swept = counts }) (Err why)
-  end_refused order keys left i held first before after swept between counts (undone.UnknownKey at) sorted less is gone so-far once = absurd once
-  end_refused order keys left i held first before after swept between counts (undone.Book error) sorted less is gone so-far once =
+  end_refused order keys left i d first before after swept between counts (undone.UnknownKey at) sorted less gone so-far once = absurd once
+  end_refused order keys left i d first before after swept between counts (undone.Book error) sorted less gone so-far once =
       let works = works_more stands went stamp stays follows carries first before after swept between counts (deletions (take i order)) [] so-far once.0 in
       let all = subst (Works stands went stamp first after swept counts) (append-nil (deletions (take i order))) works in
-      let here = drop_here order i held less is in (
+      let here : get_or order i d ∷ drop (i + 1) order ≡ drop i (by_id keys) = sym (drop_more order i d less) ∙ ap (λ (o : List Held). drop i o) sorted in (
         i,
         tt,
         subst (λ (o : List Held). Works stands went stamp first after swept counts (deletions (take i o))) sorted all,
         gone ∙ ap (λ (o : List Held). without_all (take i o) keys) sorted,
-        subst (λ (o : List Held). Refuses stands went stamp after (first_not o) error) (sym here.1 ∙ ap (drop i) sorted) once.1,
+        subst (λ (o : List Held). Refuses stands went stamp after (first_not o) error) here once.1,
       )

@@ -8,9 +8,11 @@ use Rattle.collector_core.specs.declared.error.BookError.TheVariants as refused
 use Rattle.collector_core.specs.Chronicle.{Chronicle, extended}
 use Rattle.collector_core.specs.Desks.{AreOthers, Does, Edits, State, entries, own_mark, owned, state_of}
 use Rattle.collector_core.proofs.Owning.{owned_joins, owned_none}
-use Rattle.source_set.specs.Deeds.{Alters, Creates, Deed, Deletes, GivesUp, Make, count, counted}
+use Rattle.source_set.specs.Deeds.{Alters, Creates, Deed, Deletes, GivesUp, Make, count, counted, gives_up}
 use Rattle.source_set.specs.Doing.{Refuses, Works}
 use Rattle.source_set.specs.declared.swept.Swept.{Swept}
+use Rattle.source_set.specs.declared.told.Told.{Told}
+use Rattle.source_set.specs.declared.told.Told.TheVariants as told
 
 -- ---- entries and counts
 
@@ -109,3 +111,17 @@ module _ {D : Type 0} (stands : D → Chronicle → Type 0) (went : D → List M
   pub takes_after : (takes : D → Bool) (keeps : (before after : D) (marks : List Mark) → went before marks after → takes after ≡ takes before) (before after : D) (swept counts : Swept) (deeds : List Deed)
       → Works stands went stamp before after swept counts deeds → takes before ≡ true → takes after ≡ true
   takes_after takes keeps before after swept counts deeds works is = keeps before after works.marks works.grows ∙ is
+
+  made_none : (item : Told) → Make stamp (gives_up item) []
+  made_none (told.Add key content) = refl
+  made_none (told.Change key content) = refl
+  made_none (told.Gone key) = refl
+  made_none (told.Bad line) = refl
+  made_none told.Quiet = refl
+  made_none told.Ended = refl
+  made_none told.Failed = refl
+  made_none told.Memory = refl
+
+  -- A source was given up, where its item is that it ended.
+  pub given_up : (item : Told) (desk : D) (swept counts : Swept) → counts ≡ count swept (gives_up item) → Works stands went stamp desk desk swept counts (gives_up item)
+  given_up item desk swept counts is = record { marks = []; grows = stays desk; made = made_none item; counted = is }

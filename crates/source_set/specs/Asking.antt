@@ -7,7 +7,7 @@ use Rattle.collector_core.specs.declared.error.BookError.TheVariants as refused
 use Rattle.collector_core.specs.Chronicle.{Chronicle}
 use Rattle.source_set.specs.Deeds.{Done, deeds, does, gives_up, keys_after, leaves}
 use Rattle.source_set.specs.Doing.{IsKnown, Performs, Place, Works}
-use Rattle.source_set.specs.Items.{Tells}
+use Rattle.source_set.specs.Items.{Gave, Reported, Tells}
 use Rattle.source_set.specs.Keys.{Held}
 use Rattle.source_set.specs.declared.doing.Undone.{Undone}
 use Rattle.source_set.specs.declared.doing.Undone.TheVariants as undone
@@ -61,6 +61,14 @@ IsItem (told.Change key content) = Unit {0}
 IsItem (told.Gone key) = Unit {0}
 IsItem told.Ended = Unit {0}
 IsItem other = ⊥
+
+-- What is answered of what is no item.
+abbrev pub NoItem : ℕ → Told → Result Bool Stop → Type 0
+NoItem number (told.Bad line) answer = answer ≡ Err (without_item (swept.BadLine number line))
+NoItem number told.Quiet answer = answer ≡ Ok false
+NoItem number told.Failed answer = answer ≡ Err (without_item (swept.SourceFailed number))
+NoItem number told.Memory answer = answer ≡ Err (without_item swept.Memory)
+NoItem number item answer = ⊥
 
 -- A source that ended is given up.
 abbrev pub left_by : {B : Type 0} → Told → Option B → Option B
@@ -139,3 +147,27 @@ module _ {B D : Type 0} (reports : B → List Told → Type 0) (stands : D → C
     pub done : AreDone (items_of dones)
     pub works : Works stands went stamp before.place.desk after.place.desk before.place.swept after.place.swept (deeds before.place.keys dones)
     pub keys : after.place.keys ≡ keys_after before.place.keys dones
+
+  -- It was asked once. It reported an item, which was done; or it is quiet, or was given up; or it
+  -- reported what stops it.
+  abbrev pub AsksOnce : ℕ → Stand B D → Stand B D → Result Bool Stop → Type 0
+  AsksOnce number before after (Ok true) = (source : B) × (onward : B) × (item : Told) × (before.source ≡ Some source) × Reported reports source item onward
+      × IsItem (numbered number item) × Does stands went stamp (numbered number item) (record before { source = Some onward }) after
+  AsksOnce number before after (Ok false) = ((before.source ≡ None) × (after ≡ before))
+      ⊎ ((source : B) × (onward : B) × (before.source ≡ Some source) × Gave reports source told.Quiet onward × (after ≡ record before { source = Some onward }))
+  AsksOnce number before after (Err stop) = (source : B) × (onward : B) × (item : Told) × (before.source ≡ Some source) × Reported reports source item onward
+      × Stops stands went stamp (numbered number item) number (record before { source = Some onward }) after stop
+
+  -- Asking it went no further: it was asked for as many items as may be, or once more, and then is
+  -- quiet, was given up, or stops.
+  abbrev pub Ends : ℕ → ℕ → Stand B D → Stand B D → Result Unit Stop → Type 0
+  Ends number count middle after (Ok done) = ((count ≡ 1024) × (after ≡ middle)) ⊎ ((count < 1024) × AsksOnce number middle after (Ok false))
+  Ends number count middle after (Err stop) = (count < 1024) × AsksOnce number middle after (Err stop)
+
+  -- A source was asked: it reported a run of items, each of which was done, and then this.
+  pub record Asks (number : ℕ) (before after : Stand B D) (result : Result Unit Stop) : Type 0 where
+    pub middle : Stand B D
+    pub run : List Told
+    pub dones : List Done
+    pub asked : Asked number before middle run dones
+    pub ends : Ends number (length run) middle after result

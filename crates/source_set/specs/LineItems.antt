@@ -13,8 +13,8 @@ use Rattle.source_set.specs.declared.told.Told.TheVariants as told
 -- A key, a locator, and the octets of a tag. The record has the tag's software identifier and its
 -- canonical octets, in the data model of CoSWID tags (RFC 8412, section 3.4.2).
 pub record AreTagged (key locator digits : List ℕ) (keyed : Keyed) : Type 0 where
-  pub key : Spells decimal IsU32 key keyed.key
-  pub locator : IsText 65535 locator keyed.content.locator
+  pub number : Spells decimal IsU32 key keyed.key
+  pub place : IsText 65535 locator keyed.content.locator
   pub octets : List ℕ
   pub hex : IsHex digits octets
   pub tag : IsPackage octets (record { ident = keyed.content.ident; body = keyed.content.body })
@@ -23,9 +23,9 @@ pub record AreTagged (key locator digits : List ℕ) (keyed : Keyed) : Type 0 wh
 
 -- A key, a software identifier, a locator and a body.
 pub record AreDescribed (key ident locator digits : List ℕ) (keyed : Keyed) : Type 0 where
-  pub key : Spells decimal IsU32 key keyed.key
-  pub ident : IsText 65535 ident keyed.content.ident
-  pub locator : IsText 65535 locator keyed.content.locator
+  pub number : Spells decimal IsU32 key keyed.key
+  pub name : IsText 65535 ident keyed.content.ident
+  pub place : IsText 65535 locator keyed.content.locator
   pub octets : List ℕ
   pub hex : IsHex digits octets
   pub body : IsWithin 1048576 octets keyed.content.body

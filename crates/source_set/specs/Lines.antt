@@ -23,15 +23,15 @@ before_feed (octet ∷ octets) = if octet == 10 then 0 else 1 + before_feed octe
 pub record BeginsLine (number : ℕ) (octets : List ℕ) (item : Told) (rest : List ℕ) : Type 0 where
   pub short : before_feed octets ≤ MOST_OCTETS
   pub ended : before_feed octets < length octets
-  pub item : IsItem number (take (before_feed octets) octets) item
-  pub rest : rest ≡ drop (before_feed octets + 1) octets
+  pub says : IsItem number (take (before_feed octets) octets) item
+  pub leaves : rest ≡ drop (before_feed octets + 1) octets
 
 -- Octets begin with more of them than a line may have. So many are a bad line, and what follows
 -- begins the next.
 pub record BeginsLong (number : ℕ) (octets : List ℕ) (item : Told) (rest : List ℕ) : Type 0 where
   pub long : MOST_OCTETS < before_feed octets
-  pub item : item ≡ told.Bad number
-  pub rest : rest ≡ drop MOST_OCTETS octets
+  pub bad : item ≡ told.Bad number
+  pub leaves : rest ≡ drop MOST_OCTETS octets
 
 -- No line is whole yet.
 pub record IsUnfinished (octets : List ℕ) : Type 0 where

@@ -29,7 +29,7 @@ pub record IsWithin (limit : ℕ) (octets made : List ℕ) : Type 0 where
 
 -- The word is the printable text of octets of at most that number.
 pub record IsText (limit : ℕ) (word octets : List ℕ) : Type 0 where
-  pub octets : AreOctets octets
+  pub are : AreOctets octets
   pub is : escaped octets ≡ word
   pub within : length octets ≤ limit
 

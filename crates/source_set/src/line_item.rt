@@ -30,18 +30,18 @@ pub fn item_of(alloc: Global, line: &[u8]) -> Result<Option<Told>, Memory>
         return Ok(None);
     };
     if verb == b"add".as_slice() {
-        return Ok(as_added(of_tag(alloc, words)?));
+        return Ok(as_added(of_tag(alloc, &mut words)?));
     }
     if verb == b"change".as_slice() {
-        return Ok(as_changed(of_tag(alloc, words)?));
+        return Ok(as_changed(of_tag(alloc, &mut words)?));
     }
     if verb == b"xml".as_slice() {
-        return Ok(as_added(of_xml(alloc, words)?));
+        return Ok(as_added(of_xml(alloc, &mut words)?));
     }
     if verb == b"gone".as_slice() {
-        return Ok(of_key(words));
+        return Ok(of_key(&mut words));
     }
-    Ok(alone(verb, words))
+    Ok(alone(verb, &mut words))
 }
 
 /// An addition, where there is one.
@@ -61,10 +61,9 @@ fn as_changed(keyed: Option<Keyed>) -> Option<Told>
 }
 
 /// What a key, a locator and a tag say.
-fn of_tag(alloc: Global, words: Words<'_>) -> Result<Option<Keyed>, Memory>
-    ensures tag { Finds (IsTagged words) result }
+fn of_tag(alloc: Global, words: &mut Words<'_>) -> Result<Option<Keyed>, Memory>
+    ensures tag { Finds (IsTagged words.old) result }
 {
-    let mut words = words;
     let (Some(key), Some(locator), Some(digits), None) = (
         words.next(),
         words.next(),
@@ -105,10 +104,9 @@ fn tagged(alloc: Global, key: &[u8], locator: &[u8], digits: &[u8]) -> Result<Op
 }
 
 /// What a key, an identifier, a locator and a body say.
-fn of_xml(alloc: Global, words: Words<'_>) -> Result<Option<Keyed>, Memory>
-    ensures xml { Finds (IsDescribed words) result }
+fn of_xml(alloc: Global, words: &mut Words<'_>) -> Result<Option<Keyed>, Memory>
+    ensures xml { Finds (IsDescribed words.old) result }
 {
-    let mut words = words;
     let (Some(key), Some(ident), Some(locator), Some(digits), None) = (
         words.next(),
         words.next(),
@@ -159,10 +157,9 @@ fn described(
 }
 
 /// That the software of a key is gone. It takes no memory.
-fn of_key(words: Words<'_>) -> Option<Told>
-    ensures gone { FindsExactly (IsGone words) result }
+fn of_key(words: &mut Words<'_>) -> Option<Told>
+    ensures gone { FindsExactly (IsGone words.old) result }
 {
-    let mut words = words;
     let (Some(key), None) = (words.next(), words.next()) else {
         return None;
     };
@@ -172,10 +169,9 @@ fn of_key(words: Words<'_>) -> Option<Told>
 }
 
 /// The item of a word that stands alone. It takes no memory.
-fn alone(verb: &[u8], words: Words<'_>) -> Option<Told>
-    ensures alone { FindsExactly (IsAlone verb.now words) result }
+fn alone(verb: &[u8], words: &mut Words<'_>) -> Option<Told>
+    ensures alone { FindsExactly (IsAlone verb.now words.old) result }
 {
-    let mut words = words;
     if words.next().is_some() {
         return None;
     }

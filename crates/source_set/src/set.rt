@@ -1,9 +1,8 @@
 //! The sources of an inventory, and what they reported of it.
 
-ghost use Rattle.std.specs.Prelude.{◌≡◌, ◌≤◌, [], true, None, Some, OnOk, IfOk, IfErr, length};
-ghost use Rattle.wire_base.specs.Outside.{HasCause};
+ghost use Rattle.std.specs.Prelude.{◌≡◌, ◌≤◌, true, length, MatchOption};
 ghost use Rattle.wire_base.specs.Stamp.{IsStamp};
-ghost use Rattle.source_set.specs.Asking.{Hears, Tries, asked_failed, left_by, numbered, sweep_failed, without_item};
+ghost use Rattle.source_set.specs.Asking.{Asks, AsksOnce, Hears, IsItem, NoItem, Tries, left_by, numbered, without_item};
 ghost use Rattle.source_set.specs.Deeds.{count, gives_up};
 
 use crate::doing::{Undone, perform};
@@ -142,18 +141,37 @@ fn ask<D: Desk>(
 ) -> Result<(), Stop>
     requires takes { D.takes desk.old ≡ true }
     requires stamp { IsStamp stamp.now }
+    ensures asked { Asks (λ source. reports source) D.stands D.went stamp.now number (record { source = seat.old.source; place = record { keys = seat.old.keys; desk = desk.old; swept = swept.old } }) (record { source = seat.new.source; place = record { keys = seat.new.keys; desk = desk.new; swept = swept.new } }) result }
     ensures takes { D.takes desk.new ≡ true }
 {
-    for _ in 0..MOST_ITEMS {
-        let Some(source) = &mut seat.source else {
-            return Ok(());
-        };
-        let told = numbered(source.next(), number);
-        if !hear(alloc, seat, number, told, desk, stamp, swept)? {
+    for _asked in 0..MOST_ITEMS {
+        let more = ask_once(alloc, seat, number, desk, stamp, swept)?;
+        if !more {
             return Ok(());
         }
     }
     Ok(())
+}
+
+/// Asks a source once. Whether it may be asked for more.
+fn ask_once<D: Desk>(
+    alloc: Global,
+    seat: &mut Seat,
+    number: u8,
+    desk: &mut D,
+    stamp: &[u8; 20],
+    swept: &mut Swept,
+) -> Result<bool, Stop>
+    requires takes { D.takes desk.old ≡ true }
+    requires stamp { IsStamp stamp.now }
+    ensures asked { AsksOnce (λ source. reports source) D.stands D.went stamp.now number (record { source = seat.old.source; place = record { keys = seat.old.keys; desk = desk.old; swept = swept.old } }) (record { source = seat.new.source; place = record { keys = seat.new.keys; desk = desk.new; swept = swept.new } }) result }
+    ensures takes { D.takes desk.new ≡ true }
+{
+    let Some(source) = &mut seat.source else {
+        return Ok(false);
+    };
+    let told = numbered(source.next(), number);
+    hear(alloc, seat, number, told, desk, stamp, swept)
 }
 
 /// Does what a source reports. Whether it may be asked for more.
@@ -171,21 +189,35 @@ fn hear<D: Desk>(
     ensures heard { Hears D.stands D.went stamp.now told number (record { source = seat.old.source; place = record { keys = seat.old.keys; desk = desk.old; swept = swept.old } }) (record { source = seat.new.source; place = record { keys = seat.new.keys; desk = desk.new; swept = swept.new } }) result }
     ensures takes { D.takes desk.new ≡ true }
 {
-    match told {
-        Told::Quiet => Ok(false),
-        Told::Bad { line } => Err(without_item(SweepError::BadLine {
-            source: number,
-            line,
-        })),
-        Told::Failed => Err(without_item(SweepError::SourceFailed { source: number })),
-        Told::Memory => Err(without_item(SweepError::Memory)),
-        item => {
-            do_item(alloc, seat, number, item, desk, stamp, swept)?;
-            Ok(true)
-        }
+    match no_item(&told, number) {
+        Some(answer) => answer,
+        None => match do_item(alloc, seat, number, told, desk, stamp, swept) {
+            Ok(()) => Ok(true),
+            Err(stop) => Err(stop),
+        },
     }
 }
 
+/// What is answered of what is no item.
+fn no_item(told: &Told, number: u8) -> Option<Result<bool, Stop>>
+    ensures answer { MatchOption result (IsItem told.now) (λ answer. NoItem number told.now answer) }
+{
+    match told {
+        Told::Quiet => Some(Ok(false)),
+        Told::Bad { line } => Some(Err(without_item(SweepError::BadLine {
+            source: number,
+            line: *line,
+        }))),
+        Told::Failed => Some(Err(without_item(SweepError::SourceFailed { source: number }))),
+        Told::Memory => Some(Err(without_item(SweepError::Memory))),
+        Told::Add { .. } => None,
+        Told::Change { .. } => None,
+        Told::Gone { .. } => None,
+        Told::Ended => None,
+    }
+}
+
+/// Why a source is asked no further, where no item is kept.
 fn without_item(error: SweepError) -> Stop
     ensures stop { result ≡ without_item error }
 {

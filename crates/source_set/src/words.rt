@@ -34,9 +34,7 @@ impl<'a> Words<'a> {
     pub fn next(&mut self) -> Option<&'a [u8]>
         ensures word { MatchOption result ((self.old ≡ []) × (self.new ≡ [])) (λ word. self.old ≡ word.now ∷ self.new) }
     {
-        let Some(rest) = self.rest else {
-            return None;
-        };
+        let rest = self.rest?;
         match memchr(b' ', rest) {
             None => {
                 self.rest = None;

@@ -1,4 +1,4 @@
-use Rattle.std.proofs.Common.{◌≡◌, ℕ, List, Option, ap, sym, ◌∙◌, subst}
+use Rattle.std.proofs.Common.{◌≡◌, ℕ, List, Option, ap, refl, sym, ◌∙◌, subst}
 use Rattle.std.specs.Option.{IsSome}
 use Rattle.source_set.specs.Keys.{Held, id_at, with_key, without}
 use Rattle.source_set.proofs.KeyLaws.{back, found, twice}
@@ -7,7 +7,7 @@ use Rattle.source_set.proofs.doing.add.Goals as goal
 
 pub set-requires : goal.set-requires
 set-requires g c =
-    record { held = subst (λ (o : Option ℕ). IsSome o) (sym (ap (λ (keys : List Held). id_at c.args.key keys) c.in-Ok.ensures.held ∙ found c.args.key 0 c.args.keys.now)) tt }
+    record { held = subst (λ (o : Option ℕ). IsSome o) (sym (ap (λ (keys : List Held). id_at c.args.key keys) c.in-Ok.ensures.held ∙ found c.args.key 0 c.args.keys.now)) refl }
 
 pub returns-in-Ok-create-clause-added : goal.returns-in-Ok-create-clause-added
 returns-in-Ok-create-clause-added g c =
