@@ -1,6 +1,6 @@
 //! The sources of an inventory, and what they reported of it.
 
-ghost use Rattle.std.specs.Prelude.{◌≡◌, ◌≤◌, true, length, MatchOption};
+ghost use Rattle.std.specs.Prelude.{◌≡◌, ◌≤◌, Some, true, length, MatchOption};
 ghost use Rattle.wire_base.specs.Stamp.{IsStamp};
 ghost use Rattle.source_set.specs.Asking.{Asks, AsksOnce, Hears, IsItem, NoItem, Tries, left_by, numbered, without_item};
 ghost use Rattle.source_set.specs.Deeds.{count, gives_up};
@@ -224,6 +224,16 @@ fn without_item(error: SweepError) -> Stop
     Stop { error, item: None }
 }
 
+/// Why a source is asked no further, where its item is kept.
+fn with_item(error: SweepError, item: Told) -> Stop
+    ensures stop { result ≡ record { error = error; item = Some item } }
+{
+    Stop {
+        error,
+        item: Some(item),
+    }
+}
+
 /// Does an item of a source, and gives the source up where it ended.
 fn do_item<D: Desk>(
     alloc: Global,
@@ -248,14 +258,8 @@ fn do_item<D: Desk>(
             source: number,
             key,
         })),
-        Err(Undone::Book(BookError::Memory)) => Err(Stop {
-            error: SweepError::Memory,
-            item: Some(item),
-        }),
-        Err(Undone::Book(error)) => Err(Stop {
-            error: SweepError::Book(error),
-            item: Some(item),
-        }),
+        Err(Undone::Book(BookError::Memory)) => Err(with_item(SweepError::Memory, item)),
+        Err(Undone::Book(error)) => Err(with_item(SweepError::Book(error), item)),
     }
 }
 
