@@ -3,8 +3,26 @@
 //! reads its items from lines.
 //!
 //! It stands on `collector_core` for desks, on `coswid_codec` and `coswid_tag` for tags, on
-//! `swima_model` for contents, on `wire_base`, on `hex` and `memchr`, and on `thiserror` for the
-//! texts of errors.
+//! `cbor_det` for the words of their clauses, on `swima_model` for contents, on `wire_base`, on
+//! `hex` and `memchr`, and on `thiserror` for the texts of errors.
+//!
+//! | file | what it holds |
+//! |---|---|
+//! | `told.rt` | what a source reports, and what a source is |
+//! | `set.rt` | the sources of an inventory, and a sweep over them |
+//! | `swept.rt` | what a sweep did, and why it stopped |
+//! | `doing.rt`, `keys.rt` | an item done at a desk; the keys that a source holds |
+//! | `line_source.rt`, `line_buffer.rt` | a source of lines; octets that were read and not reported |
+//! | `line_item.rt`, `words.rt`, `reading.rt` | the item that a line is; its words; words as values |
+//!
+//! The words of the clauses are in `specs/`:
+//!
+//! | file | what it says |
+//! |---|---|
+//! | `Items` | what a call of a source reports |
+//! | `Deeds`, `Keys` | what items do to records, and to the keys that are held |
+//! | `Doing`, `Asking` | an item done or refused at a desk; a source that is asked |
+//! | `Words`, `Reading`, `LineItems`, `Lines` | the words of a line, their values, the item of a line, and the items of octets |
 #![tactic(auto)]
 
 mod doing;
