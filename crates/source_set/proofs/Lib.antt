@@ -3,6 +3,8 @@ pub mod Wording
 pub mod Finding
 pub mod OneItem
 pub mod LinesOf
+pub mod Fronts
+pub mod Holding
 pub mod ByIdentifier
 pub mod Working
 pub mod KeyLaws

@@ -12,8 +12,10 @@
 //! | `set.rt` | the sources of an inventory, and a sweep over them |
 //! | `swept.rt` | what a sweep did, and why it stopped |
 //! | `doing.rt`, `keys.rt` | an item done at a desk; the keys that a source holds |
-//! | `line_source.rt`, `line_buffer.rt` | a source of lines; octets that were read and not reported |
-//! | `line_item.rt`, `words.rt`, `reading.rt` | the item that a line is; its words; words as values |
+//! | `line_source.rt` | a source of lines |
+//! | `line_buffer.rt` | octets that were read and not reported |
+//! | `line_item.rt`, `words.rt` | the item that a line is, and its words |
+//! | `reading.rt` | words as values |
 //!
 //! The words of the clauses are in `specs/`:
 //!
@@ -22,7 +24,8 @@
 //! | `Items` | what a call of a source reports |
 //! | `Deeds`, `Keys` | what items do to records, and to the keys that are held |
 //! | `Doing`, `Asking` | an item done or refused at a desk; a source that is asked |
-//! | `Words`, `Reading`, `LineItems`, `Lines` | the words of a line, their values, the item of a line, and the items of octets |
+//! | `Words`, `Reading` | the words of a line, and their values |
+//! | `LineItems`, `Lines` | the item of a line, and the items of octets |
 #![tactic(auto)]
 
 mod doing;
