@@ -4,16 +4,20 @@ use Rattle.std.specs.Fmt.{decimal}
 use Rattle.hex.specs.Hex.{decode_of}
 use Rattle.wire_base.specs.Escaped.{escaped}
 use Rattle.wire_base.specs.Layout.{AreOctets}
-use Rattle.wire_base.specs.Texts.{IsU32, Spells, StopsAt}
+use Rattle.wire_base.specs.Texts.{IsU32, ReadsTextExactly, Spells, StopsAt}
+use Rattle.wire_base.specs.declared.values.text_refused.TextRefused.{TextRefused}
+use Rattle.wire_base.specs.declared.values.text_refused.TextRefused.TheVariants as refused
 use Rattle.wire_base.specs.declared.values.memory.Memory.{Memory}
 use Rattle.wire_base.proofs.Decimals.{decimal_or_fault}
 use Rattle.wire_base.proofs.Unescaping.{escaped_or_fault}
 use Rattle.cbor_det.specs.Canonical.{canon}
 use Rattle.coswid_tag.specs.declared.tag.Tag.{Tag}
 use Rattle.coswid_tag.specs.Identifier.{identifier_of}
-use Rattle.coswid_codec.specs.Answers.{BeginsTag}
+use Rattle.coswid_codec.specs.Answers.{BeginsTag, IsRefusal}
 use Rattle.coswid_codec.specs.Items.{tag_item}
-use Rattle.coswid_codec.proofs.Outcomes.{begins_one_tag}
+use Rattle.coswid_codec.specs.declared.read.TagRefused.{TagRefused}
+use Rattle.coswid_codec.specs.declared.read.TagRefused.TheVariants as tag_refused
+use Rattle.coswid_codec.proofs.Outcomes.{begins_one_tag, not_both}
 use Rattle.source_set.specs.Reading.{Finds, IsHex, IsIdentOf, IsPackage, IsPackageOf, IsText, IsWithin}
 use Rattle.source_set.specs.declared.reading.Package.{Package}
 
@@ -70,3 +74,33 @@ finds_text limit word octets result spelled found =
     let same = (escaped_or_fault word).one_value made octets (is.are, is.is) spelled in
     record { is = same; within = omega (arith, ap (λ (o : List ℕ). length o) same, is.within) })
     found
+
+-- ---- nothing is found
+
+pub no_key : (word : List ℕ) (why : TextRefused) → ReadsTextExactly decimal IsU32 word (Err why) → (key : ℕ) → Spells decimal IsU32 word key → ⊥
+no_key word (refused.Fault place) stops key spells = stops.no_value key spells
+no_key word refused.Memory stops key spells = stops
+
+pub no_text : (limit place : ℕ) (word : List ℕ) → StopsAt escaped AreOctets word place → (octets : List ℕ) → IsText limit word octets → ⊥
+no_text limit place word stops octets is = stops.no_value octets (is.are, is.is)
+
+-- ---- a tag
+
+-- The octets begin with the tag and end with it.
+pub finds_package : (octets : List ℕ) (tag : Tag) (used : ℕ) (result : Result (Option Package) Memory) → BeginsTag octets tag used → length octets ≤ used → Finds (IsPackageOf tag) result
+    → Finds (IsPackage octets) result
+finds_package octets tag used result begins all found =
+    let same : used ≡ length octets = omega (arith, begins.begins.within, all) in
+    let whole = subst (λ (n : ℕ). BeginsTag octets tag n) same begins in
+    finds_by (IsPackageOf tag) (IsPackage octets) result
+    (λ made parts. record { tag = tag; whole = whole; parts = parts })
+    (λ made is. subst (λ (t : Tag). IsPackageOf t made) (begins_one_tag octets is.tag tag _ _ is.whole begins).0 is.parts)
+    found
+
+-- The octets end after the tag that they begin with.
+pub no_package_behind : (octets : List ℕ) (tag : Tag) (used : ℕ) → BeginsTag octets tag used → used < length octets → (made : Package) → IsPackage octets made → ⊥
+no_package_behind octets tag used begins less made is = omega (arith, (begins_one_tag octets tag is.tag used (length octets) begins is.whole).1, less)
+
+-- They begin with no tag.
+pub no_package : (octets : List ℕ) (why : TagRefused) → (why ≡ tag_refused.Memory → ⊥) → IsRefusal octets why → (made : Package) → IsPackage octets made → ⊥
+no_package octets why not_memory refusal made is = not_both octets is.tag (length octets) why is.whole (not_memory, refusal)

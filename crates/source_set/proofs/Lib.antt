@@ -5,6 +5,7 @@ pub mod OneItem
 pub mod LinesOf
 pub mod Fronts
 pub mod Holding
+pub mod Saying
 pub mod ByIdentifier
 pub mod Working
 pub mod KeyLaws

@@ -66,7 +66,7 @@ one_at (word ∷ more ∷ others) one other a b = absurd a
 -- ---- one item
 
 -- Two first words are one only where their first letters are.
-apart : {m n : ℕ} {xs ys : List ℕ} (verb : List ℕ) → verb ≡ m ∷ xs → verb ≡ n ∷ ys → m ≡ n
+pub apart : {m n : ℕ} {xs ys : List ℕ} (verb : List ℕ) → verb ≡ m ∷ xs → verb ≡ n ∷ ys → m ≡ n
 apart {m} {n} {xs} {ys} verb a b = let same : m ∷ xs ≡ n ∷ ys = sym a ∙ b in cc
 
 add_same : {one other : Keyed} → SameKeyed one other → told.Add one.key one.content ≡ told.Add other.key other.content
