@@ -6,9 +6,9 @@ use Rattle.std.proofs.lemmas.Option.{none-some}
 use Rattle.collector_core.specs.declared.chronicle.Mark.{Mark}
 use Rattle.collector_core.specs.Chronicle.{Chronicle, extended}
 use Rattle.collector_core.specs.Desks.{entries}
-use Rattle.source_set.specs.Asking.{AreDone, Asked, Does, Follows, IsItem, IsLeft, Ran, Stand, items_of, left_by, numbered}
+use Rattle.source_set.specs.Asking.{AreDone, AreKnown, Asked, Does, Follows, IsItem, IsLeft, Ran, Stand, items_of, left_by, numbered}
 use Rattle.source_set.specs.Deeds.{Deed, Done, deeds, does, gives_up, keys_after, leaves}
-use Rattle.source_set.specs.Doing.{Place, Works}
+use Rattle.source_set.specs.Doing.{IsKnown, Works}
 use Rattle.source_set.specs.Items.{Gave, Reported, Tells}
 use Rattle.source_set.specs.Keys.{Held}
 use Rattle.source_set.specs.declared.told.Told.{Told}
@@ -38,6 +38,10 @@ are_done_more : (run : List Told) (item : Told) → AreDone run → IsItem item 
 are_done_more [] item all is = (is, tt)
 are_done_more (first ∷ run) item all is = (all.0, are_done_more run item all.1 is)
 
+known_more : (keys : List Held) (dones : List Done) (done : Done) → AreKnown keys dones → IsKnown (keys_after keys dones) done.item → AreKnown keys (dones ++ done ∷ [])
+known_more keys [] done all is = (is, tt)
+known_more keys (first ∷ dones) done all is = (all.0, known_more (leaves keys first.id first.item) dones done all.1 is)
+
 module _ {B D : Type 0} (reports : B → List Told → Type 0) (stands : D → Chronicle → Type 0) (went : D → List Mark → D → Type 0) (stamp : List ℕ)
     (stays : (desk : D) → went desk [] desk)
     (follows : (one two three : D) (first second : List Mark) → went one first two → went two second three → went one (first ++ second) three)
@@ -52,6 +56,7 @@ module _ {B D : Type 0} (reports : B → List Told → Type 0) (stands : D → C
     ran = ran_none stand.source;
     are = refl;
     done = tt;
+    known = tt;
     works = works_none stands went stamp stays follows carries stand.place.desk stand.place.swept;
     keys = refl;
   }
@@ -101,6 +106,7 @@ module _ {B D : Type 0} (reports : B → List Told → Type 0) (stands : D → C
             map-append (λ (d : Done). d.item) dones (one ∷ []) ∙ ap (λ (items : List Told). items ++ numbered number item ∷ []) asked.are
             ∙ sym (map-append (numbered number) run (item ∷ []));
         done = subst AreDone (sym (map-append (λ (d : Done). d.item) dones (one ∷ []))) (are_done_more (items_of dones) (numbered number item) asked.done takes);
+        known = known_more keys dones one asked.known (subst (λ (ks : List Held). IsKnown ks (numbered number item)) asked.keys done.known);
         works =
             subst (Works stands went stamp before.place.desk after.place.desk before.place.swept after.place.swept) (sym (deeds_more keys dones one))
             (works_more stands went stamp stays follows carries before.place.desk middle.place.desk after.place.desk before.place.swept middle.place.swept after.place.swept (deeds keys dones)

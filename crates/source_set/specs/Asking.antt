@@ -128,6 +128,11 @@ abbrev pub AreDone : List Told → Type 0
 AreDone [] = Unit {0}
 AreDone (item ∷ run) = IsItem item × AreDone run
 
+-- Each change and each end among them is of a key that is held then.
+abbrev pub AreKnown : List Held → List Done → Type 0
+AreKnown keys [] = Unit {0}
+AreKnown keys (done ∷ later) = IsKnown keys done.item × AreKnown (leaves keys done.id done.item) later
+
 -- Of any boxes, which report items, and any desk, at one stamp.
 module _ {B D : Type 0} (reports : B → List Told → Type 0) (stands : D → Chronicle → Type 0) (went : D → List Mark → D → Type 0) (stamp : List ℕ) where
   -- A source will report these items, unless it was given up.
@@ -145,6 +150,7 @@ module _ {B D : Type 0} (reports : B → List Told → Type 0) (stands : D → C
     pub ran : Ran before.source run after.source
     pub are : items_of dones ≡ map (numbered number) run
     pub done : AreDone (items_of dones)
+    pub known : AreKnown before.place.keys dones
     pub works : Works stands went stamp before.place.desk after.place.desk before.place.swept after.place.swept (deeds before.place.keys dones)
     pub keys : after.place.keys ≡ keys_after before.place.keys dones
 
