@@ -1,16 +1,17 @@
 -- A source is asked for one item more.
-use Rattle.std.proofs.Common.{◌≡◌, ℕ, List, [], ◌∷◌, ◌++◌, Option, None, Some, refl, sym, ap, ◌∙◌, subst, append_assoc}
+use Rattle.std.proofs.Common.{◌≡◌, inr, ℕ, Bool, true, false, Result, Ok, Err, List, [], ◌∷◌, ◌++◌, Option, None, Some, refl, sym, ap, ◌∙◌, subst, append_assoc}
 use Rattle.std.specs.Prelude.{map}
 use Rattle.std.proofs.lemmas.List.{append-nil, map-append}
 use Rattle.std.proofs.lemmas.Option.{none-some}
 use Rattle.collector_core.specs.declared.chronicle.Mark.{Mark}
 use Rattle.collector_core.specs.Chronicle.{Chronicle, extended}
 use Rattle.collector_core.specs.Desks.{entries}
-use Rattle.source_set.specs.Asking.{AreDone, AreKnown, Asked, Does, Follows, IsItem, IsLeft, Ran, Stand, items_of, left_by, numbered}
+use Rattle.source_set.specs.Asking.{AreDone, AreKnown, Asked, AsksOnce, Does, Follows, Hears, IsItem, IsLeft, Ran, Stand, items_of, left_by, numbered}
 use Rattle.source_set.specs.Deeds.{Deed, Done, deeds, does, gives_up, keys_after, leaves}
 use Rattle.source_set.specs.Doing.{IsKnown, Works}
 use Rattle.source_set.specs.Items.{Gave, Reported, Tells}
 use Rattle.source_set.specs.Keys.{Held}
+use Rattle.source_set.specs.declared.set.Stop.{Stop}
 use Rattle.source_set.specs.declared.told.Told.{Told}
 use Rattle.source_set.specs.declared.told.Told.TheVariants as told
 use Rattle.source_set.proofs.Working.{works_more, works_none}
@@ -115,3 +116,20 @@ module _ {B D : Type 0} (reports : B → List Told → Type 0) (stands : D → C
             asked.keys done.works));
         keys = done.keys ∙ ap (λ (ks : List Held). leaves ks done.new (numbered number item)) asked.keys ∙ sym (keys_more keys dones one);
       }
+
+  -- What was reported and heard is what asking once says.
+  quiet : (number : ℕ) (source onward : B) (item : Told) → numbered number item ≡ told.Quiet → Reported reports source item onward → Gave reports source told.Quiet onward
+  quiet number source onward (told.Add key content) is gives = absurd cc
+  quiet number source onward (told.Change key content) is gives = absurd cc
+  quiet number source onward (told.Gone key) is gives = absurd cc
+  quiet number source onward (told.Bad line) is gives = absurd cc
+  quiet number source onward told.Quiet is gives = gives
+  quiet number source onward told.Ended is gives = absurd cc
+  quiet number source onward told.Failed is gives = absurd cc
+  quiet number source onward told.Memory is gives = absurd cc
+
+  pub asks_once : (number : ℕ) (before after : Stand B D) (source onward : B) (item : Told) (result : Result Bool Stop) → before.source ≡ Some source → Reported reports source item onward
+      → Hears stands went stamp (numbered number item) number (record before { source = Some onward }) after result → AsksOnce reports stands went stamp number before after result
+  asks_once number before after source onward item (Ok true) is gives heard = (source, onward, item, is, gives, heard.0, heard.1)
+  asks_once number before after source onward item (Ok false) is gives heard = inr (source, onward, is, quiet number source onward item heard.0 gives, heard.1)
+  asks_once number before after source onward item (Err stop) is gives heard = (source, onward, item, is, gives, heard)
