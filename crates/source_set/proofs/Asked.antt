@@ -1,12 +1,12 @@
 -- A source is asked for one item more.
-use Rattle.std.proofs.Common.{◌≡◌, inr, ℕ, Bool, true, false, Result, Ok, Err, List, [], ◌∷◌, ◌++◌, Option, None, Some, refl, sym, ap, ◌∙◌, subst, append_assoc}
+use Rattle.std.proofs.Common.{◌≡◌, inl, inr, ℕ, ◌+◌, ◌<◌, arith, length, length-append, Bool, true, false, Result, Ok, Err, List, [], ◌∷◌, ◌++◌, Option, None, Some, refl, sym, ap, ◌∙◌, subst, append_assoc}
 use Rattle.std.specs.Prelude.{map}
 use Rattle.std.proofs.lemmas.List.{append-nil, map-append}
 use Rattle.std.proofs.lemmas.Option.{none-some}
 use Rattle.collector_core.specs.declared.chronicle.Mark.{Mark}
 use Rattle.collector_core.specs.Chronicle.{Chronicle, extended}
 use Rattle.collector_core.specs.Desks.{entries}
-use Rattle.source_set.specs.Asking.{AreDone, AreKnown, Asked, AsksOnce, Does, Follows, Hears, IsItem, IsLeft, Ran, Stand, items_of, left_by, numbered}
+use Rattle.source_set.specs.Asking.{AreDone, AreKnown, Asked, Asks, AsksOnce, Does, Follows, Hears, IsItem, IsLeft, Ran, Stand, items_of, left_by, numbered}
 use Rattle.source_set.specs.Deeds.{Deed, Done, deeds, does, gives_up, keys_after, leaves}
 use Rattle.source_set.specs.Doing.{IsKnown, Works}
 use Rattle.source_set.specs.Items.{Gave, Reported, Tells}
@@ -42,6 +42,11 @@ are_done_more (first ∷ run) item all is = (all.0, are_done_more run item all.1
 known_more : (keys : List Held) (dones : List Done) (done : Done) → AreKnown keys dones → IsKnown (keys_after keys dones) done.item → AreKnown keys (dones ++ done ∷ [])
 known_more keys [] done all is = (is, tt)
 known_more keys (first ∷ dones) done all is = (all.0, known_more (leaves keys first.id first.item) dones done all.1 is)
+
+-- So many items were reported and done.
+module _ {B D : Type 0} (reports : B → List Told → Type 0) (stands : D → Chronicle → Type 0) (went : D → List Mark → D → Type 0) (stamp : List ℕ) where
+  abbrev pub SoFar : ℕ → Stand B D → Stand B D → ℕ → Type 0
+  SoFar number before middle count = (run : List Told) × (dones : List Done) × (length run ≡ count) × Asked reports stands went stamp number before middle run dones
 
 module _ {B D : Type 0} (reports : B → List Told → Type 0) (stands : D → Chronicle → Type 0) (went : D → List Mark → D → Type 0) (stamp : List ℕ)
     (stays : (desk : D) → went desk [] desk)
@@ -133,3 +138,33 @@ module _ {B D : Type 0} (reports : B → List Told → Type 0) (stands : D → C
   asks_once number before after source onward item (Ok true) is gives heard = (source, onward, item, is, gives, heard.0, heard.1)
   asks_once number before after source onward item (Ok false) is gives heard = inr (source, onward, is, quiet number source onward item heard.0 gives, heard.1)
   asks_once number before after source onward item (Err stop) is gives heard = (source, onward, item, is, gives, heard)
+
+  -- ---- asked again and again
+
+  pub so_far_none : (number : ℕ) (stand : Stand B D) → SoFar reports stands went stamp number stand stand 0
+  so_far_none number stand = ([], [], refl, asked_none number stand)
+
+  pub so_far_more : (number : ℕ) (before middle after : Stand B D) (count : ℕ) (more : Bool) → SoFar reports stands went stamp number before middle count → more ≡ true
+      → AsksOnce reports stands went stamp number middle after (Ok more) → SoFar reports stands went stamp number before after (count + 1)
+  so_far_more number before middle after count true so-far is once = (
+    so-far.0 ++ once.2 ∷ [],
+    so-far.1 ++ record { item = numbered number once.2; id = once.6.new } ∷ [],
+    omega (arith, length-append so-far.0 (once.2 ∷ []), so-far.2),
+    asked_more number before middle after so-far.0 so-far.1 once.0 once.1 once.2 so-far.3 once.3 once.4 once.5 once.6,
+  )
+  so_far_more number before middle after count false so-far is once = absurd cc
+
+  pub asks_ended : (number : ℕ) (before middle after : Stand B D) (count : ℕ) (more : Bool) → SoFar reports stands went stamp number before middle count → more ≡ false → count < 1024
+      → AsksOnce reports stands went stamp number middle after (Ok more) → Asks reports stands went stamp number before after (Ok tt)
+  asks_ended number before middle after count true so-far is less once = absurd cc
+  asks_ended number before middle after count false so-far is less once =
+      record { middle = middle; run = so-far.0; dones = so-far.1; asked = so-far.3; ends = inr (omega (arith, so-far.2, less), once) }
+
+  pub asks_stopped : (number : ℕ) (before middle after : Stand B D) (count : ℕ) (stop : Stop) → SoFar reports stands went stamp number before middle count → count < 1024
+      → AsksOnce reports stands went stamp number middle after (Err stop) → Asks reports stands went stamp number before after (Err stop)
+  asks_stopped number before middle after count stop so-far less once =
+      record { middle = middle; run = so-far.0; dones = so-far.1; asked = so-far.3; ends = (omega (arith, so-far.2, less), once) }
+
+  pub asks_full : (number : ℕ) (before after : Stand B D) (count : ℕ) → SoFar reports stands went stamp number before after count → count ≡ 1024 → Asks reports stands went stamp number before after (Ok tt)
+  asks_full number before after count so-far is =
+      record { middle = after; run = so-far.0; dones = so-far.1; asked = so-far.3; ends = inl (so-far.2 ∙ is, refl) }

@@ -95,6 +95,11 @@ module _ {D : Type 0} (stands : D → Chronicle → Type 0) (went : D → List M
   end_keys order keys i d less =
       ap (λ (some : List Held). without_all some keys) (take_more order i d less) ∙ without_joins (take i order) (get_or order i d ∷ []) keys
 
+  pub key_gone : (order keys left now : List Held) (i : ℕ) (d : Held) → i < length order → now ≡ without (get_or order i d).0 left → left ≡ without_all (take i order) keys
+      → now ≡ without_all (take (i + 1) order) keys
+  key_gone order keys left now i d less gone so-far =
+      gone ∙ ap (λ (some : List Held). without (get_or order i d).0 some) so-far ∙ sym (end_keys order keys i d less)
+
   pub end_refused : (order keys left : List Held) (i : ℕ) (d : Held) (first before after : D) (swept between counts : Swept) (why : Undone) → order ≡ by_id keys → i < length order
       → left ≡ without_all (take i order) keys → Works stands went stamp first before swept between (deletions (take i order))
       → Once stands went stamp (Deletes (get_or order i d).1) (deletes_not (get_or order i d).1) before after between counts (Err why)

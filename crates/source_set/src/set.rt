@@ -145,9 +145,13 @@ fn ask<D: Desk>(
     ensures takes { D.takes desk.new ≡ true }
 {
     for _asked in 0..MOST_ITEMS {
-        let more = ask_once(alloc, seat, number, desk, stamp, swept)?;
-        if !more {
-            return Ok(());
+        match ask_once(alloc, seat, number, desk, stamp, swept) {
+            Ok(more) => {
+                if !more {
+                    return Ok(());
+                }
+            }
+            Err(stop) => return Err(stop),
         }
     }
     Ok(())

@@ -1,6 +1,5 @@
-use Rattle.std.proofs.Common.{◌∙◌, ap, rules, sym, List}
-use Rattle.source_set.specs.Keys.{Held, without}
-use Rattle.source_set.proofs.Performing.{end_keys, end_more, end_refused}
+use Rattle.std.proofs.Common.{◌∙◌, rules}
+use Rattle.source_set.proofs.Performing.{end_more, end_refused, key_gone}
 use Rattle.source_set.proofs.doing.remove_all.Goals as goal
 
 pub loop-held-preserved : goal.loop-held-preserved
@@ -10,8 +9,8 @@ loop-held-preserved g c = record {
       c.as_slice-all.result.now c.loop-held.held-index _ c.args.desk.now c.loop-held.desk c.delete.new.desk c.args.swept.now c.loop-held.swept c.delete.new.swept (search rules)
       c.loop-held.invariant.works c.in-Ok-delete.ensures.deleted;
   keys =
-      c.remove.ensures.without ∙ ap (λ (keys : List Held). without _ keys) c.loop-held.invariant.keys
-      ∙ sym (end_keys g.D.Desk.stands g.D.Desk.went c.args.stamp.now g.met.D.Desk.stays g.met.D.Desk.follows g.met.D.Desk.carries c.as_slice-all.result.now c.args.keys.now c.loop-held.held-index _ (search rules));
+      key_gone g.D.Desk.stands g.D.Desk.went c.args.stamp.now g.met.D.Desk.stays g.met.D.Desk.follows g.met.D.Desk.carries
+      c.as_slice-all.result.now c.args.keys.now c.loop-held.keys c.remove.new.self c.loop-held.held-index _ (search rules) c.remove.ensures.without c.loop-held.invariant.keys;
   takes = c.in-Ok-delete.ensures.takes;
 }
 
