@@ -1,9 +1,11 @@
 //! The sources of an inventory, and what they reported of it.
 
 ghost use Rattle.std.specs.Prelude.{◌≡◌, ◌≤◌, Some, true, length, MatchOption};
+ghost use Rattle.wire_base.specs.Outside.{HasCause};
 ghost use Rattle.wire_base.specs.Stamp.{IsStamp};
 ghost use Rattle.source_set.specs.Asking.{Asks, AsksOnce, Hears, IsItem, NoItem, Tries, left_by, numbered, without_item};
 ghost use Rattle.source_set.specs.Deeds.{count, gives_up};
+ghost use Rattle.source_set.specs.Items.{Reported, is_failed};
 
 use crate::doing::{Undone, perform};
 use crate::keys::Keys;
@@ -174,8 +176,16 @@ fn ask_once<D: Desk>(
     let Some(source) = &mut seat.source else {
         return Ok(false);
     };
-    let told = numbered(source.next(), number);
+    let told = numbered(next_of(source), number);
     hear(alloc, seat, number, told, desk, stamp, swept)
+}
+
+/// The next item of a source in a box.
+fn next_of(source: &mut Box<dyn TagSource + Send>) -> Told
+    ensures reported { Reported (λ source. reports source) source.old result source.new }
+    ensures cause { HasCause (faults source.old) (faults source.new) (is_failed result) }
+{
+    source.next()
 }
 
 /// Does what a source reports. Whether it may be asked for more.
