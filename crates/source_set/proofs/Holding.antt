@@ -37,9 +37,11 @@ came : {S : Type 0} (left : S → Option (List ℕ)) (before after : LineView S)
 came left before after item items octets rest is input held number comes = (
   comes.later,
   comes.tells,
-  octets,
-  ap left input ∙ is,
-  subst (λ (n : ℕ). AreItems n (after.held ++ octets) comes.later) (sym number) (subst (λ (xs : List ℕ). AreItems (next before.number) (xs ++ octets) comes.later) (sym held) comes.are),
+  (
+    octets,
+    ap left input ∙ is,
+    subst (λ (n : ℕ). AreItems n (after.held ++ octets) comes.later) (sym number) (subst (λ (xs : List ℕ). AreItems (next before.number) (xs ++ octets) comes.later) (sym held) comes.are),
+  ),
 )
 
 pub line_gave : {S : Type 0} (left : S → Option (List ℕ)) (before after : LineView S) (item : Told) → before_feed before.held < length before.held → before_feed before.held ≤ MOST_OCTETS

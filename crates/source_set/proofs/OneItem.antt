@@ -156,7 +156,7 @@ said_or_bad : (number : ℕ) (line : List ℕ) (item : Told) → IsItem number l
 said_or_bad number line (told.Add key content) a = inr a
 said_or_bad number line (told.Change key content) a = inr a
 said_or_bad number line (told.Gone key) a = inr a
-said_or_bad number line (told.Bad line) a = inl (ap (λ (n : ℕ). told.Bad n) a.0, a.1)
+said_or_bad number line (told.Bad at) a = inl (ap (λ (n : ℕ). told.Bad n) a.0, a.1)
 said_or_bad number line told.Quiet a = inr a
 said_or_bad number line told.Ended a = inr a
 said_or_bad number line told.Failed a = inr a
