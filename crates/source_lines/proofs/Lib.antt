@@ -1,0 +1,8 @@
+pub mod Feeds
+pub mod Wording
+pub mod Finding
+pub mod OneItem
+pub mod LinesOf
+pub mod Fronts
+pub mod Holding
+pub mod Saying

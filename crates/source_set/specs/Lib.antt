@@ -1,0 +1,5 @@
+pub mod Items
+pub mod Keys
+pub mod Deeds
+pub mod Doing
+pub mod Asking

@@ -1,0 +1,127 @@
+//! Lines and the items that they are: cuts of the input, calls that fail, and long lines. What each
+//! word of a line may be is tried by rows of `conformance`.
+
+use crate::values::{TAG, lines};
+use source_lines::LineSource;
+use source_set::{TagSource, Told};
+use std::alloc::Global;
+use wire_base::{Failed, Memory, Source};
+
+/// A source that gives octets a few at a time, with an end of the input after each.
+#[derive(Drop)]
+struct Trickle {
+    octets: Vec<u8>,
+    place: usize,
+    piece: usize,
+    paused: bool,
+}
+
+impl Source for Trickle {
+    ghost use Rattle.std.specs.Prelude.{None};
+
+    ghost left = { λ _. None };
+
+    ghost faults = { λ _. 0 };
+
+    fn read(&mut self, buf: &mut [u8]) -> Result<usize, Failed> {
+        self.paused = !self.paused;
+        if self.paused || self.place > self.octets.len() {
+            return Ok(0);
+        }
+        let (_, rest) = self.octets.as_slice().split_at(self.place);
+        let count = self.piece.min(rest.len()).min(buf.len());
+        buf[..count].copy_from_slice(&rest[..count]);
+        self.place = self.place.saturating_add(count);
+        Ok(count)
+    }
+}
+
+/// A letter for each item that comes before the source was quiet that many times in a row.
+fn letters<S: TagSource>(alloc: Global, source: &mut S, most: u32) -> Result<Vec<u8>, Memory> {
+    let mut found = Vec::new(alloc);
+    let mut quiet: u32 = 0;
+    for _ in 0..100_000 {
+        if quiet == most {
+            return Ok(found);
+        }
+        let letter = match source.next() {
+            Told::Quiet => b'q',
+            Told::Add { .. } => b'a',
+            Told::Change { .. } => b'c',
+            Told::Gone { .. } => b'g',
+            Told::Bad { .. } => b'b',
+            Told::Ended => b'e',
+            Told::Failed => b'f',
+            Told::Memory => b'm',
+        };
+        if letter == b'q' {
+            quiet = quiet.saturating_add(1);
+        } else {
+            quiet = 0;
+            found.push(letter)?;
+        }
+    }
+    Ok(found)
+}
+
+/// Lines of every kind, the last without an end.
+fn every_kind(alloc: Global) -> Result<Vec<u8>, Memory> {
+    let mut octets = Vec::from_slice(alloc, b"add 1 /opt/a ")?;
+    octets.extend_from_slice(TAG)?;
+    octets.extend_from_slice(b"\nchange 1 \\e ")?;
+    octets.extend_from_slice(TAG)?;
+    octets.extend_from_slice(b"\nxml 2 i \\x20 -\n\ngone 1\n quiet\ngone 2\nend\nend")?;
+    Ok(octets)
+}
+
+#[test]
+fn pieces_do_not_matter(rt: HostRuntime) -> Result<(), Memory> {
+    let alloc = rt.alloc();
+    for piece in 1..150 {
+        let trickle = Trickle {
+            octets: every_kind(alloc)?,
+            place: 0,
+            piece,
+            paused: false,
+        };
+        let mut source = LineSource::new(alloc, trickle)?;
+        let found = letters(alloc, &mut source, 200)?;
+        assert!(rt; found.as_slice() == b"acabgbge".as_slice());
+    }
+    Ok(())
+}
+
+#[test]
+fn a_failed_call_loses_nothing(rt: HostRuntime) -> Result<(), Memory> {
+    let alloc = rt.alloc();
+    let octets = every_kind(alloc)?;
+    let mut source = lines(alloc, octets.as_slice(), &[1, 2, 4])?;
+    let found = letters(alloc, &mut source, 2)?;
+    assert!(rt; found.as_slice() == b"ffacabgbgef".as_slice());
+    Ok(())
+}
+
+#[test]
+fn a_long_line_is_one_bad_line(rt: HostRuntime) -> Result<(), Memory> {
+    let alloc = rt.alloc();
+    let mut octets = Vec::with_capacity(alloc, 9_000_000)?;
+    for _ in 0..4_194_304 {
+        octets.push(b'x')?;
+    }
+    octets.extend_from_slice(b"gone 7\n")?;
+    for _ in 0..4_194_304 {
+        octets.push(b'x')?;
+    }
+    octets.extend_from_slice(b"\ngone 8\n")?;
+    let mut source = lines(alloc, octets.as_slice(), &[])?;
+    let mut found = Vec::new(alloc);
+    for _ in 0..5 {
+        match source.next() {
+            Told::Gone { key } => found.push(u64::from(key) + 100)?,
+            Told::Bad { line } => found.push(line)?,
+            _ => found.push(0)?,
+        }
+    }
+    assert!(rt; found.as_slice() == [1, 107, 3, 108, 0].as_slice());
+    Ok(())
+}
