@@ -11,7 +11,7 @@ use Rattle.source_set.specs.Deeds.{Deed, Done, deeds, does, gives_up, keys_after
 use Rattle.source_set.specs.Doing.{IsKnown, Works}
 use Rattle.source_set.specs.Items.{Gave, Reported, Tells}
 use Rattle.source_set.specs.Keys.{Held}
-use Rattle.source_set.specs.declared.set.Stop.{Stop}
+use Rattle.source_set.specs.declared.seat.Stop.{Stop}
 use Rattle.source_set.specs.declared.told.Told.{Told}
 use Rattle.source_set.specs.declared.told.Told.TheVariants as told
 use Rattle.source_set.proofs.Working.{works_more, works_none}

@@ -3,7 +3,7 @@ use Rattle.std.proofs.Common.{◌≡◌, ℕ, Bool, true, false, List, [], Resul
 use Rattle.collector_core.specs.declared.chronicle.Mark.{Mark}
 use Rattle.collector_core.specs.Chronicle.{Chronicle}
 use Rattle.source_set.specs.Asking.{Hears, IsItem, NoItem, Refused, Stand}
-use Rattle.source_set.specs.declared.set.Stop.{Stop}
+use Rattle.source_set.specs.declared.seat.Stop.{Stop}
 use Rattle.source_set.specs.declared.told.Told.{Told}
 use Rattle.source_set.specs.declared.told.Told.TheVariants as told
 

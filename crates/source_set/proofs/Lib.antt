@@ -4,3 +4,5 @@ pub mod KeyLaws
 pub mod Performing
 pub mod Asked
 pub mod Hearing
+pub mod Causing
+pub mod InOrder

@@ -1,5 +1,5 @@
 -- How a source is asked, and what is done of what it reports.
-use Rattle.std.specs.Prelude.{◌≡◌, ◌<◌, ◌≤◌, ◌⊎◌, ℕ, Bool, true, false, List, [], ◌∷◌, ◌++◌, Option, Some, None, Result, Ok, Err, length, map}
+use Rattle.std.specs.Prelude.{◌≡◌, ◌==◌, ◌<◌, ◌≤◌, ◌⊎◌, ℕ, Bool, true, false, List, [], ◌∷◌, ◌++◌, Option, Some, None, Result, Ok, Err, length, map}
 use Rattle.wire_base.specs.Outside.{HasCause}
 use Rattle.collector_core.specs.declared.chronicle.Mark.{Mark}
 use Rattle.collector_core.specs.declared.error.BookError.{BookError}
@@ -11,7 +11,9 @@ use Rattle.source_set.specs.Items.{Gave, Reported, Tells}
 use Rattle.source_set.specs.Keys.{Held}
 use Rattle.source_set.specs.declared.doing.Undone.{Undone}
 use Rattle.source_set.specs.declared.doing.Undone.TheVariants as undone
-use Rattle.source_set.specs.declared.set.Stop.{Stop}
+use Rattle.source_set.specs.declared.seat.Seat.{Seat}
+use Rattle.source_set.specs.declared.seat.Stop.{Stop}
+use Rattle.source_set.specs.declared.swept.Swept.{Swept}
 use Rattle.source_set.specs.declared.swept.SweepError.{SweepError}
 use Rattle.source_set.specs.declared.swept.SweepError.TheVariants as swept
 use Rattle.source_set.specs.declared.told.Told.{Told}
@@ -28,6 +30,9 @@ pub record Stand (B D : Type 0) : Type 0 where
   pub source : Option B
   pub place : Place D
 
+abbrev pub stand : {B D : Type 0} → Seat B → D → Swept → Stand B D
+stand seat desk swept = record { source = seat.source; place = record { keys = seat.keys; desk = desk; swept = swept } }
+
 -- ---- why a source is asked no further
 
 abbrev pub without_item : SweepError → Stop
@@ -39,18 +44,21 @@ stop_of source item (undone.UnknownKey key) = without_item (swept.UnknownKey sou
 stop_of source item (undone.Book refused.Memory) = record { error = swept.Memory; item = Some item }
 stop_of source item (undone.Book error) = record { error = swept.Book error; item = Some item }
 
--- A call of the outside failed.
-abbrev pub has_failed : SweepError → Bool
-has_failed (swept.SourceFailed source) = true
-has_failed other = false
+-- A call of the outside failed, of the source of this number.
+abbrev pub is_failure : ℕ → SweepError → Bool
+is_failure number (swept.SourceFailed source) = source == number
+is_failure number other = false
 
-abbrev pub asked_failed : {T : Type 0} → Result T Stop → Bool
-asked_failed (Ok done) = false
-asked_failed (Err stop) = has_failed stop.error
+abbrev pub asked_failed : {T : Type 0} → ℕ → Result T Stop → Bool
+asked_failed number (Ok done) = false
+asked_failed number (Err stop) = is_failure number stop.error
 
-abbrev pub sweep_failed : Result Unit SweepError → Bool
-sweep_failed (Ok done) = false
-sweep_failed (Err error) = has_failed error
+-- The two halves of a fault's cause, of a source that may be given up. Where it was or is given up,
+-- no call of it failed.
+abbrev pub HasCauseAt : {B : Type 0} → (B → ℕ) → Option B → Option B → Bool → Type 0
+HasCauseAt faults (Some before) (Some after) failed = HasCause (faults before) (faults after) failed
+HasCauseAt faults (Some before) None failed = failed ≡ false
+HasCauseAt faults None after failed = (after ≡ None) × (failed ≡ false)
 
 -- ---- what is done of an item
 

@@ -3,3 +3,4 @@ pub mod Keys
 pub mod Deeds
 pub mod Doing
 pub mod Asking
+pub mod Sweeping

@@ -8,6 +8,7 @@
 //! |---|---|
 //! | `told.rt` | what a source reports, and what a source is |
 //! | `set.rt` | the sources of an inventory, and a sweep over them |
+//! | `seat.rt` | a source of a set, asked for items |
 //! | `swept.rt` | what a sweep did, and why it stopped |
 //! | `doing.rt`, `keys.rt` | an item done at a desk; the keys that a source holds |
 //!
@@ -18,14 +19,16 @@
 //! | `Items` | what a call of a source reports |
 //! | `Deeds`, `Keys` | what items do to records, and to the keys that are held |
 //! | `Doing`, `Asking` | an item done or refused at a desk; a source that is asked |
+//! | `Sweeping` | a set of sources, and a sweep over it |
 #![tactic(auto)]
 
 mod doing;
 mod keys;
+mod seat;
 mod set;
 mod swept;
 mod told;
 
-pub use set::SourceSet;
+pub use set::{SourceSet, Sources};
 pub use swept::{SweepError, Swept};
 pub use told::{TagSource, Told};

@@ -1,67 +1,65 @@
-//! The sources of an inventory, and what they reported of it.
+//! The sources of an inventory, and a sweep over them.
 
-ghost use Rattle.std.specs.Prelude.{◌≡◌, ◌≤◌, Some, true, length, MatchOption};
+ghost use Rattle.std.specs.Prelude.{◌≡◌, ◌≤◌, true, IfOk, length};
 ghost use Rattle.wire_base.specs.Outside.{HasCause};
 ghost use Rattle.wire_base.specs.Stamp.{IsStamp};
-ghost use Rattle.source_set.specs.Asking.{Asks, AsksOnce, Hears, IsItem, NoItem, Tries, left_by, numbered, without_item};
-ghost use Rattle.source_set.specs.Deeds.{count, gives_up};
-ghost use Rattle.source_set.specs.Items.{Reported, is_failed};
+ghost use Rattle.source_set.specs.Sweeping.{AsksAll, DoesKept, HaveCauses, IsSeated, Sweeps, SweepsSeats, fresh, is_failed_at, is_source_failed, kept_of, row, seated, stopped_failed, sweep_failed};
 
-use crate::doing::{Undone, perform};
 use crate::keys::Keys;
+use crate::seat::{Seat, Stop, ask, do_item};
 use crate::swept::{SweepError, Swept};
 use crate::told::{TagSource, Told};
-use collector_core::{BookError, Desk};
+use collector_core::Desk;
 use std::alloc::Global;
-use swima_model::Content;
+use std::marker::Model;
 use wire_base::Memory;
 
-/// How many items one sweep takes of one source at most.
-const MOST_ITEMS: u32 = 1024;
-
-/// A source that has not ended, and the records of its keys.
-#[derive(Drop)]
-struct Seat {
-    source: Option<Box<dyn TagSource + Send>>,
-    keys: Keys,
-}
+/// The sources of an inventory in boxes.
+pub type SourceSet = Sources<Box<dyn TagSource + Send>>;
 
 /// An item that was reported and is not done, and the number of its source.
 #[derive(Debug, Drop)]
-struct Kept {
+pub struct Kept {
+    /// The number of the source.
+    pub source: u8,
+    /// The item.
+    pub item: Told,
+}
+
+/// The number of the source that a sweep stopped at, and why it stopped.
+#[derive(Debug, Drop)]
+struct Stopped {
     source: u8,
-    item: Told,
+    stop: Stop,
 }
 
 /// The sources of an inventory, numbered from 0, with the record of each key that they hold.
 #[derive(Drop)]
-pub struct SourceSet {
-    seats: Vec<Seat>,
+pub struct Sources<S: Drop> {
+    seats: Vec<Seat<S>>,
     kept: Option<Kept>,
     faults: u64,
 }
 
-/// Why a source was asked no further, and its item where that is to be done first next time.
-#[derive(Debug, Drop)]
-struct Stop {
-    error: SweepError,
-    item: Option<Told>,
+impl<S: Drop> Model for Sources<S> {
+    ghost use Rattle.std.specs.Prelude.{◌≤◌, length};
+    ghost use Rattle.source_set.specs.Sweeping.{IsSeated, SetView};
+
+    ghost Value = { SetView S };
+
+    ghost view = { λ set. record { seats = set.seats.items; kept = set.kept; faults = set.faults } };
+
+    ghost invariant = { λ set. (length set.seats.items ≤ 255) × IsSeated (length set.seats.items) set.kept };
 }
 
-impl SourceSet {
-    /// The set of these sources, which hold no key yet.
-    pub fn new(alloc: Global, sources: Vec<Box<dyn TagSource + Send>>) -> Result<SourceSet, Memory>
+impl<S: TagSource> Sources<S> {
+    /// The set of these sources, at most 255, which hold no key yet.
+    pub fn new(alloc: Global, sources: Vec<S>) -> Result<Self, Memory>
         requires few { length sources.items ≤ 255 }
+        ensures made { IfOk result (λ made. made ≡ fresh sources.items) }
     {
-        let mut seats = Vec::with_capacity(alloc, sources.len())?;
-        for source in sources {
-            seats.push(Seat {
-                source: Some(source),
-                keys: Keys::new(alloc),
-            })?;
-        }
-        Ok(SourceSet {
-            seats,
+        Ok(Sources {
+            seats: seated(alloc, sources)?,
             kept: None,
             faults: 0,
         })
@@ -76,238 +74,130 @@ impl SourceSet {
     ) -> (Swept, Result<(), SweepError>)
         requires takes { D.takes desk.old ≡ true }
         requires stamp { IsStamp stamp.now }
-        ensures takes { D.takes desk.new ≡ true }
-    {
-        let mut swept = Swept::NOTHING;
-        let result = self.sweep_all(desk, stamp, &mut swept);
-        if let Err(SweepError::SourceFailed { .. }) = result {
-            self.faults = self.faults.saturating_add(1);
-        }
-        (swept, result)
-    }
-
-    fn sweep_all<D: Desk>(
-        &mut self,
-        desk: &mut D,
-        stamp: &[u8; 20],
-        swept: &mut Swept,
-    ) -> Result<(), SweepError>
-        requires takes { D.takes desk.old ≡ true }
-        requires stamp { IsStamp stamp.now }
+        ensures swept { Sweeps S.reports D.stands D.went stamp.now self.old self.new desk.old desk.new result.0 result.1 }
+        ensures causes { HaveCauses S.faults self.old.seats self.new.seats (λ number. is_failed_at number result.1) }
+        ensures cause { HasCause self.old.faults self.new.faults (sweep_failed result.1) }
         ensures takes { D.takes desk.new ≡ true }
     {
         let alloc = *self.seats.allocator();
-        if let Some(kept) = self.kept.take() {
-            let place = kept.source as usize;
-            let done = do_item(
-                alloc,
-                &mut self.seats[place],
-                kept.source,
-                kept.item,
-                desk,
-                stamp,
-                swept,
-            );
-            self.keep(kept.source, done)?;
-        }
-        for place in 0..self.seats.len() {
-            let number = place as u8;
-            let asked = ask(alloc, &mut self.seats[place], number, desk, stamp, swept);
-            self.keep(number, asked)?;
-        }
-        Ok(())
-    }
-
-    /// Keeps the item of a source that stopped, where it is to be done first next time.
-    fn keep(&mut self, source: u8, asked: Result<(), Stop>) -> Result<(), SweepError> {
-        match asked {
-            Ok(()) => Ok(()),
-            Err(Stop { error, item }) => {
-                if let Some(item) = item {
-                    self.kept = Some(Kept { source, item });
-                }
-                Err(error)
+        let kept = self.kept.take();
+        let mut swept = Swept::NOTHING;
+        match sweep_seats(alloc, &mut self.seats, kept, desk, stamp, &mut swept) {
+            Ok(()) => (swept, Ok(())),
+            Err(Stopped { source, stop }) => {
+                keep(&mut self.kept, source, stop.item);
+                self.faults = counted(self.faults, &stop.error);
+                (swept, Err(stop.error))
             }
         }
     }
 }
 
-/// Asks a source until it is quiet, has ended or has reported 1024 items.
-fn ask<D: Desk>(
+/// A seat for each source, with no key.
+fn seated<S: Drop>(alloc: Global, sources: Vec<S>) -> Result<Vec<Seat<S>>, Memory>
+    ensures seated { IfOk result (λ made. made.items ≡ seated sources.items) }
+{
+    let mut seats = Vec::with_capacity(alloc, sources.len())?;
+    for source in sources {
+        seats.push(Seat {
+            source: Some(source),
+            keys: Keys::new(alloc),
+        })?;
+    }
+    Ok(seats)
+}
+
+/// Keeps an item that is to be done first next time, where there is one.
+fn keep(kept: &mut Option<Kept>, source: u8, item: Option<Told>)
+    ensures kept { kept.new ≡ kept_of source item }
+{
+    *kept = match item {
+        Some(item) => Some(Kept { source, item }),
+        None => None,
+    };
+}
+
+/// The count of faults after a sweep that stopped.
+fn counted(faults: u64, error: &SweepError) -> u64
+    ensures cause { HasCause faults result (is_source_failed error.now) }
+{
+    if let SweepError::SourceFailed { .. } = error {
+        faults.saturating_add(1)
+    } else {
+        faults
+    }
+}
+
+/// Does the item that was kept, and then asks each source in order.
+fn sweep_seats<S: TagSource, D: Desk>(
     alloc: Global,
-    seat: &mut Seat,
-    number: u8,
+    seats: &mut Vec<Seat<S>>,
+    kept: Option<Kept>,
     desk: &mut D,
     stamp: &[u8; 20],
     swept: &mut Swept,
-) -> Result<(), Stop>
+) -> Result<(), Stopped>
+    requires few { length seats.old.items ≤ 255 }
+    requires seated { IsSeated (length seats.old.items) kept }
     requires takes { D.takes desk.old ≡ true }
     requires stamp { IsStamp stamp.now }
-    ensures asked { Asks (λ source. reports source) D.stands D.went stamp.now number (record { source = seat.old.source; place = record { keys = seat.old.keys; desk = desk.old; swept = swept.old } }) (record { source = seat.new.source; place = record { keys = seat.new.keys; desk = desk.new; swept = swept.new } }) result }
+    ensures swept { SweepsSeats S.reports D.stands D.went stamp.now kept (row seats.old.items desk.old swept.old) (row seats.new.items desk.new swept.new) result }
+    ensures causes { HaveCauses S.faults seats.old.items seats.new.items (λ number. stopped_failed number result) }
     ensures takes { D.takes desk.new ≡ true }
 {
-    for _asked in 0..MOST_ITEMS {
-        match ask_once(alloc, seat, number, desk, stamp, swept) {
-            Ok(more) => {
-                if !more {
-                    return Ok(());
-                }
-            }
-            Err(stop) => return Err(stop),
+    match do_kept(alloc, seats, kept, desk, stamp, swept) {
+        Ok(()) => ask_all(alloc, seats, desk, stamp, swept),
+        Err(stopped) => Err(stopped),
+    }
+}
+
+/// Does the item that was kept, where there is one.
+fn do_kept<S: TagSource, D: Desk>(
+    alloc: Global,
+    seats: &mut Vec<Seat<S>>,
+    kept: Option<Kept>,
+    desk: &mut D,
+    stamp: &[u8; 20],
+    swept: &mut Swept,
+) -> Result<(), Stopped>
+    requires seated { IsSeated (length seats.old.items) kept }
+    requires takes { D.takes desk.old ≡ true }
+    requires stamp { IsStamp stamp.now }
+    ensures done { DoesKept S.reports D.stands D.went stamp.now kept (row seats.old.items desk.old swept.old) (row seats.new.items desk.new swept.new) result }
+    ensures causes { HaveCauses S.faults seats.old.items seats.new.items (λ number. stopped_failed number result) }
+    ensures takes { D.takes desk.new ≡ true }
+{
+    let Some(Kept { source, item }) = kept else {
+        return Ok(());
+    };
+    let place = source as usize;
+    match do_item(alloc, &mut seats[place], source, item, desk, stamp, swept) {
+        Ok(()) => Ok(()),
+        Err(stop) => Err(Stopped { source, stop }),
+    }
+}
+
+/// Asks each source in order.
+fn ask_all<S: TagSource, D: Desk>(
+    alloc: Global,
+    seats: &mut Vec<Seat<S>>,
+    desk: &mut D,
+    stamp: &[u8; 20],
+    swept: &mut Swept,
+) -> Result<(), Stopped>
+    requires few { length seats.old.items ≤ 255 }
+    requires takes { D.takes desk.old ≡ true }
+    requires stamp { IsStamp stamp.now }
+    ensures asked { AsksAll S.reports D.stands D.went stamp.now 0 seats.old.items desk.old swept.old seats.new.items desk.new swept.new result }
+    ensures causes { HaveCauses S.faults seats.old.items seats.new.items (λ number. stopped_failed number result) }
+    ensures takes { D.takes desk.new ≡ true }
+{
+    for place in 0..seats.len() {
+        let source = place as u8;
+        match ask(alloc, &mut seats[place], source, desk, stamp, swept) {
+            Ok(()) => {}
+            Err(stop) => return Err(Stopped { source, stop }),
         }
     }
     Ok(())
-}
-
-/// Asks a source once. Whether it may be asked for more.
-fn ask_once<D: Desk>(
-    alloc: Global,
-    seat: &mut Seat,
-    number: u8,
-    desk: &mut D,
-    stamp: &[u8; 20],
-    swept: &mut Swept,
-) -> Result<bool, Stop>
-    requires takes { D.takes desk.old ≡ true }
-    requires stamp { IsStamp stamp.now }
-    ensures asked { AsksOnce (λ source. reports source) D.stands D.went stamp.now number (record { source = seat.old.source; place = record { keys = seat.old.keys; desk = desk.old; swept = swept.old } }) (record { source = seat.new.source; place = record { keys = seat.new.keys; desk = desk.new; swept = swept.new } }) result }
-    ensures takes { D.takes desk.new ≡ true }
-{
-    let Some(source) = &mut seat.source else {
-        return Ok(false);
-    };
-    let told = numbered(next_of(source), number);
-    hear(alloc, seat, number, told, desk, stamp, swept)
-}
-
-/// The next item of a source in a box.
-fn next_of(source: &mut Box<dyn TagSource + Send>) -> Told
-    ensures reported { Reported (λ source. reports source) source.old result source.new }
-    ensures cause { HasCause (faults source.old) (faults source.new) (is_failed result) }
-{
-    source.next()
-}
-
-/// Does what a source reports. Whether it may be asked for more.
-fn hear<D: Desk>(
-    alloc: Global,
-    seat: &mut Seat,
-    number: u8,
-    told: Told,
-    desk: &mut D,
-    stamp: &[u8; 20],
-    swept: &mut Swept,
-) -> Result<bool, Stop>
-    requires takes { D.takes desk.old ≡ true }
-    requires stamp { IsStamp stamp.now }
-    ensures heard { Hears D.stands D.went stamp.now told number (record { source = seat.old.source; place = record { keys = seat.old.keys; desk = desk.old; swept = swept.old } }) (record { source = seat.new.source; place = record { keys = seat.new.keys; desk = desk.new; swept = swept.new } }) result }
-    ensures takes { D.takes desk.new ≡ true }
-{
-    match no_item(&told, number) {
-        Some(answer) => answer,
-        None => match do_item(alloc, seat, number, told, desk, stamp, swept) {
-            Ok(()) => Ok(true),
-            Err(stop) => Err(stop),
-        },
-    }
-}
-
-/// What is answered of what is no item.
-fn no_item(told: &Told, number: u8) -> Option<Result<bool, Stop>>
-    ensures answer { MatchOption result (IsItem told.now) (λ answer. NoItem number told.now answer) }
-{
-    match told {
-        Told::Quiet => Some(Ok(false)),
-        Told::Bad { line } => Some(Err(without_item(SweepError::BadLine {
-            source: number,
-            line: *line,
-        }))),
-        Told::Failed => Some(Err(without_item(SweepError::SourceFailed { source: number }))),
-        Told::Memory => Some(Err(without_item(SweepError::Memory))),
-        Told::Add { .. } => None,
-        Told::Change { .. } => None,
-        Told::Gone { .. } => None,
-        Told::Ended => None,
-    }
-}
-
-/// Why a source is asked no further, where no item is kept.
-fn without_item(error: SweepError) -> Stop
-    ensures stop { result ≡ without_item error }
-{
-    Stop { error, item: None }
-}
-
-/// Why a source is asked no further, where its item is kept.
-fn with_item(error: SweepError, item: Told) -> Stop
-    ensures stop { result ≡ record { error = error; item = Some item } }
-{
-    Stop {
-        error,
-        item: Some(item),
-    }
-}
-
-/// Does an item of a source, and gives the source up where it ended.
-fn do_item<D: Desk>(
-    alloc: Global,
-    seat: &mut Seat,
-    number: u8,
-    item: Told,
-    desk: &mut D,
-    stamp: &[u8; 20],
-    swept: &mut Swept,
-) -> Result<(), Stop>
-    requires takes { D.takes desk.old ≡ true }
-    requires stamp { IsStamp stamp.now }
-    ensures tried { Tries D.stands D.went stamp.now item number (record { source = seat.old.source; place = record { keys = seat.old.keys; desk = desk.old; swept = swept.old } }) (record { source = seat.new.source; place = record { keys = seat.new.keys; desk = desk.new; swept = swept.new } }) result }
-    ensures takes { D.takes desk.new ≡ true }
-{
-    match perform(alloc, &mut seat.keys, desk, stamp, &item, swept) {
-        Ok(()) => {
-            give_up(seat, &item, swept);
-            Ok(())
-        }
-        Err(Undone::UnknownKey { key }) => Err(without_item(SweepError::UnknownKey {
-            source: number,
-            key,
-        })),
-        Err(Undone::Book(BookError::Memory)) => Err(with_item(SweepError::Memory, item)),
-        Err(Undone::Book(error)) => Err(with_item(SweepError::Book(error), item)),
-    }
-}
-
-/// Gives a source up, where its item is that it ended.
-fn give_up(seat: &mut Seat, item: &Told, swept: &mut Swept)
-    ensures source { seat.new.source ≡ left_by item.now seat.old.source }
-    ensures keys { seat.new.keys ≡ seat.old.keys }
-    ensures counted { swept.new ≡ count swept.old (gives_up item.now) }
-{
-    if let Told::Ended = item {
-        seat.source = None;
-        swept.dropped = swept.dropped.saturating_add(1);
-    }
-}
-
-/// The item with the number of its source in its content.
-fn numbered(item: Told, source: u8) -> Told
-    ensures item { result ≡ numbered source item }
-{
-    match item {
-        Told::Add { key, content } => Told::Add {
-            key,
-            content: of_source(content, source),
-        },
-        Told::Change { key, content } => Told::Change {
-            key,
-            content: of_source(content, source),
-        },
-        other => other,
-    }
-}
-
-fn of_source(content: Content, source: u8) -> Content
-    ensures content { result ≡ record content { source = source } }
-{
-    Content { source, ..content }
 }

@@ -59,3 +59,13 @@ pub trait TagSource: Drop {
         ensures reported { Reported reports self.old result self.new }
         ensures cause { HasCause (faults self.old) (faults self.new) (is_failed result) };
 }
+
+impl TagSource for Box<dyn TagSource + Send> {
+    ghost reports = { λ source. (TagSource-box source).reports source.value };
+
+    ghost faults = { λ source. (TagSource-box source).faults source.value };
+
+    fn next(&mut self) -> Told {
+        (**self).next()
+    }
+}

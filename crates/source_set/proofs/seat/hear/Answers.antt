@@ -1,5 +1,5 @@
 use Rattle.source_set.proofs.Hearing.{hears_none, hears_refused}
-use Rattle.source_set.proofs.set.hear.Goals as goal
+use Rattle.source_set.proofs.seat.hear.Goals as goal
 
 pub returns-in-Some-clause-heard : goal.returns-in-Some-clause-heard
 returns-in-Some-clause-heard g c =

@@ -1,7 +1,7 @@
 use Rattle.std.proofs.Common.{◌∙◌, ◌++◌}
 use Rattle.source_set.specs.Deeds.{does, gives_up}
 use Rattle.source_set.proofs.Working.{given_up, works_more}
-use Rattle.source_set.proofs.set.do_item.Goals as goal
+use Rattle.source_set.proofs.seat.do_item.Goals as goal
 
 pub returns-in-Ok-clause-tried : goal.returns-in-Ok-clause-tried
 returns-in-Ok-clause-tried g c =
