@@ -98,10 +98,10 @@ module _ {B D : Type 0} (faults : B → ℕ) (stands : D → Chronicle → Type 
 
   heard_cause : (number : ℕ) (first onward : B) (item : Told) (place : Place D) (after : Stand B D) (result : Result Bool Stop) → HasCause (faults first) (faults onward) (is_failed item)
       → Hears stands went stamp (numbered number item) number (record { source = Some onward; place = place }) after result → HasCauseAt faults (Some first) after.source (asked_failed number result)
-  heard_cause number first onward (told.Add key content) place after (Ok true) cause heard = done_cause number first onward (told.Add key content) _ after cause refl refl heard.1.source
-  heard_cause number first onward (told.Change key content) place after (Ok true) cause heard = done_cause number first onward (told.Change key content) _ after cause refl refl heard.1.source
-  heard_cause number first onward (told.Gone key) place after (Ok true) cause heard = done_cause number first onward (told.Gone key) _ after cause refl refl heard.1.source
-  heard_cause number first onward told.Ended place after (Ok true) cause heard = done_cause number first onward told.Ended _ after cause refl refl heard.1.source
+  heard_cause number first onward (told.Add key content) place after (Ok true) cause heard = done_cause number first onward (told.Add key content) (record { source = Some onward; place = place }) after cause refl refl heard.1.source
+  heard_cause number first onward (told.Change key content) place after (Ok true) cause heard = done_cause number first onward (told.Change key content) (record { source = Some onward; place = place }) after cause refl refl heard.1.source
+  heard_cause number first onward (told.Gone key) place after (Ok true) cause heard = done_cause number first onward (told.Gone key) (record { source = Some onward; place = place }) after cause refl refl heard.1.source
+  heard_cause number first onward told.Ended place after (Ok true) cause heard = done_cause number first onward told.Ended (record { source = Some onward; place = place }) after cause refl refl heard.1.source
   heard_cause number first onward told.Quiet place after (Ok true) cause heard = absurd heard.0
   heard_cause number first onward (told.Bad line) place after (Ok true) cause heard = absurd heard.0
   heard_cause number first onward told.Failed place after (Ok true) cause heard = absurd heard.0
@@ -125,8 +125,15 @@ module _ {B D : Type 0} (faults : B → ℕ) (stands : D → Chronicle → Type 
 
   -- ---- which source it was
 
-  refused_names : (number at : ℕ) (item : Told) (before after : Stand B D) (stop : Stop) → Refused stands went stamp item number before after stop → is_failure at stop.error ≡ false
+  pub refused_names : (number at : ℕ) (item : Told) (before after : Stand B D) (stop : Stop) → Refused stands went stamp item number before after stop → is_failure at stop.error ≡ false
   refused_names number at item before after stop refusal = ap (λ (s : Stop). is_failure at s.error) refusal.is ∙ undone_no_failure at number item refusal.why
+
+  -- No call was made.
+  pub refused_stays : (number at : ℕ) (item : Told) (before after : Stand B D) (stop : Stop) → Refused stands went stamp item number before after stop
+      → HasCauseAt faults before.source after.source (is_failure at stop.error)
+  refused_stays number at item before after stop refusal =
+      subst (λ (o : Option B). HasCauseAt faults before.source o (is_failure at stop.error)) (sym refusal.source)
+      (subst (λ (b : Bool). HasCauseAt faults before.source before.source b) (sym (refused_names number at item before after stop refusal)) (cause_none faults before.source))
 
   stops_names : (number at : ℕ) (item : Told) (before after : Stand B D) (stop : Stop) → at ≢ number → Stops stands went stamp item number before after stop → is_failure at stop.error ≡ false
   stops_names number at (told.Add key content) before after stop other stops = refused_names number at (told.Add key content) before after stop stops

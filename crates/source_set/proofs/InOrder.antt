@@ -4,13 +4,16 @@ use Rattle.std.proofs.lemmas.List.{append-nil, drop-drop, drop-set-lt, drop_all,
 use Rattle.collector_core.specs.declared.chronicle.Mark.{Mark}
 use Rattle.collector_core.specs.Chronicle.{Chronicle}
 use Rattle.source_set.specs.Asking.{Asks, stand}
-use Rattle.source_set.specs.Sweeping.{AsksAll, DoesKept, DoesOne, IsSeated, Row, SweepsSeats, kept_of, row, stopped_at}
+use Rattle.source_set.specs.Sweeping.{AsksAll, DoesKept, DoesOne, IsSeated, Row, SetView, SweepsSeats, kept_of, nothing, row, stopped_at}
 use Rattle.source_set.specs.declared.seat.Seat.{Seat}
 use Rattle.source_set.specs.declared.seat.Stop.{Stop}
 use Rattle.source_set.specs.declared.set.Kept.{Kept}
 use Rattle.source_set.specs.declared.set.Stopped.{Stopped}
 use Rattle.source_set.specs.declared.swept.Swept.{Swept}
 use Rattle.source_set.specs.declared.told.Told.{Told}
+
+abbrev setting : {B : Type 0} → List (Seat B) → Option Kept → ℕ → SetView B
+setting seats kept faults = record { seats = seats; kept = kept; faults = faults }
 
 -- What follows the first of some sources.
 tail_of : {B : Type 0} → (count : ℕ) (seats : List (Seat B)) (seat : Seat B) (others : List (Seat B)) → drop count seats ≡ seat ∷ others → drop (count + 1) seats ≡ others
@@ -107,7 +110,19 @@ module _ {B D : Type 0} (reports : B → List Told → Type 0) (stands : D → C
       omega (arith, within, kept_same kept before on.0 (Ok tt) on.1)
   swept_within kept before after stopped (inr one) = kept_within kept before after stopped one.2
 
+  -- What was swept, of the set as others see it.
+  pub swept_seen : (view : SetView B) (seats : List (Seat B)) (kept taken : Option Kept) (faults : ℕ) (desk : D) (after : Row B D) (result : Result Unit Stopped)
+      → setting seats kept faults ≡ view → taken ≡ kept → SweepsSeats reports stands went stamp taken (row seats desk nothing) after result
+      → SweepsSeats reports stands went stamp view.kept (row view.seats desk nothing) after result
+  swept_seen view seats kept taken faults desk after result is same swept =
+      subst (λ (v : SetView B). SweepsSeats reports stands went stamp v.kept (row v.seats desk nothing) after result) is
+      (subst (λ (k : Option Kept). SweepsSeats reports stands went stamp k (row seats desk nothing) after result) same swept)
+
 -- What is kept is of one of them.
 pub kept_seated : (count number : ℕ) (item : Option Told) → number < count → IsSeated count (kept_of number item)
 kept_seated count number None less = tt
 kept_seated count number (Some item) less = less
+
+-- What was kept is of one of them.
+pub seated_at : (count : ℕ) (kept : Option Kept) (here : Kept) → IsSeated count kept → kept ≡ Some here → here.source < count
+seated_at count kept here seated is = subst (IsSeated count) is seated
