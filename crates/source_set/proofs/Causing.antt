@@ -173,7 +173,7 @@ module _ {B : Type 0} (faults : B → ℕ) where
     λ number other within. elim (cases_eq number place) [
       | inl same ↦ subst (λ (n : ℕ). HasCauseAt faults (get_or before n other).source (get_or (set middle place left) n other).source (failed n)) (sym same) (causes_here before middle place d other seat left (failed place) less so-far is one)
       | inr apart ↦
-        subst (λ (b : Bool). HasCauseAt faults (get_or before number other).source (get_or (set middle place left) number other).source b) (sym (none number apart))
-        (subst (λ (s : Seat B). HasCauseAt faults (get_or before number other).source s.source false) (sym (get_or-set_other middle place number left other apart)) (so-far.1 number other within))
+          subst (λ (b : Bool). HasCauseAt faults (get_or before number other).source (get_or (set middle place left) number other).source b) (sym (none number apart))
+          (subst (λ (s : Seat B). HasCauseAt faults (get_or before number other).source s.source false) (sym (get_or-set_other middle place number left other apart)) (so-far.1 number other within))
     ],
   )
