@@ -7,8 +7,8 @@ ghost use Rattle.source_lines.specs.Lines.{BeginsWith, MOST_OCTETS, SameLines};
 ghost use Rattle.source_set.specs.declared.told.Told.TheVariants as told;
 
 use crate::line_item::item_of;
-use source_set::Told;
 use memchr::memchr;
+use source_set::Told;
 use std::alloc::Global;
 use std::marker::Model;
 use wire_base::Memory;

@@ -6,8 +6,8 @@ ghost use Rattle.source_lines.specs.LineItems.{AreTagged, AreDescribed, IsAlone,
 ghost use Rattle.source_lines.specs.Reading.{Finds, FindsExactly};
 
 use crate::reading::{bounded, read_key, read_octets, read_package, read_text};
-use source_set::Told;
 use crate::words::Words;
+use source_set::Told;
 use std::alloc::Global;
 use swima_model::{Content, Model};
 use wire_base::Memory;
