@@ -15,21 +15,24 @@ feed_none = refl
 
 -- ---- octets one after another
 
-feed_le-step : (x : ℕ) (xs : List ℕ) (test : Bool) → (x == 10) ≡ test → before_feed xs ≤ length xs → before_feed (x ∷ xs) ≤ 1 + length xs
+longer : (x : ℕ) (xs : List ℕ) → length (x ∷ xs) ≡ 1 + length xs
+longer x xs = omega arith
+
+feed_le-step : (x : ℕ) (xs : List ℕ) (test : Bool) → (x == 10) ≡ test → before_feed xs ≤ length xs → before_feed (x ∷ xs) ≤ length (x ∷ xs)
 feed_le-step x xs true is le = omega (arith, feed_at x xs true is)
-feed_le-step x xs false is le = omega (arith, feed_at x xs false is, le)
+feed_le-step x xs false is le = omega (arith, feed_at x xs false is, le, longer x xs)
 
 pub feed_le : (xs : List ℕ) → before_feed xs ≤ length xs
 feed_le [] = omega (arith, feed_none)
 feed_le (x ∷ xs) = feed_le-step x xs (x == 10) refl (feed_le xs)
 
 -- With a line feed among the first octets, others after them do not matter.
-feed_short-step : (x : ℕ) (xs ys : List ℕ) (test : Bool) → (x == 10) ≡ test → before_feed (x ∷ xs) < 1 + length xs
+feed_short-step : (x : ℕ) (xs ys : List ℕ) (test : Bool) → (x == 10) ≡ test → before_feed (x ∷ xs) < length (x ∷ xs)
     → (before_feed xs < length xs → before_feed (xs ++ ys) ≡ before_feed xs) → before_feed (x ∷ (xs ++ ys)) ≡ before_feed (x ∷ xs)
 feed_short-step x xs ys true is less later = feed_at x (xs ++ ys) true is ∙ sym (feed_at x xs true is)
 feed_short-step x xs ys false is less later =
     let more = feed_at x xs false is in
-    let same = later (omega (arith, less, more)) in
+    let same = later (omega (arith, less, more, longer x xs)) in
     omega (arith, feed_at x (xs ++ ys) false is, more, same)
 
 pub feed_short : (xs ys : List ℕ) → before_feed xs < length xs → before_feed (xs ++ ys) ≡ before_feed xs
@@ -37,24 +40,24 @@ feed_short [] ys less = absurd (omega (arith, less))
 feed_short (x ∷ xs) ys less = feed_short-step x xs ys (x == 10) refl less (feed_short xs ys)
 
 -- Without one, those after them follow.
-feed_open-step : (x : ℕ) (xs ys : List ℕ) (test : Bool) → (x == 10) ≡ test → before_feed (x ∷ xs) ≡ 1 + length xs
+feed_open-step : (x : ℕ) (xs ys : List ℕ) (test : Bool) → (x == 10) ≡ test → before_feed (x ∷ xs) ≡ length (x ∷ xs)
     → (before_feed xs ≡ length xs → before_feed (xs ++ ys) ≡ length xs + before_feed ys)
-    → before_feed (x ∷ (xs ++ ys)) ≡ 1 + length xs + before_feed ys
-feed_open-step x xs ys true is all later = absurd (omega (arith, feed_at x xs true is, all))
+    → before_feed (x ∷ (xs ++ ys)) ≡ length (x ∷ xs) + before_feed ys
+feed_open-step x xs ys true is all later = absurd (omega (arith, feed_at x xs true is, all, longer x xs))
 feed_open-step x xs ys false is all later =
     let more = feed_at x xs false is in
-    let same = later (omega (arith, all, more)) in
-    omega (arith, feed_at x (xs ++ ys) false is, same)
+    let same = later (omega (arith, all, more, longer x xs)) in
+    omega (arith, feed_at x (xs ++ ys) false is, same, longer x xs)
 
 pub feed_open : (xs ys : List ℕ) → before_feed xs ≡ length xs → before_feed (xs ++ ys) ≡ length xs + before_feed ys
-feed_open [] ys all = refl
+feed_open [] ys all = omega arith
 feed_open (x ∷ xs) ys all = feed_open-step x xs ys (x == 10) refl all (feed_open xs ys)
 
 -- ---- octets that were searched
 
 -- That many octets before the first line feed are passed over.
-feed_past-step : (n x : ℕ) (xs : List ℕ) (test : Bool) → (x == 10) ≡ test → 1 + n ≤ before_feed (x ∷ xs)
-    → (n ≤ before_feed xs → before_feed xs ≡ n + before_feed (drop n xs)) → before_feed (x ∷ xs) ≡ 1 + n + before_feed (drop n xs)
+feed_past-step : (n x : ℕ) (xs : List ℕ) (test : Bool) → (x == 10) ≡ test → suc n ≤ before_feed (x ∷ xs)
+    → (n ≤ before_feed xs → before_feed xs ≡ n + before_feed (drop n xs)) → before_feed (x ∷ xs) ≡ suc n + before_feed (drop n xs)
 feed_past-step n x xs true is le later = absurd (omega (arith, feed_at x xs true is, le))
 feed_past-step n x xs false is le later =
     let more = feed_at x xs false is in
@@ -62,7 +65,7 @@ feed_past-step n x xs false is le later =
     omega (arith, more, same)
 
 pub feed_past : (n : ℕ) (xs : List ℕ) → n ≤ before_feed xs → before_feed xs ≡ n + before_feed (drop n xs)
-feed_past zero xs le = refl
+feed_past zero xs le = omega arith
 feed_past (suc n) [] le = absurd (omega (arith, le, feed_none))
 feed_past (suc n) (x ∷ xs) le = feed_past-step n x xs (x == 10) refl le (feed_past n xs)
 

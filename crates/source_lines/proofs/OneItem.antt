@@ -1,6 +1,7 @@
 -- A line is one item.
 use Rattle.std.proofs.Common.{◌≡◌, ◌⊎◌, inl, inr, ◌<◌, ◌≤◌, ℕ, false, List, [], ◌∷◌, refl, sym, ap, ◌∙◌, subst, arith}
 use Rattle.swima_model.specs.declared.record.Content.{Content}
+use Rattle.swima_model.specs.declared.record.Model.{Model}
 use Rattle.source_set.specs.Items.{is_failed}
 use Rattle.source_lines.specs.LineItems.{AreDescribed, AreTagged, IsDescribed, IsItem, IsKey, IsTagged, Say, Says, SaysAfter}
 use Rattle.source_lines.specs.Reading.{IsPackage}
@@ -13,7 +14,10 @@ use Rattle.source_lines.proofs.Finding.{one_hex, one_key, one_package, one_text}
 -- ---- one content
 
 content_same : (a b : Content) → a.model ≡ b.model → a.source ≡ b.source → a.ident ≡ b.ident → a.locator ≡ b.locator → a.body ≡ b.body → a ≡ b
-content_same a b model source ident locator body = cc
+content_same a b model source ident locator body =
+    ap (λ (m : Model). record a { model = m }) model ∙ ap (λ (n : ℕ). record a { model = b.model; source = n }) source
+    ∙ ap (λ (i : List ℕ). record a { model = b.model; source = b.source; ident = i }) ident
+    ∙ ap (λ (l : List ℕ). record b { locator = l; body = a.body }) locator ∙ ap (λ (o : List ℕ). record b { body = o }) body
 
 -- Two contents under one key, by what their words are.
 pub record SameKeyed (one other : Keyed) : Type 0 where
