@@ -1,6 +1,7 @@
 -- How many octets stand before the first line feed.
-use Rattle.std.proofs.Common.{◌≡◌, ℕ, zero, suc, ◌+◌, ◌-◌, ◌<◌, ◌≤◌, Bool, true, false, cond, List, [], ◌∷◌, ◌++◌, Option, None, Some, length, take, drop, refl, sym, ap, ◌∙◌, arith, slice_index}
+use Rattle.std.proofs.Common.{◌≡◌, inl, inr, ℕ, zero, suc, ◌+◌, ◌-◌, ◌<◌, ◌≤◌, Bool, true, false, cond, List, [], ◌∷◌, ◌++◌, Option, None, Some, length, take, drop, refl, sym, ap, ◌∙◌, arith, slice_index}
 use Rattle.std.specs.Prelude.{◌==◌}
+use Rattle.std.proofs.lemmas.Bool.{cases_lt}
 use Rattle.memchr.specs.Find.{IsFirstByte, is_byte}
 use Rattle.source_lines.specs.Lines.{before_feed}
 
@@ -52,6 +53,13 @@ feed_open-step x xs ys false is all later =
 pub feed_open : (xs ys : List ℕ) → before_feed xs ≡ length xs → before_feed (xs ++ ys) ≡ length xs + before_feed ys
 feed_open [] ys all = omega arith
 feed_open (x ∷ xs) ys all = feed_open-step x xs ys (x == 10) refl all (feed_open xs ys)
+
+-- More octets have no fewer before the first line feed.
+pub feed_more : (xs ys : List ℕ) → before_feed xs ≤ before_feed (xs ++ ys)
+feed_more xs ys = elim (cases_lt (before_feed xs) (length xs)) [
+  | inl less ↦ omega (arith, feed_short xs ys less)
+  | inr all ↦ omega (arith, feed_open xs ys (omega (arith, all, feed_le xs)), all, feed_le xs)
+]
 
 -- ---- octets that were searched
 

@@ -18,7 +18,7 @@ use Rattle.coswid_codec.specs.Items.{tag_item}
 use Rattle.coswid_codec.specs.declared.read.TagRefused.{TagRefused}
 use Rattle.coswid_codec.specs.declared.read.TagRefused.TheVariants as tag_refused
 use Rattle.coswid_codec.proofs.Outcomes.{begins_one_tag, not_both}
-use Rattle.source_lines.specs.Reading.{Finds, IsHex, IsIdentOf, IsPackage, IsPackageOf, IsText, IsWithin}
+use Rattle.source_lines.specs.Reading.{Finds, FindsNoTag, IsHex, IsIdentOf, IsPackage, IsPackageOf, IsText, IsWithin}
 use Rattle.source_lines.specs.declared.reading.Package.{Package}
 
 -- ---- one value
@@ -104,3 +104,15 @@ no_package_behind octets tag used begins less made is = omega (arith, (begins_on
 -- They begin with no tag.
 pub no_package : (octets : List ℕ) (why : TagRefused) → (why ≡ tag_refused.Memory → ⊥) → IsRefusal octets why → (made : Package) → IsPackage octets made → ⊥
 no_package octets why not_memory refusal made is = not_both octets is.tag (length octets) why is.whole (not_memory, refusal)
+
+-- A refusal is found of octets that are no tag.
+pub no_tag_found : (octets : List ℕ) (why : TagRefused) (result : Result (Option Package) Memory) → IsRefusal octets why → FindsNoTag why result → Finds (IsPackage octets) result
+no_tag_found octets (tag_refused.Cbor fault) result refusal none = subst (Finds (IsPackage octets)) (sym none) (no_package octets (tag_refused.Cbor fault) (λ e. absurd cc) refusal)
+no_tag_found octets (tag_refused.Form fault) result refusal none = subst (Finds (IsPackage octets)) (sym none) (no_package octets (tag_refused.Form fault) (λ e. absurd cc) refusal)
+no_tag_found octets tag_refused.Memory result refusal none = subst (Finds (IsPackage octets)) (sym none.1) tt
+
+-- The octets of the digits are no package's.
+pub no_hex_package : (digits octets slice other : List ℕ) (made : Package) → IsHex digits octets → slice ≡ octets → IsHex digits other → IsPackage other made
+    → ((value : Package) → IsPackage slice value → ⊥) → ⊥
+no_hex_package digits octets slice other made hex same also package none =
+    none made (subst (λ (o : List ℕ). IsPackage o made) (one_hex digits other octets also hex ∙ sym same) package)

@@ -1,6 +1,5 @@
 -- The items that octets are, as a source goes on from one to the next.
 use Rattle.std.proofs.Common.{◌≡◌, ◌⊎◌, inl, inr, ◌+◌, ◌<◌, ◌≤◌, ℕ, List, [], ◌∷◌, ◌++◌, length, take, drop, refl, sym, ap, ◌∙◌, subst, arith, length-append}
-use Rattle.std.proofs.lemmas.Bool.{cases_lt}
 use Rattle.std.proofs.lemmas.List.{take-append-le, drop-append-le}
 use Rattle.wire_base.specs.Counter.{next}
 use Rattle.source_set.specs.Items.{Tells}
@@ -8,7 +7,7 @@ use Rattle.source_lines.specs.LineItems.{IsItem}
 use Rattle.source_lines.specs.Lines.{AreItems, BeginsLine, BeginsLong, IsUnfinished, MOST_OCTETS, before_feed}
 use Rattle.source_set.specs.declared.told.Told.{Told}
 use Rattle.source_set.specs.declared.told.Told.TheVariants as told
-use Rattle.source_lines.proofs.Feeds.{feed_le, feed_open, feed_short}
+use Rattle.source_lines.proofs.Feeds.{feed_le, feed_more, feed_short}
 use Rattle.source_lines.proofs.OneItem.{one_item}
 
 -- The item comes first, and the items of the rest come later.
@@ -16,13 +15,6 @@ pub record Comes (number : ℕ) (items : List Told) (item : Told) (rest : List �
   pub later : List Told
   pub tells : Tells items item later
   pub are : AreItems (next number) rest later
-
--- More octets have no fewer before the first line feed.
-feed_more : (xs ys : List ℕ) → before_feed xs ≤ before_feed (xs ++ ys)
-feed_more xs ys = elim (cases_lt (before_feed xs) (length xs)) [
-  | inl less ↦ omega (arith, feed_short xs ys less)
-  | inr all ↦ omega (arith, feed_open xs ys (omega (arith, all, feed_le xs)), all, feed_le xs)
-]
 
 -- ---- a line that is short enough
 

@@ -1,9 +1,10 @@
 -- The item that a line says, by its first word.
-use Rattle.std.proofs.Common.{◌≡◌, ◌≢◌, inl, inr, ℕ, List, [], ◌∷◌, Option, None, Some, arith}
+use Rattle.std.proofs.Common.{◌≡◌, ◌≢◌, inl, inr, ℕ, List, [], ◌∷◌, Option, None, Some, Ok, arith, subst, sym}
 use Rattle.std.specs.Option.{option_map}
 use Rattle.std.specs.Prelude.{codes}
-use Rattle.source_lines.specs.LineItems.{IsAlone, IsDescribed, IsGone, IsTagged, SaysAfter, added, changed}
-use Rattle.source_lines.specs.Reading.{FindsExactly}
+use Rattle.source_lines.specs.LineItems.{IsAlone, IsDescribed, IsGone, IsTagged, Say, Says, SaysAfter, added, changed}
+use Rattle.source_lines.specs.Reading.{Finds, FindsExactly}
+use Rattle.source_lines.specs.Words.{words}
 use Rattle.source_lines.specs.declared.line_item.Keyed.{Keyed}
 use Rattle.source_set.specs.declared.told.Told.{Told}
 use Rattle.source_set.specs.declared.told.Told.TheVariants as told
@@ -111,3 +112,10 @@ pub alone_says : (verb : List ℕ) (rest : List (List ℕ)) (result : Option Tol
     → FindsExactly (IsAlone verb rest) result → FindsExactly (SaysAfter verb rest) result
 alone_says verb rest (Some item) add change xml gone found = alone_item verb rest item found
 alone_says verb rest None add change xml gone found = alone_only verb rest add change xml gone found
+
+-- ---- a line
+
+-- What the first word and those after it say, the line says.
+pub line_says : (line verb : List ℕ) (rest : List (List ℕ)) (result : Option Told) → words line ≡ verb ∷ rest → FindsExactly (SaysAfter verb rest) result → Finds (Says line) (Ok result)
+line_says line verb rest (Some item) is found = subst (λ (all : List (List ℕ)). Say all item) (sym is) found
+line_says line verb rest None is found = λ item says. found item (subst (λ (all : List (List ℕ)). Say all item) is says)

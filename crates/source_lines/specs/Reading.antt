@@ -9,6 +9,8 @@ use Rattle.coswid_tag.specs.Identifier.{identifier_of}
 use Rattle.coswid_tag.specs.declared.tag.Tag.{Tag}
 use Rattle.coswid_codec.specs.Answers.{BeginsTag}
 use Rattle.coswid_codec.specs.Items.{tag_item}
+use Rattle.coswid_codec.specs.declared.read.TagRefused.{TagRefused}
+use Rattle.coswid_codec.specs.declared.read.TagRefused.TheVariants as refused
 use Rattle.source_lines.specs.declared.reading.Package.{Package}
 
 -- What a call found, or that there is none. Nothing is said where memory ran out.
@@ -52,3 +54,9 @@ pub record IsPackage (octets : List ℕ) (made : Package) : Type 0 where
   pub tag : Tag
   pub whole : BeginsTag octets tag (length octets)
   pub parts : IsPackageOf tag made
+
+-- What is found where a tag was refused: none, or nothing, where memory ran out.
+abbrev pub FindsNoTag : TagRefused → Result (Option Package) Memory → Type 0
+FindsNoTag (refused.Cbor fault) result = result ≡ Ok None
+FindsNoTag (refused.Form fault) result = result ≡ Ok None
+FindsNoTag refused.Memory result = (memory : Memory) × (result ≡ Err memory)

@@ -8,7 +8,7 @@ ghost use Rattle.cbor_det.specs.Term.{depth};
 ghost use Rattle.coswid_codec.specs.Items.{tag_item};
 ghost use Rattle.coswid_codec.specs.SizesFit.{SizesFit};
 ghost use Rattle.coswid_tag.specs.Identifier.{identifier_of};
-ghost use Rattle.source_lines.specs.Reading.{Finds, FindsExactly, IsHex, IsIdentOf, IsPackage, IsPackageOf, IsText, IsWithin};
+ghost use Rattle.source_lines.specs.Reading.{Finds, FindsExactly, FindsNoTag, IsHex, IsIdentOf, IsPackage, IsPackageOf, IsText, IsWithin};
 
 use coswid_codec::{TagRefused, read_tag, write_tag};
 use coswid_tag::{IdentRefused, Tag, software_identifier};
@@ -86,8 +86,18 @@ pub fn read_package(alloc: Global, octets: &[u8]) -> Result<Option<Package>, Mem
             }
             package_of(alloc, &tag)
         }
-        Err(TagRefused::Memory) => Err(Memory),
-        Err(_) => Ok(None),
+        Err(refused) => no_tag(&refused),
+    }
+}
+
+/// That octets are no tag, unless memory ran out.
+fn no_tag(refused: &TagRefused) -> Result<Option<Package>, Memory>
+    ensures none { FindsNoTag refused.now result }
+{
+    match refused {
+        TagRefused::Cbor(_) => Ok(None),
+        TagRefused::Form(_) => Ok(None),
+        TagRefused::Memory => Err(Memory),
     }
 }
 
