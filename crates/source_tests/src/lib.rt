@@ -2,7 +2,7 @@
 #![tactic(auto)]
 
 #[cfg(test)]
-mod line_tests;
+mod listed;
 #[cfg(test)]
 mod sweep_tests;
 #[cfg(test)]

@@ -1,26 +1,32 @@
-//! What tests put into sets, and how they look at books.
+//! What tests sweep, and how they look at books.
 
+use crate::listed::{Listed, Step};
 use collector_core::Book;
-use source_lines::LineSource;
-use source_set::{SourceSet, SweepError, Swept};
+use source_set::{SourceSet, SweepError, Swept, TagSource};
 use std::alloc::Global;
 use swima_model::{Content, Point};
-use wire_base::{MemSource, Memory, Octets, is_stamp};
+use wire_base::{Memory, is_stamp};
 
 /// The moment of each change.
 pub(crate) const STAMP: [u8; 20] = *b"2026-02-03T04:05:06Z";
 
-/// The canonical octets of a small tag, whose identifier is `invalid.unavailable__a`.
-pub(crate) const TAG: &[u8] = b"da53574944a400616101616202a2181f61631821010c00";
+/// A set of one source in a box.
+pub(crate) fn set_of(alloc: Global, steps: &[Step]) -> Result<SourceSet, Memory> {
+    let mut boxes: Vec<Box<dyn TagSource + Send>> = Vec::new(alloc);
+    boxes.push(Box::new(alloc, Listed::new(alloc, steps)?)?)?;
+    SourceSet::new(alloc, boxes)
+}
 
-/// A line source over octets in memory; the calls with these numbers fail.
-pub(crate) fn lines(
+/// A set of two sources in boxes.
+pub(crate) fn set_of_two(
     alloc: Global,
-    octets: &[u8],
-    failing: &[u64],
-) -> Result<LineSource<MemSource>, Memory> {
-    let octets = Octets::from_slice(alloc, octets)?;
-    LineSource::new(alloc, MemSource::new(alloc, octets, failing)?)
+    one: &[Step],
+    other: &[Step],
+) -> Result<SourceSet, Memory> {
+    let mut boxes: Vec<Box<dyn TagSource + Send>> = Vec::new(alloc);
+    boxes.push(Box::new(alloc, Listed::new(alloc, one)?)?)?;
+    boxes.push(Box::new(alloc, Listed::new(alloc, other)?)?)?;
+    SourceSet::new(alloc, boxes)
 }
 
 /// A book at epoch 7 without records, which keeps 400 events.
@@ -28,7 +34,7 @@ pub(crate) fn empty_book(alloc: Global) -> Result<Book, Memory> {
     Book::new(alloc, 7, 400, &[]).map_err(|_| Memory)
 }
 
-/// What a sweep answers, and where the book is then.
+/// What a sweep answers.
 pub(crate) fn swept(
     set: &mut SourceSet,
     book: &mut Book,
@@ -54,16 +60,7 @@ pub(crate) fn is_at(book: &Book, eid: u32, count: u32) -> bool {
     (book.point() == Point { epoch: 7, eid }) & (book.count() == count)
 }
 
-/// Whether the content has this source, identifier, locator and number of octets of body.
-pub(crate) fn says(
-    content: &Content,
-    source: u8,
-    ident: &[u8],
-    locator: &[u8],
-    body: usize,
-) -> bool {
-    (content.source == source)
-        & (content.ident.bytes() == ident)
-        & (content.locator.bytes() == locator)
-        & (content.body.bytes().len() == body)
+/// Whether the content has this source and this letter as its identifier.
+pub(crate) fn says(content: &Content, source: u8, letter: u8) -> bool {
+    (content.source == source) & (content.ident.bytes() == [letter].as_slice())
 }
