@@ -114,5 +114,5 @@ no_tag_found octets tag_refused.Memory result refusal none = subst (Finds (IsPac
 -- The octets of the digits are no package's.
 pub no_hex_package : (digits octets slice other : List ℕ) (made : Package) → IsHex digits octets → slice ≡ octets → IsHex digits other → IsPackage other made
     → ((value : Package) → IsPackage slice value → ⊥) → ⊥
-no_hex_package digits octets slice other made hex same also package none =
-    none made (subst (λ (o : List ℕ). IsPackage o made) (one_hex digits other octets also hex ∙ sym same) package)
+no_hex_package digits octets slice other made hex same also whole none =
+    none made (subst (λ (o : List ℕ). IsPackage o made) (one_hex digits other octets also hex ∙ sym same) whole)
