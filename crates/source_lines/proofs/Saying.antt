@@ -1,7 +1,9 @@
 -- The item that a line says, by its first word.
-use Rattle.std.proofs.Common.{◌≡◌, ◌≢◌, inl, inr, ℕ, List, [], ◌∷◌, Option, None, Some, Ok, arith, subst, sym}
+use Rattle.std.proofs.Common.{◌≡◌, ◌≢◌, inl, inr, ℕ, List, [], ◌∷◌, Option, None, Some, Ok, arith, subst, sym, true, false, ◌∙◌}
 use Rattle.std.specs.Option.{option_map}
 use Rattle.std.specs.Prelude.{codes}
+use Rattle.std.specs.Str.{bytes_eq}
+use Rattle.std.proofs.lemmas.Slice.Eq.{bytes_eq-Decides}
 use Rattle.source_lines.specs.LineItems.{IsAlone, IsDescribed, IsGone, IsTagged, Say, Says, SaysAfter, added, changed}
 use Rattle.source_lines.specs.Reading.{Finds, FindsExactly}
 use Rattle.source_lines.specs.Words.{words}
@@ -119,3 +121,11 @@ alone_says verb rest None add change xml gone found = alone_only verb rest add c
 pub line_says : (line verb : List ℕ) (rest : List (List ℕ)) (result : Option Told) → words line ≡ verb ∷ rest → FindsExactly (SaysAfter verb rest) result → Finds (Says line) (Ok result)
 line_says line verb rest (Some item) is found = subst (λ (all : List (List ℕ)). Say all item) (sym is) found
 line_says line verb rest None is found = λ item says. found item (subst (λ (all : List (List ℕ)). Say all item) is says)
+
+-- ---- a word that was looked at
+
+pub is_word : (word text verb : List ℕ) → true ≡ bytes_eq word text → text ≡ verb → word ≡ verb
+is_word word text verb same is = (bytes_eq-Decides word text).0 (sym same) ∙ is
+
+pub not_word : (word text verb : List ℕ) → false ≡ bytes_eq word text → text ≡ verb → word ≢ verb
+not_word word text verb other is = λ e. let same = (bytes_eq-Decides word text).1 (e ∙ sym is) in absurd cc
