@@ -7,19 +7,19 @@ use Rattle.std.proofs.lemmas.Option.{none-some}
 use Rattle.source_set.specs.Keys.{Held, id_at, with_key, without}
 
 -- A number is equal to itself.
-itself : (k : ℕ) → nat_cmp k k ≡ Equal
+pub itself : (k : ℕ) → nat_cmp k k ≡ Equal
 itself k = ap₂ (λ (below same : Bool). cond below Less (cond same Equal Greater)) (le-ltb k k (omega arith)) (eq-eqb k k refl)
 
 -- ---- one key among keys, by how it stands to the first
 
-put_at : (o : Ordering) (key id : ℕ) (e : Held) (es : List Held) → nat_cmp key e.0 ≡ o
+pub put_at : (o : Ordering) (key id : ℕ) (e : Held) (es : List Held) → nat_cmp key e.0 ≡ o
     → with_key key id (e ∷ es) ≡ match_ordering o ((key, id) ∷ e ∷ es) ((e.0, id) ∷ es) (e ∷ with_key key id es)
 put_at o key id e es is = ap (λ (p : Ordering). match_ordering p ((key, id) ∷ e ∷ es) ((e.0, id) ∷ es) (e ∷ with_key key id es)) is
 
-find_at : (o : Ordering) (key : ℕ) (e : Held) (es : List Held) → nat_cmp key e.0 ≡ o → id_at key (e ∷ es) ≡ cond (is_eq o) (Some e.1) (id_at key es)
+pub find_at : (o : Ordering) (key : ℕ) (e : Held) (es : List Held) → nat_cmp key e.0 ≡ o → id_at key (e ∷ es) ≡ cond (is_eq o) (Some e.1) (id_at key es)
 find_at o key e es is = ap (λ (p : Ordering). cond (is_eq p) (Some e.1) (id_at key es)) is
 
-leave_at : (o : Ordering) (key : ℕ) (e : Held) (es : List Held) → nat_cmp key e.0 ≡ o → without key (e ∷ es) ≡ cond (is_eq o) es (e ∷ without key es)
+pub leave_at : (o : Ordering) (key : ℕ) (e : Held) (es : List Held) → nat_cmp key e.0 ≡ o → without key (e ∷ es) ≡ cond (is_eq o) es (e ∷ without key es)
 leave_at o key e es is = ap (λ (p : Ordering). cond (is_eq p) es (e ∷ without key es)) is
 
 -- ---- a key that was put is found

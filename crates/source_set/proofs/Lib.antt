@@ -6,3 +6,5 @@ pub mod Asked
 pub mod Hearing
 pub mod Causing
 pub mod InOrder
+pub mod Recording
+pub mod HeldKeys

@@ -4,3 +4,4 @@ pub mod Deeds
 pub mod Doing
 pub mod Asking
 pub mod Sweeping
+pub mod Records

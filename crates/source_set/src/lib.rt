@@ -11,6 +11,7 @@
 //! | `seat.rt` | a source of a set, asked for items |
 //! | `swept.rt` | what a sweep did, and why it stopped |
 //! | `doing.rt`, `keys.rt` | an item done at a desk; the keys that a source holds |
+//! | `laws.rt` | what the definitions mean, proved |
 //!
 //! The words of the clauses are in `specs/`:
 //!
@@ -20,10 +21,12 @@
 //! | `Deeds`, `Keys` | what items do to records, and to the keys that are held |
 //! | `Doing`, `Asking` | an item done or refused at a desk; a source that is asked |
 //! | `Sweeping` | a set of sources, and a sweep over it |
+//! | `Records` | what items leave of the records of an inventory |
 #![tactic(auto)]
 
 mod doing;
 mod keys;
+pub mod laws;
 mod seat;
 mod set;
 mod swept;

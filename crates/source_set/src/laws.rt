@@ -1,0 +1,10 @@
+//! Laws of what items leave of the records of an inventory. Each function does nothing; its clause is
+//! the law.
+
+ghost use Rattle.source_set.specs.Records.{DeedsAreRecorded};
+
+/// Where nobody else changes a record, it is what the deeds leave of it.
+pub fn deeds_are_recorded()
+    ensures law { DeedsAreRecorded }
+{
+}
