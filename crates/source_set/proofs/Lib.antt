@@ -8,3 +8,5 @@ pub mod Causing
 pub mod InOrder
 pub mod Recording
 pub mod HeldKeys
+pub mod Reflecting
+pub mod KeysRecorded

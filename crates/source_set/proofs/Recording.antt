@@ -23,6 +23,9 @@ use Rattle.collector_core.proofs.Chronicles.{current_more}
 use Rattle.source_set.specs.Deeds.{Alters, Creates, Deed, Deletes, GivesUp, Make}
 use Rattle.source_set.specs.Records.{DeedsAreRecorded, IsOf, LeftAlone, as_record, content_after, created}
 
+abbrev named : ℕ → Content → Record
+named id content = record { id = id; content = content }
+
 -- ---- one entry
 
 abbrev live_at : Epoch → List Record
@@ -175,3 +178,11 @@ deeds_are_recorded stamp chronicle [] done id held makes alone before =
     ∙ ap (λ (c : Option Content). as_record id c) (sym (nothing stamp done id held makes))
 deeds_are_recorded stamp chronicle (mark ∷ later) done id held makes alone before =
     recorded-step stamp chronicle mark later done id held mark.own refl makes alone before (λ c next content. deeds_are_recorded stamp c later next id content)
+
+-- What is known of a record is its content.
+known-step : (id : ℕ) (records : List Record) (o : Option Record) → record_of id records ≡ o → o ≡ as_record id (option_map (λ (r : Record). r.content) o)
+known-step id records None is = refl
+known-step id records (Some r) is = ap (λ (n : ℕ). Some (named n r.content)) (told_id id records r is)
+
+pub known_record : (id : ℕ) (records : List Record) → record_of id records ≡ as_record id (option_map (λ (r : Record). r.content) (record_of id records))
+known_record id records = known-step id records (record_of id records) refl
