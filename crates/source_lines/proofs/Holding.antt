@@ -1,15 +1,19 @@
 -- What a source of lines will report, as it reads and reports.
-use Rattle.std.proofs.Common.{◌≡◌, ℕ, ◌+◌, ◌<◌, ◌≤◌, List, [], ◌∷◌, ◌++◌, Option, None, Some, length, take, drop, refl, sym, ap, ◌∙◌, subst, append_assoc}
+use Rattle.std.proofs.Common.{◌≡◌, Bool, true, false, Result, Ok, Err, arith, length-append, ℕ, ◌+◌, ◌-◌, ◌<◌, ◌≤◌, List, [], ◌∷◌, ◌++◌, Option, None, Some, length, take, drop, refl, sym, ap, ◌∙◌, subst, append_assoc}
 use Rattle.std.specs.Option.{option_map}
 use Rattle.std.proofs.lemmas.List.{append-nil}
 use Rattle.std.proofs.lemmas.Option.{none-some}
 use Rattle.wire_base.specs.Counter.{next}
 use Rattle.wire_base.specs.Outside.{NothingLeft}
-use Rattle.source_set.specs.Items.{Gave, Tells}
+use Rattle.source_set.specs.Items.{Gave, LeavesAll, Reported, Tells, is_failed}
 use Rattle.source_lines.specs.LineItems.{IsItem}
-use Rattle.source_lines.specs.Lines.{AreItems, Holds, IsUnfinished, LineView, MOST_OCTETS, WillReport, before_feed}
+use Rattle.source_lines.specs.Lines.{AreItems, BeginsWith, BufferView, HasRead, Holds, IfUnread, IsUnfinished, LineView, MOST_OCTETS, SameLines, WillReport, before_feed}
+use Rattle.source_lines.specs.declared.line_buffer.Front.TheVariants as front
 use Rattle.source_set.specs.declared.told.Told.{Told}
 use Rattle.source_set.specs.declared.told.Told.TheVariants as told
+use Rattle.wire_base.specs.declared.outside.stopped.Stopped.{Stopped}
+use Rattle.source_lines.proofs.Feeds.{feed_le}
+use Rattle.source_lines.proofs.OneItem.{item_not_failed, item_not_memory}
 use Rattle.source_lines.proofs.LinesOf.{Comes, line_comes, long_comes, none_comes}
 
 some_same : (xs ys : List ℕ) → Some xs ≡ Some ys → xs ≡ ys
@@ -72,3 +76,107 @@ end_gave left before after unfinished nothing holds = λ items will.
 pub gave_later : {S : Type 0} (left : S → Option (List ℕ)) (first before after : LineView S) (item : Told) → ((items : List Told) → WillReport left first items → WillReport left before items)
     → Gave (WillReport left) before item after → Gave (WillReport left) first item after
 gave_later left first before after item keeps gave = λ items will. gave items (keeps items will)
+
+-- ---- a source that goes on
+
+-- A source of this input and of these octets.
+abbrev pub viewed : {S : Type 0} → S → BufferView → LineView S
+viewed input lines = record { input = input; held = lines.held; number = lines.number }
+
+module _ {S : Type 0} (left : S → Option (List ℕ)) (first loop : LineView S) (input : S) (lines looked : BufferView) (view : viewed input lines ≡ loop)
+    (keeps : (items : List Told) → WillReport left first items → WillReport left loop items) (same : SameLines lines looked) where
+  -- Octets that were looked at are as they were.
+  pub looked_keeps : (items : List Told) → WillReport left first items → WillReport left (viewed input looked) items
+  looked_keeps items will =
+      let here = subst (λ (v : LineView S). WillReport left v items) (sym view) (keeps items will) in (
+        here.0,
+        here.1,
+        subst (λ (n : ℕ). AreItems n (looked.held ++ here.0) items) (sym same.number) (subst (λ (held : List ℕ). AreItems lines.number (held ++ here.0) items) (sym same.held) here.2),
+      )
+
+  pub stayed_keeps : (after : BufferView) → SameLines looked after → (items : List Told) → WillReport left first items → WillReport left (viewed input after) items
+  stayed_keeps after stays items will =
+      let here = looked_keeps items will in (
+        here.0,
+        here.1,
+        subst (λ (n : ℕ). AreItems n (after.held ++ here.0) items) (sym stays.number) (subst (λ (held : List ℕ). AreItems looked.number (held ++ here.0) items) (sym stays.held) here.2),
+      )
+
+  pub held_keeps : (after : LineView S) (more : List ℕ) → Holds left (viewed input looked) after more → (items : List Told) → WillReport left first items → WillReport left after items
+  held_keeps after more holds items will = read_keeps left (viewed input looked) after more items holds (looked_keeps items will)
+
+  -- A line was taken.
+  pub line_item : (after : BufferView) (item : Told) (len : ℕ) → BeginsWith lines.held (front.Line len) → IsItem looked.number (take len looked.held) item → after.held ≡ drop (len + 1) looked.held
+      → after.number ≡ next looked.number → (is_failed item ≡ false) × (item ≡ told.Memory → ⊥) × Gave (WillReport left) first item (viewed input after)
+  line_item after item len begins is rest number =
+      let at : len ≡ before_feed looked.held = begins.0 ∙ ap before_feed (sym same.held) in
+      let size = ap (λ (held : List ℕ). length held) same.held in (
+        item_not_failed looked.number (take len looked.held) item is,
+        item_not_memory looked.number (take len looked.held) item is,
+        gave_later left first (viewed input looked) (viewed input after) item looked_keeps
+            (line_gave left (viewed input looked) (viewed input after) item (omega (arith, at, begins.1, size)) (omega (arith, at, begins.2))
+            (subst (λ (n : ℕ). IsItem looked.number (take n looked.held) item) at is) refl (rest ∙ ap (λ (n : ℕ). drop (n + 1) looked.held) at) number),
+      )
+
+  -- More octets than a line may have were taken.
+  pub long_within : BeginsWith lines.held front.Long → MOST_OCTETS ≤ length looked.held
+  long_within long = omega (arith, long, feed_le lines.held, ap (λ (held : List ℕ). length held) same.held)
+
+  long_bad : (after : BufferView) → BeginsWith lines.held front.Long → after.held ≡ drop MOST_OCTETS looked.held → after.number ≡ next looked.number
+      → Gave (WillReport left) first (told.Bad looked.number) (viewed input after)
+  long_bad after long rest number =
+      gave_later left first (viewed input looked) (viewed input after) (told.Bad looked.number) looked_keeps
+      (long_gave left (viewed input looked) (viewed input after) (omega (arith, long, ap before_feed same.held)) refl rest number)
+
+  pub long_item : (after : BufferView) (item : Told) → BeginsWith lines.held front.Long → item ≡ told.Bad looked.number → after.held ≡ drop MOST_OCTETS looked.held → after.number ≡ next looked.number
+      → (is_failed item ≡ false) × (item ≡ told.Memory → ⊥) × Gave (WillReport left) first item (viewed input after)
+  long_item after item long is rest number =
+      (ap is_failed is, λ e. let both : told.Bad looked.number ≡ told.Memory = sym is ∙ e in absurd cc, subst (λ (t : Told). Gave (WillReport left) first t (viewed input after)) (sym is) (long_bad after long rest number))
+
+  -- The input has come to its end.
+  pub quiet_item : (after : LineView S) (more : Bool) → BeginsWith lines.held front.More → more ≡ false → HasRead left (viewed input looked) after (Ok more)
+      → (is_failed told.Quiet ≡ false) × (told.Quiet ≡ told.Memory → ⊥) × Gave (WillReport left) first told.Quiet after
+  quiet_item after true begins is read = absurd cc
+  quiet_item after false begins is read =
+      let unfinished : IsUnfinished looked.held = subst IsUnfinished (sym same.held) begins in
+      (refl, λ e. absurd cc, gave_later left first (viewed input looked) after told.Quiet looked_keeps (end_gave left (viewed input looked) after unfinished read.0 read.1))
+
+  -- It gave more.
+  pub more_keeps : (after : LineView S) (more : Bool) → more ≡ true → HasRead left (viewed input looked) after (Ok more) → (items : List Told) → WillReport left first items → WillReport left after items
+  more_keeps after false is read = absurd cc
+  more_keeps after true is read = held_keeps after read.0 read.2
+
+  pub more_less : (after : LineView S) (more : Bool) → BeginsWith lines.held front.More → more ≡ true → HasRead left (viewed input looked) after (Ok more)
+      → MOST_OCTETS + 1 - length after.held < MOST_OCTETS + 1 - length loop.held
+  more_less after false begins is read = absurd cc
+  more_less after true begins is read =
+      let size = ap (λ (v : LineView S). length v.held) view in
+      let grown = ap (λ (held : List ℕ). length held) read.2.held in
+      omega (arith, begins.short, size, grown, length-append looked.held read.0, ap (λ (held : List ℕ). length held) same.held, read.1)
+
+-- Where no item was read, all that would be reported will be.
+pub unread_any : {S : Type 0} → (reports : S → List Told → Type 0) (before after : S) (result : Result Told Stopped) → ((items : List Told) → reports before items → reports after items)
+    → IfUnread reports before after result
+unread_any reports before after (Ok item) keeps = tt
+unread_any reports before after (Err why) keeps = keeps
+
+-- What was read is what a source reports.
+pub reported_item : {S : Type 0} → (reports : S → List Told → Type 0) (before after : S) (item : Told) → Gave reports before item after → Reported reports before item after
+reported_item reports before after (told.Add key content) gave = gave
+reported_item reports before after (told.Change key content) gave = gave
+reported_item reports before after (told.Gone key) gave = gave
+reported_item reports before after (told.Bad line) gave = gave
+reported_item reports before after told.Quiet gave = gave
+reported_item reports before after told.Ended gave = gave
+reported_item reports before after told.Failed gave = tt
+reported_item reports before after told.Memory gave = tt
+
+pub leaves_item : {S : Type 0} → (reports : S → List Told → Type 0) (before after : S) (item : Told) → is_failed item ≡ false → (item ≡ told.Memory → ⊥) → LeavesAll reports before item after
+leaves_item reports before after (told.Add key content) good some = tt
+leaves_item reports before after (told.Change key content) good some = tt
+leaves_item reports before after (told.Gone key) good some = tt
+leaves_item reports before after (told.Bad line) good some = tt
+leaves_item reports before after told.Quiet good some = tt
+leaves_item reports before after told.Ended good some = tt
+leaves_item reports before after told.Failed good some = absurd cc
+leaves_item reports before after told.Memory good some = absurd (some refl)

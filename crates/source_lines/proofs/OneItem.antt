@@ -177,3 +177,10 @@ item_not_failed number line item a = elim (said_or_bad number line item a) [
   | inl none ↦ ap is_failed none.0
   | inr said ↦ not_failed (words line) item said
 ]
+
+never_memory : (line : List (List ℕ)) → Say line told.Memory → ⊥
+never_memory [] says = absurd says
+never_memory (verb ∷ rest) says = absurd says
+
+pub item_not_memory : (number : ℕ) (line : List ℕ) (item : Told) → IsItem number line item → item ≡ told.Memory → ⊥
+item_not_memory number line item is e = never_memory (words line) (subst (IsItem number line) e is)

@@ -1,9 +1,10 @@
 //! A source that reads its items from lines.
 
-ghost use Rattle.std.specs.Prelude.{◌≡◌, [], IfOk, false};
+ghost use Rattle.std.specs.Prelude.{◌≡◌, ◌≢◌, [], IfOk, false};
 ghost use Rattle.wire_base.specs.Outside.{HasCause};
 ghost use Rattle.wire_base.specs.Passing.{is_fault};
 ghost use Rattle.source_set.specs.Items.{Gave, LeavesAll, Reported, is_failed};
+ghost use Rattle.source_set.specs.declared.told.Told.TheVariants as told;
 ghost use Rattle.source_lines.specs.Lines.{HasRead, IfUnread, WillReport};
 
 use crate::line_buffer::{Front, LineBuffer};
@@ -45,7 +46,7 @@ impl<S: Source + Drop> LineSource<S> {
 
     /// The next item, or why there is none. Then all items are left.
     fn read_item(&mut self) -> Result<Told, Stopped>
-        ensures item { IfOk result (λ item. (is_failed item ≡ false) × Gave (WillReport S.left) self.old item self.new) }
+        ensures item { IfOk result (λ item. (is_failed item ≡ false) × (item ≢ told.Memory) × Gave (WillReport S.left) self.old item self.new) }
         ensures unread { IfUnread (WillReport S.left) self.old self.new result }
         ensures cause { HasCause (S.faults self.old.input) (S.faults self.new.input) (is_fault result) }
     {
