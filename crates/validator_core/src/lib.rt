@@ -35,6 +35,7 @@ mod keyed;
 pub mod laws;
 mod lent_or_owned;
 mod limits;
+mod merge;
 mod mirror;
 mod misfit;
 mod order;
