@@ -1,10 +1,9 @@
 -- Records that are held and records that are given, in one order of identifier.
-use Rattle.std.proofs.Common.{◌≡◌, ℕ, zero, suc, ◌+◌, ◌-◌, ◌<◌, ◌≤◌, eqb, cond, Bool, true, false, List, [], ◌∷◌, ◌++◌, length, Option, Some, None, refl, sym, ap, ◌∙◌, subst, arith, eqb-true, ltb-true, ltb-false}
-use Rattle.std.specs.Prelude.{nat_lt, reverse, slice_get}
+use Rattle.std.proofs.Common.{◌≡◌, ℕ, suc, ◌+◌, ◌<◌, ◌≤◌, eqb, cond, Bool, true, false, List, [], ◌∷◌, ◌++◌, length, Option, Some, None, refl, sym, ap, ◌∙◌, subst, arith, eqb-true, ltb-true, ltb-false}
+use Rattle.std.specs.Prelude.{nat_lt, reverse}
 use Rattle.std.specs.List.Sorted.{IsStrictlyIncreasing}
 use Rattle.std.proofs.lemmas.Bool.{cond_both, cond-true, cond-false, eqb-false, true≢false}
-use Rattle.std.proofs.lemmas.Grind.{reverse_onto}
-use Rattle.std.proofs.lemmas.List.{reverse-append, reverse-reverse}
+use Rattle.std.proofs.lemmas.List.{reverse-append}
 use Rattle.indexmap.specs.IndexMap.{insert_entry}
 use Rattle.swima_model.specs.declared.event.Event.{Event}
 use Rattle.swima_model.specs.declared.record.Record.{Record}
@@ -15,7 +14,7 @@ use Rattle.swima_model.proofs.Places.{Climbs, climbed, climbs, none_above}
 use Rattle.swima_model.proofs.Rises.{AllFrom, from_lower}
 use Rattle.validator_core.specs.Gone.{NoneDeletes, is_gone}
 use Rattle.validator_core.specs.Keyed.{Entries}
-use Rattle.validator_core.specs.Merged.{Filled, first_is, is_below, merged, merged_from}
+use Rattle.validator_core.specs.Merged.{Filled, is_below, merged, merged_from}
 use Rattle.validator_core.proofs.Entries.{filled_one, from_zero}
 
 -- ---- records that rise

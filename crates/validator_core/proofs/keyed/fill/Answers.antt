@@ -1,5 +1,5 @@
 -- The next record is put after those that are there.
-use Rattle.std.proofs.Common.{List, ◌∷◌, ◌++◌, refl, sym, subst, arith}
+use Rattle.std.proofs.Common.{List, ◌∷◌, ◌++◌, sym, subst, arith}
 use Rattle.std.specs.List.Sorted.{IsStrictlyIncreasing}
 use Rattle.std.specs.Vec.Iter.{into_iter_items}
 use Rattle.indexmap.specs.IndexMap.{spare, values}

@@ -1,5 +1,5 @@
 -- The next record, held or given, is put after those that are there.
-use Rattle.std.proofs.Common.{◌≡◌, ◌∙◌, ◌∷◌, ◌++◌, [], ℕ, List, length, reverse, ap, sym, subst, arith}
+use Rattle.std.proofs.Common.{◌∙◌, ◌∷◌, ℕ, List, length, reverse, ap, subst, arith}
 use Rattle.std.proofs.lemmas.List.{length-map, length-reverse}
 use Rattle.indexmap.specs.IndexMap.{spare, values}
 use Rattle.swima_model.specs.declared.record.Record.{Record}

@@ -1,5 +1,5 @@
 -- The next of the given records is put after those that are there.
-use Rattle.std.proofs.Common.{◌≡◌, ◌∙◌, ◌∷◌, ◌++◌, [], List, Option, ap, sym}
+use Rattle.std.proofs.Common.{◌≡◌, ◌∙◌, ◌∷◌, ◌++◌, [], Option, ap, sym}
 use Rattle.std.specs.Prelude.{option_to_list}
 use Rattle.indexmap.specs.IndexMap.{spare}
 use Rattle.swima_model.specs.declared.record.Record.{Record}

@@ -1,5 +1,5 @@
 -- Where no two have the same identifier, each sort by identifier gives `in_order`.
-use Rattle.std.proofs.Common.{◌≡◌, ◌∙◌, List, ap, rules}
+use Rattle.std.proofs.Common.{◌∙◌, List, ap, rules}
 use Rattle.std.specs.List.Sorted.{IsPermutation, IsStrictlyIncreasing}
 use Rattle.std.proofs.lemmas.List.Sorted.{IsNonDecreasingBy-from_sort_by_key, IsPermutation-sym, IsPermutation-trans}
 use Rattle.swima_model.specs.declared.record.Record.{Record}

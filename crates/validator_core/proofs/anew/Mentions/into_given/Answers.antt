@@ -1,5 +1,5 @@
 -- What the last mentions say, in order, is what is live after the events alone.
-use Rattle.std.proofs.Common.{◌≡◌, ◌∙◌, [], List, ap, rules, subst}
+use Rattle.std.proofs.Common.{◌∙◌, [], List, ap, rules, subst}
 use Rattle.std.specs.Prelude.{reverse}
 use Rattle.std.specs.List.Sorted.{IsPermutation}
 use Rattle.std.proofs.lemmas.List.{reverse-reverse}
