@@ -23,6 +23,8 @@ use pb_machine::Machine;
 use session_rules::{ServeConfig, SessionEnd, Verdict};
 use session_words::verdict_of;
 use std::alloc::Global;
+use std::mem;
+use swima_subs::Subs;
 use wire_base::{List, Memory, Octets};
 
 /// A session begins with an empty CDATA.
@@ -142,7 +144,8 @@ fn reply<D: Desk>(
     ensures sent { standing.new.record.sent ≡ standing.old.record.sent }
     ensures received { standing.new.record.received ≡ standing.old.record.received }
 {
-    let draft = draft_batch(alloc, desk, config, standing.numbered, messages)?;
+    let subs = mem::replace(&mut standing.subs, Subs::new(alloc));
+    let draft = draft_batch(alloc, desk, config, subs, standing.numbered, messages)?;
     write_draft(alloc, standing, out, draft)
 }
 
@@ -163,6 +166,7 @@ fn write_draft(
     ensures received { standing.new.record.received ≡ standing.old.record.received }
 {
     let Draft {
+        subs,
         messages,
         numbered,
         points,
@@ -170,6 +174,7 @@ fn write_draft(
         ..
     } = draft;
     write(alloc, &mut standing.machine, out, Cdata, messages)?;
+    standing.subs = subs;
     standing.numbered = numbered;
     standing.record.errors.extend(errors.as_slice())?;
     standing.record.points.extend(points.as_slice())?;
@@ -178,7 +183,7 @@ fn write_draft(
 }
 
 /// Writes a batch of the kind, which may be sent.
-fn write(
+pub(crate) fn write(
     alloc: Global,
     machine: &mut Machine,
     out: &mut Octets,

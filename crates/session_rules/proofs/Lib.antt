@@ -3,3 +3,5 @@ pub mod Desking
 pub mod Ends
 pub mod AnySession
 pub mod Meaning
+pub mod Running
+pub mod Placing
