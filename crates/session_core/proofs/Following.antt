@@ -1,18 +1,17 @@
 -- A whole session of a validator, by how the loop over its link ended.
-use Rattle.std.proofs.Common.{◌≡◌, ◌≢◌, ℕ, false, List, [], ◌∷◌, ◌++◌, Option, Some, None, inl, inr, length, refl, sym, ap, subst, subst₂, ◌∙◌, append-nil}
-use Rattle.std.specs.Prelude.{map}
+use Rattle.std.proofs.Common.{◌≡◌, ◌≢◌, ◌-◌, ◌^◌, ℕ, false, List, [], ◌∷◌, ◌++◌, Option, Some, None, inl, inr, length, refl, sym, ap, subst, ◌∙◌, append-nil, zero-add}
+use Rattle.std.specs.Prelude.{map, min}
 use Rattle.wire_base.specs.Turns.{Turn}
 use Rattle.swima_model.specs.History.{History, IsHonest}
 use Rattle.validator_core.specs.declared.mirror.Taken.{Taken}
 use Rattle.validator_core.specs.Held.{Held}
 use Rattle.validator_core.specs.Right.{IsRight}
-use Rattle.session_talk.specs.Course.{Breaks, Gives}
+use Rattle.session_talk.specs.Course.{Gives}
 use Rattle.session_talk.specs.Keeping.{NotesAre}
 use Rattle.session_hear.specs.Hearing.{octets_in}
 use Rattle.session_rules.specs.declared.config.FollowConfig.{FollowConfig}
 use Rattle.session_rules.specs.declared.end.SessionEnd.{SessionEnd}
 use Rattle.session_rules.specs.declared.end.SessionEnd.TheVariants as end
-use Rattle.session_rules.specs.declared.record.SessionRecord.{SessionRecord}
 use Rattle.session_rules.specs.AnySession.{NotesAnswer}
 use Rattle.session_rules.specs.Following.{Stand, TakenReport as TakenValue}
 use Rattle.session_rules.specs.FollowRules.{session}
@@ -22,7 +21,7 @@ use Rattle.session_rules.proofs.AnySession.{stays_right_in_parts, stays_right_in
 use Rattle.validator_session.specs.declared.inner.Inner.{Inner}
 use Rattle.validator_session.specs.declared.notes.Notes.{Notes}
 use Rattle.validator_session.specs.declared.notes.TakenReport.{TakenReport}
-use Rattle.validator_session.specs.Core.{Fell, Stood, over_of}
+use Rattle.validator_session.specs.Core.{Fell, Stood, counted_octets, over_of}
 use Rattle.validator_session.specs.Noting.{IsNoted, answer_of}
 use Rattle.validator_session.specs.Standing.{notes_of, report_of, stand_of}
 use Rattle.session_core.specs.Driving.{Drives, is_memory}
@@ -36,11 +35,14 @@ answers_so : (reports : List TakenReport) → map answer_of reports ≡ map (λ 
 answers_so [] = refl
 answers_so (one ∷ reports) = ap (λ (as-before : List Taken). one.answer ∷ as-before) (answers_so reports)
 
-noted : (n : Notes) (turns : List Turn) (octets : List ℕ) (mirror : Held) → IsNoted n → n.record.sent ≡ counted_on 0 (length octets) → n.record.received ≡ octets_in turns → n.record ≡ followed_record turns octets (notes_of n mirror)
+counted_so : (octets : List ℕ) → counted_octets octets ≡ counted_on 0 (length octets)
+counted_so octets = ap (λ (k : ℕ). min k (2 ^ 64 - 1)) (sym (zero-add (length octets)))
+
+noted : (n : Notes) (turns : List Turn) (octets : List ℕ) (mirror : Held) → IsNoted n → n.record.sent ≡ counted_octets octets → n.record.received ≡ octets_in turns → n.record ≡ followed_record turns octets (notes_of n mirror)
 noted n turns octets mirror is sent received =
     ap (λ (ps : List _). record n.record { points = ps }) is.points
     ∙ ap (λ (ts : List Taken). record n.record { points = []; taken = ts }) (is.answers ∙ answers_so n.reports)
-    ∙ ap (λ (k : ℕ). record n.record { points = []; taken = map (λ (one : TakenValue). one.answer) (map report_of n.reports); sent = k }) sent
+    ∙ ap (λ (k : ℕ). record n.record { points = []; taken = map (λ (one : TakenValue). one.answer) (map report_of n.reports); sent = k }) (sent ∙ counted_so octets)
     ∙ ap (λ (k : ℕ). record n.record { points = []; taken = map (λ (one : TakenValue). one.answer) (map report_of n.reports); sent = counted_on 0 (length octets); received = k }) received
 
 -- ---- by how it ended
