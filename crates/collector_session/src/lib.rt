@@ -1,9 +1,10 @@
 //! A collector's end of a session (RFC 5793, RFC 8412): the client of PB-TNC, which answers
 //! requests by a desk, writes reports, and keeps subscriptions.
 //!
-//! It stands on `session_rules` for what a collector may say, on `swima_subs` for subscriptions, on `session_hear` for the loop over a
-//! piece, on `session_words` for what messages say, and on `collector_core` for desks. The crates
-//! above rest on the clauses of `ServeCore`, in the words of `specs/Cores.antt`:
+//! It stands on `session_rules` for what a collector may say, on `swima_subs` for subscriptions, on
+//! `session_hear` for the loop over a piece, on `session_words` for what messages say, and on
+//! `collector_core` for desks. The crates above rest on the clauses of `ServeCore`, in the words of
+//! `specs/Cores.antt`:
 //!
 //! - `stood` of `ServeCore::new`: the core stands for a session that has just begun.
 //! - `turned` of `hear` and of `idle`, `stood` of `link_ended`: where a core stood for the session
