@@ -1,5 +1,5 @@
 -- The questions to a desk about one subscription.
-use Rattle.std.proofs.Common.{◌≡◌, Bool, true, false, List, [], ◌++◌, Some, None, refl, ap, subst, sym}
+use Rattle.std.proofs.Common.{◌≡◌, Bool, true, false, List, [], ◌++◌, Some, None, ap, subst, sym}
 use Rattle.std.specs.Prelude.{Option, Result, Ok, Err}
 use Rattle.std.specs.Result.{IsErr}
 use Rattle.swima_model.specs.declared.report.Point.{Point}
@@ -9,8 +9,7 @@ use Rattle.collector_core.specs.declared.chronicle.Mark.{Mark}
 use Rattle.collector_core.specs.Answering.{moved_at}
 use Rattle.collector_core.specs.Chronicle.{Chronicle, extended, point_of}
 use Rattle.collector_core.specs.Desks.{Reads, entries}
-use Rattle.session_talk.specs.Talk.{Done}
-use Rattle.session_rules.specs.Answering.{Nexting, next_if, next_of}
+use Rattle.session_rules.specs.Answering.{next_if, next_of}
 use Rattle.session_rules.specs.Questions.{AskMoved, AskPoint}
 use Rattle.session_rules.specs.ServeRules.{looks_from}
 use Rattle.session_rules.proofs.Desking.{drafted_done, talks_asked}

@@ -1,5 +1,5 @@
 -- What the talk about a subscription of an earlier batch comes to.
-use Rattle.std.proofs.Common.{◌≡◌, ◌≤◌, ◌<◌, ℕ, cond, inl, inr, Some, refl, sym, ap, subst, ◌∙◌, arith}
+use Rattle.std.proofs.Common.{◌≡◌, ℕ, Some, sym, ap, ◌∙◌}
 use Rattle.std.specs.Prelude.{Result, Ok, Err, OnOk, ◌==◌}
 use Rattle.std.proofs.lemmas.Bool.{cond-false, cond-true, eq-eqb, ne_eqb}
 use Rattle.swima_model.specs.declared.report.Report.{Report}
@@ -17,7 +17,7 @@ use Rattle.session_rules.specs.Answering.{puts_error, puts_report, reach_of, ren
 use Rattle.session_rules.specs.Questions.{AskAnswer, reply_at}
 use Rattle.session_rules.specs.Serving.{Draft as Drafted}
 use Rattle.collector_session.specs.declared.draft.Draft.{Draft}
-use Rattle.collector_session.specs.Renewing.{GoesOn, Renewed, late}
+use Rattle.collector_session.specs.Renewing.{Renewed, late}
 use Rattle.collector_session.specs.Standing.{draft_of}
 use Rattle.collector_session.proofs.Answering.{ends_as}
 

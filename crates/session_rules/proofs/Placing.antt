@@ -1,6 +1,6 @@
 -- Each word, and each subscription that is fulfilled further, changes places as reports say.
-use Rattle.std.proofs.Common.{All, ◌≡◌, ◌⊎◌, inl, inr, ℕ, Bool, true, false, cond, List, [], ◌∷◌, ◌++◌, length, refl, sym, ap}
-use Rattle.std.specs.Prelude.{Contains, Option, Some, None, filter, not, nat_le, ◌==◌}
+use Rattle.std.proofs.Common.{◌≡◌, ◌⊎◌, inl, inr, ℕ, Bool, true, false, cond, List, [], ◌∷◌, ◌++◌, length, refl, sym, ap}
+use Rattle.std.specs.Prelude.{Contains, Option, Some, None, not, nat_le, ◌==◌}
 use Rattle.std.proofs.lemmas.List.Elements.{All-append, All-cons, All-contains_itself, All-filter, All-nil, All-weaker}
 use Rattle.swima_model.specs.declared.report.Point.{Point}
 use Rattle.swima_model.specs.declared.report.Report.{Report}
@@ -21,10 +21,10 @@ use Rattle.session_talk.specs.Talk.{and_then}
 use Rattle.session_rules.specs.declared.config.ServeConfig.{ServeConfig}
 use Rattle.session_rules.specs.declared.word.CollectorWord.{CollectorWord as Word}
 use Rattle.session_rules.specs.declared.word.CollectorWord.TheVariants.{Wants, AsksStatus, Failure}
-use Rattle.session_rules.specs.Answering.{answered, earlier_left, gives_up, keeps_place, point_in, puts_error, puts_report, puts_sized, reach_of, next_if, next_of, renewed, renews_by, speaks, taken, wants}
+use Rattle.session_rules.specs.Answering.{answered, earlier_left, point_in, puts_error, puts_report, puts_sized, reach_of, next_if, next_of, renewed, renews_by, speaks, taken}
 use Rattle.session_rules.specs.Messages.{attribute, report_attribute}
 use Rattle.session_rules.specs.Serving.{Draft}
-use Rattle.session_rules.specs.SubRun.{Follows, PlacesFollow, PlacesFollowReports, PlacesStay, PutsFor}
+use Rattle.session_rules.specs.SubRun.{Follows, PlacesFollow, PlacesFollowReports, PlacesStay}
 
 -- ---- places that stay
 

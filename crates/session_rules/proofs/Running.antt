@@ -1,23 +1,22 @@
 -- A report of events goes on where the one before it stopped.
-use Rattle.std.proofs.Common.{◌≡◌, inl, inr, ℕ, zero, suc, ◌+◌, ◌-◌, ◌<◌, ◌≤◌, ◌%◌, ◌^◌, ◌&&◌, ◌||◌, eqb, leb, ltb, cond, Bool, true, false, List, [], ◌∷◌, length, take, drop, refl, sym, ap, ◌∙◌, subst, arith}
+use Rattle.std.proofs.Common.{◌≡◌, inl, inr, ℕ, zero, suc, ◌+◌, ◌-◌, ◌<◌, ◌≤◌, ◌%◌, ◌^◌, ◌&&◌, ◌||◌, leb, ltb, cond, Bool, true, false, List, [], ◌∷◌, length, take, drop, refl, sym, ap, ◌∙◌, subst, arith}
 use Rattle.std.specs.Prelude.{filter, max, ◌==◌}
 use Rattle.std.proofs.lemmas.Bool.{cases_lt, cond-false, cond-true, eqb-false, le-leb, lt-leb}
 use Rattle.std.proofs.lemmas.List.Elements.{filter_agree}
 use Rattle.swima_model.specs.declared.event.Event.{Event}
 use Rattle.swima_model.specs.declared.report.Point.{Point}
 use Rattle.swima_model.specs.declared.report.Report.{Report}
-use Rattle.swima_model.specs.declared.report.Report.TheVariants.{Inventory, Events}
 use Rattle.swima_model.specs.History.{AreNumberedFrom, from_to}
 use Rattle.swima_model.specs.Kinds.{events_of_kind}
 use Rattle.swima_request.specs.declared.request.Request.{Request}
 use Rattle.swima_subs.specs.Subscriptions.{next_from, next_request}
 use Rattle.collector_core.specs.declared.answer.Answer.TheVariants as answer
-use Rattle.collector_core.specs.Answering.{answer_at, consulted_before, events_at, events_report, front_fits, if_fits, inventory_at, is_wanted, longest, told, told_at, wanted_events}
+use Rattle.collector_core.specs.Answering.{consulted_before, events_at, events_report, front_fits, if_fits, inventory_at, is_wanted, longest, told_at, wanted_events}
 use Rattle.collector_core.specs.Chronicle.{Chronicle, current, first_kept, last_eid, point_of}
 use Rattle.collector_core.specs.Legal.{IsLegal}
 use Rattle.collector_core.proofs.Answered.{fits_is}
 use Rattle.collector_core.proofs.Chronicles.{current_honest}
-use Rattle.session_rules.specs.SubRun.{GoesOnFrom, ReportsGoOn, matching}
+use Rattle.session_rules.specs.SubRun.{GoesOnFrom, ReportsGoOn}
 
 -- ---- events in order
 

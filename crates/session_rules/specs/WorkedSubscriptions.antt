@@ -1,7 +1,6 @@
 -- Worked requests for subscriptions: one that is taken, and those that are refused.
-use Rattle.std.specs.Prelude.{◌≡◌, ◌+◌, ℕ, List, [], ◌∷◌, ◌++◌, Some, None, true, map}
+use Rattle.std.specs.Prelude.{◌≡◌, ℕ, List, [], ◌∷◌, ◌++◌, Some, None, true, map}
 use Rattle.wire_base.specs.Turns.{turns_of}
-use Rattle.swima_request.specs.declared.request.Request.{Request}
 use Rattle.swima_subs.specs.declared.waiting.Waiting.{Waiting}
 use Rattle.swima_subs.specs.Subscriptions.{new_waiting}
 use Rattle.pb_machine.specs.declared.machine.Role.TheVariants as role

@@ -1,12 +1,10 @@
 -- Subscriptions stay few, and their IDs different, whatever is done to them.
 use Rattle.std.proofs.Common.{◌≡◌, ℕ, ◌<◌, ◌≤◌, ◌||◌, Bool, true, false, cond, List, [], ◌∷◌, ◌++◌, length, refl, sym, ap, ap₂, ◌∙◌, arith, ◌+◌, append-nil, drop, get_or, length-append, length-take, set, take}
-use Rattle.std.specs.Prelude.{map, filter, not, Option, Some, None, ◌==◌, nat_le}
-use Rattle.std.specs.List.{list_any}
+use Rattle.std.specs.Prelude.{filter, not, Some, ◌==◌, nat_le}
 use Rattle.std.proofs.lemmas.Bool.{eqb-true, eqb-false, false_from_ne_true, leb-false, or_from, or_parts}
 use Rattle.std.proofs.lemmas.List.{drop_all, length-drop, length-map, take_all}
 use Rattle.std.proofs.lemmas.List.Edits.{map_over_more}
 use Rattle.std.proofs.lemmas.List.Folds.{list_any-append}
-use Rattle.std.proofs.lemmas.List.Sums.{length-filter}
 use Rattle.swima_model.specs.declared.report.Point.{Point}
 use Rattle.swima_request.specs.declared.request.Request.{Request}
 use Rattle.swima_subs.specs.declared.sub_answer.SubAnswer.{SubAnswer}

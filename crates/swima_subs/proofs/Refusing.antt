@@ -1,11 +1,10 @@
 -- When a request for a subscription is refused, and what is asked for next.
-use Rattle.std.proofs.Common.{◌≡◌, ◌<◌, ◌≤◌, ◌+◌, ◌%◌, ◌^◌, ℕ, Bool, true, false, cond, List, [], ◌∷◌, ◌++◌, length, refl, sym, ap, subst, ◌∙◌, arith}
+use Rattle.std.proofs.Common.{◌≡◌, ◌≤◌, ◌+◌, ◌%◌, ◌^◌, ℕ, Bool, true, false, cond, List, [], ◌∷◌, ◌++◌, length, refl, sym, ap, ◌∙◌, arith}
 use Rattle.std.specs.Prelude.{◌↔◌, ◌==◌, nat_le}
 use Rattle.std.proofs.lemmas.Bool.{cond-true, eq-eqb, leb-true, le-leb}
-use Rattle.swima_model.specs.declared.report.Point.{Point}
 use Rattle.swima_request.specs.declared.request.Request.{Request}
 use Rattle.swima_subs.specs.declared.sub_answer.SubAnswer.{SubAnswer}
-use Rattle.swima_subs.specs.declared.sub_answer.SubAnswer.TheVariants.{Taken, Reused, Denied, Memory}
+use Rattle.swima_subs.specs.declared.sub_answer.SubAnswer.TheVariants.{Taken, Reused, Denied}
 use Rattle.swima_subs.specs.declared.waiting.Waiting.{Waiting}
 use Rattle.swima_subs.specs.Meaning.{DeniedIsFull, NextIsAfter, ReusedIsHeld}
 use Rattle.swima_subs.specs.Subscriptions.{MOST_SUBSCRIPTIONS, applied, cleared, established, is_held, new_waiting}

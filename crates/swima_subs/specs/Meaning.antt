@@ -1,10 +1,10 @@
 -- What the definitions of subscriptions mean.
-use Rattle.std.specs.Prelude.{◌≡◌, ◌<◌, ◌≤◌, ◌+◌, ◌^◌, ◌↔◌, ℕ, true, false, List, Option, Some, length}
+use Rattle.std.specs.Prelude.{◌≡◌, ◌<◌, ◌≤◌, ◌+◌, ◌^◌, ◌↔◌, ℕ, true, false, List, length}
 use Rattle.swima_model.specs.declared.report.Point.{Point}
 use Rattle.swima_request.specs.declared.request.Request.{Request}
 use Rattle.swima_subs.specs.declared.sub_answer.SubAnswer.TheVariants.{Reused, Denied}
 use Rattle.swima_subs.specs.declared.waiting.Waiting.{Waiting}
-use Rattle.swima_subs.specs.Subscriptions.{AreSubs, MOST_SUBSCRIPTIONS, applied, cleared, ended, is_held, next_from, next_request, reported}
+use Rattle.swima_subs.specs.Subscriptions.{AreSubs, MOST_SUBSCRIPTIONS, applied, cleared, ended, is_held, next_from, reported}
 
 -- A request is refused for its ID exactly where a subscription has that, once those were ended that
 -- it ends.

@@ -1,6 +1,6 @@
 -- The subscriptions of a session (RFC 8412, section 3.8), in the order in which they were
 -- established.
-use Rattle.std.specs.Prelude.{◌≡◌, ◌==◌, ◌≤◌, ◌+◌, ◌%◌, ◌^◌, ℕ, Bool, true, false, not, List, [], ◌∷◌, ◌++◌, Option, Some, None, length, map, filter, nat_le, if◌then◌else◌}
+use Rattle.std.specs.Prelude.{◌≡◌, ◌==◌, ◌≤◌, ◌+◌, ◌%◌, ◌^◌, ℕ, Bool, true, false, not, List, [], ◌∷◌, ◌++◌, Some, None, length, map, filter, nat_le, if◌then◌else◌}
 use Rattle.std.specs.List.{list_any}
 use Rattle.swima_model.specs.declared.report.Point.{Point}
 use Rattle.swima_request.specs.declared.request.Request.{Request}

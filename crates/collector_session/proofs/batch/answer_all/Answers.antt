@@ -1,4 +1,4 @@
-use Rattle.std.proofs.Common.{rules, ◌<◌, ◌≤◌, List, [], length, ap, arith, subst, sym}
+use Rattle.std.proofs.Common.{rules, ◌<◌, ◌≤◌, List, length, ap, arith, subst, sym}
 use Rattle.std.specs.Prelude.{IfSome}
 use Rattle.pb_batch.specs.declared.batch.Message.{Message}
 use Rattle.session_talk.specs.Talk.{each}

@@ -1,5 +1,4 @@
-use Rattle.std.proofs.Common.{ap, arith, subst, sym}
-use Rattle.std.specs.Prelude.{[], List, length}
+use Rattle.std.proofs.Common.{ap, arith, subst}
 use Rattle.session_talk.specs.Talk.{each}
 use Rattle.session_rules.specs.Answering.{answers_message}
 use Rattle.collector_session.specs.declared.draft.Draft.{Draft}

@@ -1,5 +1,3 @@
-use Rattle.std.proofs.Common.{ap, ◌∙◌}
-use Rattle.pb_machine.specs.Table.{Position}
 use Rattle.collector_session.proofs.Looking.{retry_lives}
 use Rattle.collector_session.proofs.Results.{on_ok}
 use Rattle.collector_session.proofs.look.retry.Goals as goal

@@ -1,4 +1,3 @@
-use Rattle.std.proofs.Common.{sym}
 use Rattle.collector_session.proofs.Nexting.{finds_lost, has_next, lost_next, unmoved}
 use Rattle.collector_session.proofs.renew.next_since.Goals as goal
 

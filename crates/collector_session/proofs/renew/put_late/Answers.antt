@@ -1,4 +1,4 @@
-use Rattle.std.proofs.Common.{◌≡◌, ◌∙◌, List, ap, arith, inl, inr, refl}
+use Rattle.std.proofs.Common.{◌∙◌, List, ap, arith, inl, inr, refl}
 use Rattle.swima_subs.specs.declared.waiting.Waiting.{Waiting}
 use Rattle.collector_session.proofs.Renewing.{late_ended, late_waits}
 use Rattle.collector_session.proofs.Results.{on_ok}

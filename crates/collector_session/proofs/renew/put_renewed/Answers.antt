@@ -1,15 +1,13 @@
 use Rattle.std.proofs.Common.{◌≤◌, ◌∙◌, List, ap, inl, inr, refl, subst, sym, arith}
-use Rattle.std.specs.Prelude.{OnOk, ℕ}
+use Rattle.std.specs.Prelude.{OnOk}
 use Rattle.swima_model.specs.declared.report.Point.{Point}
 use Rattle.swima_model.specs.declared.report.Report.{Report}
-use Rattle.swima_model.specs.Fulfilling.{fulfilling}
 use Rattle.swima_model.specs.Reports.{FitsAttribute}
 use Rattle.swima_model.specs.Size.{report_size}
 use Rattle.swima_subs.specs.declared.waiting.Waiting.{Waiting}
 use Rattle.swima_subs.specs.Subscriptions.{reported}
 use Rattle.collector_core.specs.declared.answer.Answer.{Answer}
-use Rattle.session_rules.specs.Answering.{puts_report, reach_of}
-use Rattle.collector_session.specs.declared.draft.Draft.{Draft}
+use Rattle.session_rules.specs.Answering.{puts_report}
 use Rattle.collector_session.specs.Answers.{IsTold}
 use Rattle.collector_session.specs.Renewing.{Renewed}
 use Rattle.collector_session.specs.Standing.{draft_of}

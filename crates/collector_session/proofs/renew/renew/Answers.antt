@@ -1,4 +1,4 @@
-use Rattle.std.proofs.Common.{◌<◌, ◌≤◌, List, [], ap, arith, length, subst, sym}
+use Rattle.std.proofs.Common.{◌<◌, List, [], ap, arith, length, subst, sym}
 use Rattle.std.specs.Prelude.{Ok}
 use Rattle.pb_batch.specs.declared.batch.Message.{Message}
 use Rattle.session_talk.specs.Talk.{Done}

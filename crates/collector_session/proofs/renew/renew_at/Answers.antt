@@ -1,11 +1,10 @@
-use Rattle.std.proofs.Common.{◌≡◌, ◌∙◌, List, [], refl, subst}
-use Rattle.std.specs.Prelude.{IfSome, None, OnOk, Option, Some}
+use Rattle.std.proofs.Common.{◌≡◌, ◌∙◌, [], refl, subst}
+use Rattle.std.specs.Prelude.{IfSome, None, Option, Some}
 use Rattle.swima_request.specs.declared.request.Request.{Request}
 use Rattle.swima_subs.specs.declared.waiting.Waiting.{Waiting}
 use Rattle.session_rules.specs.Answering.{next_of, renews_by, renews_one}
 use Rattle.session_rules.specs.Clauses.{Drafted}
 use Rattle.session_rules.proofs.Desking.{drafted_then, talks_first}
-use Rattle.collector_session.specs.Renewing.{GoesOn}
 use Rattle.collector_session.specs.Standing.{draft_of}
 use Rattle.collector_session.proofs.Each.{Lost}
 use Rattle.collector_session.proofs.Results.{not_ok, on_err}

@@ -1,5 +1,5 @@
 use Rattle.std.proofs.Common.{◌≡◌, ap, inl, refl, subst, sym}
-use Rattle.std.specs.Prelude.{IfSome, None, Ok, OnOk, Option, Some, ℕ}
+use Rattle.std.specs.Prelude.{IfSome, Ok, OnOk, Option, ℕ}
 use Rattle.swima_request.specs.declared.request.Request.{Request}
 use Rattle.session_rules.specs.Answering.{renews_by}
 use Rattle.session_rules.specs.Clauses.{Drafted}
