@@ -1,28 +1,39 @@
--- Worked requests for subscriptions: one that is taken, and those that are refused.
-use Rattle.std.specs.Prelude.{◌≡◌, ℕ, List, [], ◌∷◌, ◌++◌, Some, None, true, map}
+-- Worked subscriptions: requests that are taken and refused, what is said of those that are held,
+-- and reports that are too large.
+use Rattle.std.specs.Prelude.{◌≡◌, ◌≤◌, ℕ, List, [], ◌∷◌, ◌++◌, Some, None, true, length, map}
 use Rattle.wire_base.specs.Turns.{turns_of}
+use Rattle.swima_model.specs.declared.record.Record.{Record}
 use Rattle.swima_subs.specs.declared.waiting.Waiting.{Waiting}
 use Rattle.swima_subs.specs.Subscriptions.{new_waiting}
+use Rattle.collector_core.specs.declared.chronicle.Entry.TheVariants as entry
+use Rattle.collector_core.specs.Chronicle.{Chronicle}
+use Rattle.pb_batch.specs.Form.{BATCH_MESSAGES}
 use Rattle.pb_machine.specs.declared.machine.Role.TheVariants as role
 use Rattle.pb_machine.specs.declared.machine.State.TheVariants as state
 use Rattle.session_talk.specs.Given.{given}
+use Rattle.session_talk.specs.Talk.{Done}
 use Rattle.session_hear.specs.Hearing.{heard}
 use Rattle.session_hear.specs.Serving.{serve}
+use Rattle.session_rules.specs.declared.config.ServeConfig.{ServeConfig}
+use Rattle.session_rules.specs.Answering.{renews}
 use Rattle.session_rules.specs.Questions.{at_places}
 use Rattle.session_rules.specs.ServeRules.{react, note}
-use Rattle.session_rules.specs.Serving.{Stand, begin, nothing_noted}
+use Rattle.session_rules.specs.Serving.{Draft, Stand, begin, nothing_noted}
 use Rattle.session_rules.specs.Transcripts.{served}
-use Rattle.session_rules.specs.Vectors.{empty_cdata, no_records, subscription, denied}
-use Rattle.session_rules.specs.Worked.{at, no_software, serving, subscribed}
-use Rattle.session_rules.specs.WorkedFaults.{changed}
+use Rattle.session_rules.specs.Vectors.{empty_cdata, empty_sdata, no_records, one_record, one_subscription, second_request, status_request, subscription, denied}
+use Rattle.session_rules.specs.Worked.{at, created_one, no_software, record_one, serving, subscribed}
+use Rattle.session_rules.specs.WorkedFaults.{changed, error_with}
 
 -- A collector that holds these subscriptions, after its first CDATA. None of them was fulfilled yet.
 abbrev pub holding : List Waiting → Stand
 holding subs = record begin { subs = subs }
 
--- What it does to an SDATA, and how it stands then.
+-- What it does to an SDATA once these entries are in its chronicle, and how it stands then.
+abbrev pub hears_in : ServeConfig → Chronicle → List Waiting → List ℕ → List ℕ × Stand
+hears_in c chronicle subs octets = given (at_places chronicle) (length chronicle.entries) (serve (react c) note (holding subs) (heard true 4294967295 (turns_of octets)).0) []
+
 abbrev pub hears : List Waiting → List ℕ → List ℕ × Stand
-hears subs octets = given (at_places no_software) 0 (serve (react serving) note (holding subs) (heard true 4294967295 (turns_of octets)).0) []
+hears subs octets = hears_in serving no_software subs octets
 
 -- The subscription that the request established, and that of another ID.
 abbrev pub of_id : ℕ → Waiting
@@ -76,3 +87,39 @@ after_clearing = record after_taking { subs = record { request = record subscrib
 pub record ClearingIsTaken : Type 0 where
   pub full : hears sixteen clearing ≡ (no_records, after_clearing)
   pub same : hears (of_id 1 ∷ []) clearing ≡ (no_records, after_clearing)
+  pub none : hears [] clearing ≡ (no_records, after_clearing)
+
+-- ---- what is said of those that are held (section 3.8.4)
+
+-- The answer is an Error where the requests of 16 have more octets than there is room.
+abbrev pub small : ServeConfig
+small = record serving { max = 64 }
+
+pub record SubscriptionsAreListed : Type 0 where
+  pub listed : hears (of_id 1 ∷ []) status_request ≡ (one_subscription, after_refusing (of_id 1 ∷ []))
+  pub large : hears_in small no_software sixteen status_request
+      ≡ (error_with 6 (0x00 ∷ 0x00 ∷ 0x00 ∷ 0x00 ∷ 0x00 ∷ 0x00 ∷ 0x00 ∷ 0x40 ∷ []), after_refusing sixteen)
+
+-- ---- reports that are too large (section 3.8.5)
+
+-- The collector, once a record was created whose identifier has 7 octets. The report of that has 65.
+abbrev pub long_record : Record
+long_record = record record_one { content = record record_one.content { ident = 0x61 ∷ 0x61 ∷ 0x61 ∷ 0x61 ∷ 0x61 ∷ 0x61 ∷ 0x61 ∷ [] } }
+
+abbrev pub long_software : Chronicle
+long_software = record no_software { entries = entry.Event (record created_one { subject = long_record }) ∷ [] }
+
+-- The subscription that was fulfilled before.
+abbrev pub fulfilled : List Waiting
+fulfilled = record { request = subscribed; place = Some (at 0) } ∷ []
+
+-- Beside an inventory, which takes 37 octets of the room, the report waits for the next batch. With
+-- all room of a batch it is still too large, and the subscription is ended.
+abbrev pub after_waiting : Stand
+after_waiting = record after_taking { notes = record { points = at 1 ∷ []; errors = []; reports = 1 } }
+
+pub record SubscriptionWaits : Type 0 where
+  pub beside : hears_in small long_software fulfilled second_request ≡ (one_record, after_waiting)
+  pub alone : hears_in small long_software fulfilled empty_sdata
+      ≡ (error_with 6 (0x00 ∷ 0x00 ∷ 0x00 ∷ 0x01 ∷ 0x00 ∷ 0x00 ∷ 0x00 ∷ 0x40 ∷ []), after_refusing [])
+  pub full : (c : ServeConfig) (d : Draft) → BATCH_MESSAGES ≤ length d.messages → renews c d ≡ Done d

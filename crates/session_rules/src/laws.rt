@@ -9,7 +9,7 @@ ghost use Rattle.session_rules.specs.SubRun.{PlacesFollowReports, ReportsGoOn};
 ghost use Rattle.session_rules.specs.Worked.{DoubledIsAskedThrice, HeaderIsTorn, InventoryIsAdopted, InventoryIsServed, OtherVersionIsRefused, SubscriptionIsFollowed, SubscriptionIsFulfilled, TurnsAreTaken};
 ghost use Rattle.session_rules.specs.WorkedEnds.{IdleTurnsEnd, LastOctetsEnd, PeerEnds, RequestsAreAnswered, RetriesAreHeard, RetriesCross, TooLargeIsAnswered};
 ghost use Rattle.session_rules.specs.WorkedEnds.{ValidatorAnswers, ValidatorEnds, ValidatorHearsErrors, ValidatorRetries, WantedReportsEnd};
-ghost use Rattle.session_rules.specs.WorkedSubscriptions.{ClearingIsTaken, SubscriptionIsDenied, SubscriptionIsReused, SubscriptionIsTaken};
+ghost use Rattle.session_rules.specs.WorkedSubscriptions.{ClearingIsTaken, SubscriptionIsDenied, SubscriptionIsReused, SubscriptionIsTaken, SubscriptionWaits, SubscriptionsAreListed};
 ghost use Rattle.session_rules.specs.WorkedFaults.{CutsAreTorn, FaultsAreAnswered, FaultsAreRefused, FaultsAreRefusedByValidator, LastAttributeIsAnswered, LastMessageIsRefused};
 
 /// At the same places of a chronicle a collector writes the same octets, and stands the same.
@@ -136,6 +136,17 @@ pub fn subscription_is_reused()
 /// It takes both where the request clears the subscriptions first.
 pub fn clearing_is_taken()
     ensures law { ClearingIsTaken }
+{}
+
+/// A collector says which subscriptions it holds, or that the answer is too large.
+pub fn subscriptions_are_listed()
+    ensures law { SubscriptionsAreListed }
+{}
+
+/// A subscription waits for the next batch where its report has no room beside others, or where the
+/// answers are as many messages as a batch may have. It ends where its report is too large by itself.
+pub fn subscription_waits()
+    ensures law { SubscriptionWaits }
 {}
 
 /// A collector that took a subscription fulfils it after an idle turn.
