@@ -6,6 +6,7 @@ use Rattle.std.proofs.lemmas.List.Elements.{filter_agree}
 use Rattle.swima_model.specs.declared.event.Event.{Event}
 use Rattle.swima_model.specs.declared.report.Point.{Point}
 use Rattle.swima_model.specs.declared.report.Report.{Report}
+use Rattle.swima_model.specs.declared.report.Report.TheVariants.{Inventory, Events}
 use Rattle.swima_model.specs.History.{AreNumberedFrom, from_to}
 use Rattle.swima_model.specs.Kinds.{events_of_kind}
 use Rattle.swima_request.specs.declared.request.Request.{Request}
@@ -16,7 +17,8 @@ use Rattle.collector_core.specs.Chronicle.{Chronicle, current, first_kept, last_
 use Rattle.collector_core.specs.Legal.{IsLegal}
 use Rattle.collector_core.proofs.Answered.{fits_is}
 use Rattle.collector_core.proofs.Chronicles.{current_honest}
-use Rattle.session_rules.specs.SubRun.{GoesOnFrom, ReportsGoOn}
+use Rattle.session_rules.specs.Answering.{reach_of}
+use Rattle.session_rules.specs.SubRun.{GoesOnAfter, GoesOnFrom, ReportsGoOn, SuccessiveReports}
 
 -- ---- events in order
 
@@ -189,3 +191,14 @@ module _ (chronicle : Chronicle) (request : Request) (place now : Point) (most :
 pub reports_go_on : ReportsGoOn
 reports_go_on chronicle request place now most report legal below is =
     by_earliest chronicle request place now most legal below (next_from place now == 0) (ltb (next_from place now) (first_kept chronicle)) report refl is
+
+-- ---- two reports
+
+goes_on_after : (chronicle : Chronicle) (request : Request) (first second : Report) → GoesOnFrom chronicle request (reach_of first) second → GoesOnAfter chronicle request first second
+goes_on_after chronicle request (Inventory kind fulfil id point records) second goes = tt
+goes_on_after chronicle request (Events kind fulfil id point consulted events) (Inventory later_kind later_fulfil later_id later_point records) goes = tt
+goes_on_after chronicle request (Events kind fulfil id point consulted events) (Events later_kind later_fulfil later_id later_point last later) goes = goes.3
+
+pub successive_reports : SuccessiveReports
+successive_reports chronicle request first second now most legal below is =
+    goes_on_after chronicle request first second (reports_go_on chronicle request (reach_of first) now most second legal below is)

@@ -70,3 +70,15 @@ GoesOnFrom chronicle request place (Events kind fulfil id point consulted events
 abbrev pub ReportsGoOn : Type 0
 ReportsGoOn = (chronicle : Chronicle) (request : Request) (place now : Point) (most : ℕ) (report : Report) → IsLegal chronicle → place.eid < 2 ^ 32
     → answer_at chronicle (next_request request place now) most ≡ answer.Report report → GoesOnFrom chronicle request place report
+
+-- Of two successive reports of events of one epoch, the later has all events that match above the
+-- last that the earlier consulted, up to the last that it consulted itself.
+abbrev pub GoesOnAfter : Chronicle → Request → Report → Report → Type 0
+GoesOnAfter chronicle request (Events kind fulfil id point consulted events) (Events later_kind later_fulfil later_id later_point last later) =
+    point.epoch ≡ later_point.epoch → later ≡ matching request.targets request.kind consulted last (current chronicle)
+GoesOnAfter chronicle request first second = Unit {0}
+
+-- The subscription was fulfilled as far as the earlier, and the later answers its next request.
+abbrev pub SuccessiveReports : Type 0
+SuccessiveReports = (chronicle : Chronicle) (request : Request) (first second : Report) (now : Point) (most : ℕ) → IsLegal chronicle → (reach_of first).eid < 2 ^ 32
+    → answer_at chronicle (next_request request (reach_of first) now) most ≡ answer.Report second → GoesOnAfter chronicle request first second

@@ -5,7 +5,7 @@ ghost use Rattle.session_rules.specs.AnySession.{StaysRightInParts, StaysRightIn
 ghost use Rattle.session_rules.specs.Meaning.{FollowedIsASession, FollowedIsSo, FollowedPartContinues, LaterEntriesChangeNoPart, LaterEntriesChangeNothing};
 ghost use Rattle.session_rules.specs.Meaning.{MarkedAsksForAll, OneOutcome, ServedIsASession, ServedIsSo, ServedPartContinues};
 ghost use Rattle.session_rules.specs.Wanted.{RequestsAreWanted};
-ghost use Rattle.session_rules.specs.SubRun.{PlacesFollowReports, ReportsGoOn};
+ghost use Rattle.session_rules.specs.SubRun.{PlacesFollowReports, ReportsGoOn, SuccessiveReports};
 ghost use Rattle.session_rules.specs.Worked.{DoubledIsAskedThrice, HeaderIsTorn, InventoryIsAdopted, InventoryIsServed, OtherVersionIsRefused, SubscriptionIsFollowed, SubscriptionIsFulfilled, TurnsAreTaken};
 ghost use Rattle.session_rules.specs.WorkedEnds.{IdleTurnsEnd, LastOctetsEnd, PeerEnds, RequestsAreAnswered, RetriesAreHeard, RetriesCross, TooLargeIsAnswered};
 ghost use Rattle.session_rules.specs.WorkedEnds.{ValidatorAnswers, ValidatorEnds, ValidatorHearsErrors, ValidatorRetries, WantedReportsEnd};
@@ -66,6 +66,11 @@ pub fn places_follow_reports()
 /// A report of events goes on from a place of its epoch with all that match, none skipped or doubled.
 pub fn reports_go_on()
     ensures law { ReportsGoOn }
+{}
+
+/// Of two successive reports of events in one epoch, the later goes on where the earlier stopped.
+pub fn successive_reports()
+    ensures law { SuccessiveReports }
 {}
 
 /// While the mark of its mirror is set, each request of a validator is for the inventory.

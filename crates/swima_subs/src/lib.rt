@@ -6,7 +6,7 @@
 //! - `applied` of `Subs::apply`: what is answered to a request, and the subscriptions then.
 //! - `reported` of `Subs::reported` and `ended` of `Subs::end`: the subscriptions after a report,
 //!   and after the end of one.
-//! - `request` of `Subs::next_request`: the request that fulfils a subscription further.
+//! - `request` of `Waiting::next_request`: the request that fulfils a subscription further.
 //! - `requests` of `Subs::status`: what is said of the subscriptions that are held.
 //! - `are` of `Subs::len`: they are at most 16, and no two have one ID.
 //!
