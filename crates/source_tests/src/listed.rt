@@ -38,8 +38,6 @@ impl Listed {
 }
 
 impl TagSource for Listed {
-    ghost use Rattle.std.specs.Prelude.{⊥};
-
     ghost reports = { λ source items. ⊥ };
 
     ghost faults = { λ source. source.faults };
