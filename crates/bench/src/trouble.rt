@@ -26,6 +26,8 @@ pub(crate) enum Trouble {
     Batch,
     /// The book refused what was asked of it.
     Book,
+    /// A session did what it was not meant to do.
+    Session,
     /// Memory ran out.
     Memory,
 }
@@ -33,11 +35,13 @@ pub(crate) enum Trouble {
 /// The words that ask for something.
 const WORDS: &str = "\
 the words are none of these:
-  bench book RECORDS answer|events|change|last|middle TIMES
+  bench book RECORDS answer|targets|events|change|rename TIMES
+  bench book RECORDS first|middle|last|delete TIMES
   bench shelf alone|1|2|4 change|read|both TIMES
   bench sessions first RECORDS SIZE
   bench sessions alone RECORDS
   bench sessions update RECORDS EVENTS TIMES
+  bench sessions looks RECORDS TIMES
   bench batches SIZE large|small
   bench cbor read|write
   bench cbor feed SIZE
@@ -54,6 +58,7 @@ impl fmt::Display for Trouble {
             Trouble::Tag => f.write_str("a tag was refused"),
             Trouble::Batch => f.write_str("a batch was refused"),
             Trouble::Book => f.write_str("the book refused an answer or a change"),
+            Trouble::Session => f.write_str("a session wrote, or ended, where it should wait"),
             Trouble::Memory => f.write_str("out of memory"),
         }
     }
