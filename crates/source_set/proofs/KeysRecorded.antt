@@ -31,7 +31,7 @@ use Rattle.source_set.proofs.Reflecting.{Reflects, altered_key, created_key, del
 
 -- ---- the number after deeds
 
-past : ℕ → List Deed → ℕ
+abbrev past : ℕ → List Deed → ℕ
 past n [] = n
 past n (Creates id content ∷ others) = past (id + 1) others
 past n (Alters id content ∷ others) = past n others

@@ -36,7 +36,7 @@ no at id x y other = ap (λ (t : Bool). cond t x y) (ne_eqb at id other)
 
 -- ---- a record is created
 
-created_key : (n : ℕ) (keys : List Held) (said held : ℕ → Option Content) (made : ℕ → Type 0) (key new : ℕ) (content : Content) → Reflects n keys said held made → id_at key keys ≡ None → n ≤ new
+pub created_key : (n : ℕ) (keys : List Held) (said held : ℕ → Option Content) (made : ℕ → Type 0) (key new : ℕ) (content : Content) → Reflects n keys said held made → id_at key keys ≡ None → n ≤ new
     → Reflects (new + 1) (with_key key new keys) (λ q. cond (eqb key q) (Some content) (said q)) (λ i. cond (eqb new i) (Some content) (held i)) (λ i. made i ⊎ (new ≡ i))
 created_key n keys said held made key new content was absent least = record {
   once = once_put key new keys absent was.once;
@@ -80,7 +80,7 @@ created_key n keys said held made key new content was absent least = record {
 
 -- ---- a record is altered
 
-altered_key : (n : ℕ) (keys : List Held) (said held : ℕ → Option Content) (made : ℕ → Type 0) (key at : ℕ) (content : Content) → Reflects n keys said held made → id_at key keys ≡ Some at
+pub altered_key : (n : ℕ) (keys : List Held) (said held : ℕ → Option Content) (made : ℕ → Type 0) (key at : ℕ) (content : Content) → Reflects n keys said held made → id_at key keys ≡ Some at
     → Reflects n keys (λ q. cond (eqb key q) (Some content) (said q)) (λ i. cond (eqb at i) (Some content) (held i)) made
 altered_key n keys said held made key at content was here = record {
   once = was.once;
@@ -101,7 +101,7 @@ altered_key n keys said held made key at content was here = record {
 
 -- ---- a record is deleted
 
-deleted_key : (n : ℕ) (keys : List Held) (said held : ℕ → Option Content) (made : ℕ → Type 0) (key at : ℕ) → Reflects n keys said held made → id_at key keys ≡ Some at
+pub deleted_key : (n : ℕ) (keys : List Held) (said held : ℕ → Option Content) (made : ℕ → Type 0) (key at : ℕ) → Reflects n keys said held made → id_at key keys ≡ Some at
     → Reflects n (without key keys) (λ q. cond (eqb key q) None (said q)) (λ i. cond (eqb at i) None (held i)) made
 deleted_key n keys said held made key at was here = record {
   once = once_without key keys was.once;
@@ -161,7 +161,7 @@ swept_out id (e ∷ es) held = elim (cases_eq e.1 id) [
     ]
 ]
 
-ended_keys : (n : ℕ) (keys : List Held) (said held : ℕ → Option Content) (made : ℕ → Type 0) → Reflects n keys said held made
+pub ended_keys : (n : ℕ) (keys : List Held) (said held : ℕ → Option Content) (made : ℕ → Type 0) → Reflects n keys said held made
     → Reflects n [] (λ q. None) (λ i. fold (content_after i) (held i) (deletions (by_id keys))) made
 ended_keys n keys said held made was = record {
   once = tt;
