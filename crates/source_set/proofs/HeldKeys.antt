@@ -21,7 +21,7 @@ apart_cmp : (a b : ℕ) → a ≢ b → is_eq (nat_cmp a b) ≡ false
 apart_cmp a b other = apart_cmp-step (ltb a b) (eqb a b) (ne_eqb a b other)
 
 equal_same : (a b : ℕ) → nat_cmp a b ≡ Equal → a ≡ b
-equal_same a b is = elim (cases_eq a b) [ | inl same ↦ same | inr other ↦ let no : is_eq (nat_cmp a b) ≡ false = apart_cmp a b other in let yes : is_eq (nat_cmp a b) ≡ true = ap is_eq is in absurd cc ]
+equal_same a b is = elim (cases_eq a b) [ inl same ↦ same | inr other ↦ let no : is_eq (nat_cmp a b) ≡ false = apart_cmp a b other in let yes : is_eq (nat_cmp a b) ≡ true = ap is_eq is in absurd cc ]
 
 -- The first of some keys is looked at.
 hit : (key : ℕ) (e : Held) (es : List Held) → key ≡ e.0 → id_at key (e ∷ es) ≡ Some e.1

@@ -57,7 +57,7 @@ fresh_less n m (GivesUp ∷ xs) less f = fresh_less n m xs less f
 made_joins : (id : ℕ) (xs ys : List Deed) → IsAmong id (created (xs ++ ys)) → IsAmong id (created xs) ⊎ IsAmong id (created ys)
 made_joins id [] ys is = inr is
 made_joins id (Creates new content ∷ xs) ys (inl here) = inl (inl here)
-made_joins id (Creates new content ∷ xs) ys (inr there) = elim (made_joins id xs ys there) [ | inl one ↦ inl (inr one) | inr other ↦ inr other ]
+made_joins id (Creates new content ∷ xs) ys (inr there) = elim (made_joins id xs ys there) [ inl one ↦ inl (inr one) | inr other ↦ inr other ]
 made_joins id (Alters altered content ∷ xs) ys is = made_joins id xs ys is
 made_joins id (Deletes deleted ∷ xs) ys is = made_joins id xs ys is
 made_joins id (GivesUp ∷ xs) ys is = made_joins id xs ys is
@@ -143,7 +143,7 @@ after_end n keys said held made was =
     subst (λ (m : ℕ). Reflects m [] (λ q. None) (λ i. fold (content_after i) (held i) (deletions (by_id keys) ++ GivesUp ∷ [])) (λ i. made i ⊎ IsAmong i (created (deletions (by_id keys) ++ GivesUp ∷ []))))
     (sym (end_past n (by_id keys)))
     (reflects_same n [] _ _ _ _ _ _ (ended_keys n keys said held made was) (λ q. refl) (λ i. fold-append (content_after i) (held i) (deletions (by_id keys)) (GivesUp ∷ []))
-    (λ i is. elim is [ | inl old ↦ old | inr new ↦ absurd (end_made i (by_id keys) new) ]) (λ i is. inl is))
+    (λ i is. elim is [ inl old ↦ old | inr new ↦ absurd (end_made i (by_id keys) new) ]) (λ i is. inl is))
 
 after_none : (n : ℕ) (keys : List Held) (said held : ℕ → Option Content) (made : ℕ → Type 0) → Reflects n keys said held made → Reflects n keys said held (λ i. made i ⊎ ⊥)
 after_none n keys said held made was = reflects_same n keys _ _ _ _ _ _ was (λ q. refl) (λ i. refl) (λ i. only (made i)) (λ i is. inl is)
@@ -174,10 +174,10 @@ after_items n keys said held made (done ∷ later) was known fresh =
       reflects_same rest.0 _ _ _ _ _ _ _ rest.1 (λ q. refl) (λ i. fold-append (content_after i) (held i) part (deeds left later))
           (λ i is. elim is [
             | inl old ↦ inl (inl old)
-            | inr new ↦ elim (made_joins i part (deeds left later) new) [ | inl one ↦ inl (inr one) | inr other ↦ inr other ]
+            | inr new ↦ elim (made_joins i part (deeds left later) new) [ inl one ↦ inl (inr one) | inr other ↦ inr other ]
           ])
           (λ i is. elim is [
-            | inl before ↦ elim before [ | inl old ↦ inl old | inr one ↦ inr (made_left i part (deeds left later) one) ]
+            | inl before ↦ elim before [ inl old ↦ inl old | inr one ↦ inr (made_left i part (deeds left later) one) ]
             | inr other ↦ inr (made_right i part (deeds left later) other)
           ]),
     )
@@ -265,7 +265,7 @@ keys_are_recorded stamp chronicle marks dones legal known makes alone =
     record {
       recorded = λ key id at.
           let one = all.1.recorded key id at in
-          let ours : IsAmong id (created done) = elim one.4 [ | inl other ↦ absurd other | inr is ↦ is ] in
+          let ours : IsAmong id (created done) = elim one.4 [ inl other ↦ absurd other | inr is ↦ is ] in
           (one.0, one.1, deeds_are_recorded stamp chronicle marks done id (before id) makes (alone id ours) (known_record id (live_now chronicle)) ∙ ap (λ (c : Option Content). as_record id c) one.2);
       apart = all.1.apart;
       gone = λ id is none.

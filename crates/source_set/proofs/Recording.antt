@@ -77,12 +77,12 @@ one_step : (chronicle : Chronicle) (made : Entry) (at id : ℕ) (content : Conte
     → record_of id (live_now (extended chronicle (made ∷ []))) ≡ as_record id (cond (eqb at id) (Some content) held)
 one_step chronicle made at id content held event is subject alive before = elim (cases_eq at id) [
   | inl same ↦
-    ap (λ (x : Entry). record_of id (live_now (extended chronicle (x ∷ [])))) is ∙ becomes chronicle event id (ap (λ (r : Record). r.id) subject ∙ same)
-    ∙ ap (λ (t : Bool). cond t None (Some event.subject)) alive ∙ ap (λ (r : Record). Some r) subject ∙ ap (λ (n : ℕ). as_record n (Some content)) same
-    ∙ ap (λ (t : Bool). as_record id (cond t (Some content) held)) (sym (eq-eqb at id same))
+      ap (λ (x : Entry). record_of id (live_now (extended chronicle (x ∷ [])))) is ∙ becomes chronicle event id (ap (λ (r : Record). r.id) subject ∙ same)
+      ∙ ap (λ (t : Bool). cond t None (Some event.subject)) alive ∙ ap (λ (r : Record). Some r) subject ∙ ap (λ (n : ℕ). as_record n (Some content)) same
+      ∙ ap (λ (t : Bool). as_record id (cond t (Some content) held)) (sym (eq-eqb at id same))
   | inr other ↦
-    ap (λ (x : Entry). record_of id (live_now (extended chronicle (x ∷ [])))) is ∙ stays chronicle (entry.Event event) id (λ e. other (sym (ap (λ (r : Record). r.id) subject) ∙ e))
-    ∙ before ∙ ap (λ (t : Bool). as_record id (cond t (Some content) held)) (sym (ne_eqb at id other))
+      ap (λ (x : Entry). record_of id (live_now (extended chronicle (x ∷ [])))) is ∙ stays chronicle (entry.Event event) id (λ e. other (sym (ap (λ (r : Record). r.id) subject) ∙ e))
+      ∙ before ∙ ap (λ (t : Bool). as_record id (cond t (Some content) held)) (sym (ne_eqb at id other))
 ]
 
 gone_step : (chronicle : Chronicle) (made : Entry) (at id : ℕ) (held : Option Content) (event : Event) → made ≡ entry.Event event → event.subject.id ≡ at
@@ -90,11 +90,11 @@ gone_step : (chronicle : Chronicle) (made : Entry) (at id : ℕ) (held : Option 
     → record_of id (live_now (extended chronicle (made ∷ []))) ≡ as_record id (cond (eqb at id) None held)
 gone_step chronicle made at id held event is subject gone before = elim (cases_eq at id) [
   | inl same ↦
-    ap (λ (x : Entry). record_of id (live_now (extended chronicle (x ∷ [])))) is ∙ becomes chronicle event id (subject ∙ same)
-    ∙ ap (λ (t : Bool). cond t None (Some event.subject)) gone ∙ ap (λ (t : Bool). as_record id (cond t None held)) (sym (eq-eqb at id same))
+      ap (λ (x : Entry). record_of id (live_now (extended chronicle (x ∷ [])))) is ∙ becomes chronicle event id (subject ∙ same)
+      ∙ ap (λ (t : Bool). cond t None (Some event.subject)) gone ∙ ap (λ (t : Bool). as_record id (cond t None held)) (sym (eq-eqb at id same))
   | inr other ↦
-    ap (λ (x : Entry). record_of id (live_now (extended chronicle (x ∷ [])))) is ∙ stays chronicle (entry.Event event) id (λ e. other (sym subject ∙ e))
-    ∙ before ∙ ap (λ (t : Bool). as_record id (cond t None held)) (sym (ne_eqb at id other))
+      ap (λ (x : Entry). record_of id (live_now (extended chronicle (x ∷ [])))) is ∙ stays chronicle (entry.Event event) id (λ e. other (sym subject ∙ e))
+      ∙ before ∙ ap (λ (t : Bool). as_record id (cond t None held)) (sym (ne_eqb at id other))
 ]
 
 -- The record is what the deed leaves of it.

@@ -42,40 +42,40 @@ created_key n keys said held made key new content was absent least = record {
   once = once_put key new keys absent was.once;
   recorded = λ q id at. elim (cases_eq q key) [
     | inl same ↦
-      let is : new ≡ id = some_same new id (sym (found key new keys) ∙ ap (λ (k : ℕ). id_at k (with_key key new keys)) (sym same) ∙ at) in
-      (content, yes key q (Some content) (said q) (sym same), yes new id (Some content) (held id) is, omega (arith, is), inr is)
+        let is : new ≡ id = some_same new id (sym (found key new keys) ∙ ap (λ (k : ℕ). id_at k (with_key key new keys)) (sym same) ∙ at) in
+        (content, yes key q (Some content) (said q) (sym same), yes new id (Some content) (held id) is, omega (arith, is), inr is)
     | inr other ↦
-      let old = was.recorded q id (sym (other_put q key new keys other) ∙ at) in
-      let apart : new ≢ id = λ is. omega (arith, is, old.3, least) in
-      (old.0, no key q (Some content) (said q) (λ is. other (sym is)) ∙ old.1, no new id (Some content) (held id) apart ∙ old.2, omega (arith, old.3, least), inl old.4)
+        let old = was.recorded q id (sym (other_put q key new keys other) ∙ at) in
+        let apart : new ≢ id = λ is. omega (arith, is, old.3, least) in
+        (old.0, no key q (Some content) (said q) (λ is. other (sym is)) ∙ old.1, no new id (Some content) (held id) apart ∙ old.2, omega (arith, old.3, least), inl old.4)
   ];
   apart = λ one other id a b. elim (cases_eq one key) [
     | inl first ↦ elim (cases_eq other key) [
       | inl second ↦ first ∙ sym second
       | inr second ↦
-        let is : new ≡ id = some_same new id (sym (found key new keys) ∙ ap (λ (k : ℕ). id_at k (with_key key new keys)) (sym first) ∙ a) in
-        let old = was.recorded other id (sym (other_put other key new keys second) ∙ b) in
-        absurd (omega (arith, is, old.3, least))
+          let is : new ≡ id = some_same new id (sym (found key new keys) ∙ ap (λ (k : ℕ). id_at k (with_key key new keys)) (sym first) ∙ a) in
+          let old = was.recorded other id (sym (other_put other key new keys second) ∙ b) in
+          absurd (omega (arith, is, old.3, least))
     ]
     | inr first ↦ elim (cases_eq other key) [
       | inl second ↦
-        let is : new ≡ id = some_same new id (sym (found key new keys) ∙ ap (λ (k : ℕ). id_at k (with_key key new keys)) (sym second) ∙ b) in
-        let old = was.recorded one id (sym (other_put one key new keys first) ∙ a) in
-        absurd (omega (arith, is, old.3, least))
+          let is : new ≡ id = some_same new id (sym (found key new keys) ∙ ap (λ (k : ℕ). id_at k (with_key key new keys)) (sym second) ∙ b) in
+          let old = was.recorded one id (sym (other_put one key new keys first) ∙ a) in
+          absurd (omega (arith, is, old.3, least))
       | inr second ↦ was.apart one other id (sym (other_put one key new keys first) ∙ a) (sym (other_put other key new keys second) ∙ b)
     ]
   ];
   gone = λ id is none. elim is [
     | inl old ↦
-      let apart : new ≢ id = λ same. omega (arith, same, was.below id old, least) in
-      no new id (Some content) (held id) apart
-      ∙ was.gone id old (λ q at. elim (cases_eq q key) [
-        | inl same ↦ none-some id (sym absent ∙ ap (λ (k : ℕ). id_at k keys) (sym same) ∙ at)
-        | inr other ↦ none q (other_put q key new keys other ∙ at)
-      ])
+        let apart : new ≢ id = λ same. omega (arith, same, was.below id old, least) in
+        no new id (Some content) (held id) apart
+        ∙ was.gone id old (λ q at. elim (cases_eq q key) [
+          | inl same ↦ none-some id (sym absent ∙ ap (λ (k : ℕ). id_at k keys) (sym same) ∙ at)
+          | inr other ↦ none q (other_put q key new keys other ∙ at)
+        ])
     | inr same ↦ absurd (none key (found key new keys ∙ ap (λ (i : ℕ). Some i) same))
   ];
-  below = λ id is. elim is [ | inl old ↦ omega (arith, was.below id old, least) | inr same ↦ omega (arith, same) ];
+  below = λ id is. elim is [ inl old ↦ omega (arith, was.below id old, least) | inr same ↦ omega (arith, same) ];
 }
 
 -- ---- a record is altered
@@ -86,11 +86,11 @@ altered_key n keys said held made key at content was here = record {
   once = was.once;
   recorded = λ q id is. let old = was.recorded q id is in elim (cases_eq q key) [
     | inl same ↦
-      let one : at ≡ id = some_same at id (sym here ∙ ap (λ (k : ℕ). id_at k keys) (sym same) ∙ is) in
-      (content, yes key q (Some content) (said q) (sym same), yes at id (Some content) (held id) one, old.3, old.4)
+        let one : at ≡ id = some_same at id (sym here ∙ ap (λ (k : ℕ). id_at k keys) (sym same) ∙ is) in
+        (content, yes key q (Some content) (said q) (sym same), yes at id (Some content) (held id) one, old.3, old.4)
     | inr other ↦
-      let apart : at ≢ id = λ one. other (was.apart q key id is (here ∙ ap (λ (i : ℕ). Some i) one)) in
-      (old.0, no key q (Some content) (said q) (λ e. other (sym e)) ∙ old.1, no at id (Some content) (held id) apart ∙ old.2, old.3, old.4)
+        let apart : at ≢ id = λ one. other (was.apart q key id is (here ∙ ap (λ (i : ℕ). Some i) one)) in
+        (old.0, no key q (Some content) (said q) (λ e. other (sym e)) ∙ old.1, no at id (Some content) (held id) apart ∙ old.2, old.3, old.4)
   ];
   apart = was.apart;
   gone = λ id is none.
@@ -108,10 +108,10 @@ deleted_key n keys said held made key at was here = record {
   recorded = λ q id is. elim (cases_eq q key) [
     | inl same ↦ absurd (none-some id (sym (gone_without key keys was.once) ∙ ap (λ (k : ℕ). id_at k (without key keys)) (sym same) ∙ is))
     | inr other ↦
-      let there = sym (other_without q key keys other) ∙ is in
-      let old = was.recorded q id there in
-      let apart : at ≢ id = λ one. other (was.apart q key id there (here ∙ ap (λ (i : ℕ). Some i) one)) in
-      (old.0, no key q None (said q) (λ e. other (sym e)) ∙ old.1, no at id None (held id) apart ∙ old.2, old.3, old.4)
+        let there = sym (other_without q key keys other) ∙ is in
+        let old = was.recorded q id there in
+        let apart : at ≢ id = λ one. other (was.apart q key id there (here ∙ ap (λ (i : ℕ). Some i) one)) in
+        (old.0, no key q None (said q) (λ e. other (sym e)) ∙ old.1, no at id None (held id) apart ∙ old.2, old.3, old.4)
   ];
   apart = λ one other id a b. elim (cases_eq one key) [
     | inl first ↦ absurd (none-some id (sym (gone_without key keys was.once) ∙ ap (λ (k : ℕ). id_at k (without key keys)) (sym first) ∙ a))
@@ -123,11 +123,11 @@ deleted_key n keys said held made key at was here = record {
   gone = λ id is none. elim (cases_eq at id) [
     | inl one ↦ yes at id None (held id) one
     | inr apart ↦
-      no at id None (held id) apart
-      ∙ was.gone id is (λ q there. elim (cases_eq q key) [
-        | inl same ↦ apart (some_same at id (sym here ∙ ap (λ (k : ℕ). id_at k keys) (sym same) ∙ there))
-        | inr other ↦ none q (other_without q key keys other ∙ there)
-      ])
+        no at id None (held id) apart
+        ∙ was.gone id is (λ q there. elim (cases_eq q key) [
+          | inl same ↦ apart (some_same at id (sym here ∙ ap (λ (k : ℕ). id_at k keys) (sym same) ∙ there))
+          | inr other ↦ none q (other_without q key keys other ∙ there)
+        ])
   ];
   below = was.below;
 }
@@ -153,12 +153,12 @@ swept_out id [] held = inr (refl, λ is. is)
 swept_out id (e ∷ es) held = elim (cases_eq e.1 id) [
   | inl here ↦ inl (all_deleted id (e ∷ es) held (inl here))
   | inr apart ↦
-    let same : fold (content_after id) (cond (eqb e.1 id) None held) (deletions es) ≡ fold (content_after id) held (deletions es) =
-    ap (λ (c : Option Content). fold (content_after id) c (deletions es)) (no e.1 id None held apart) in
-    elim (swept_out id es held) [
-      | inl gone ↦ inl (same ∙ gone)
-      | inr stays ↦ inr (same ∙ stays.0, λ is. elim is [ | inl here ↦ apart here | inr there ↦ stays.1 there ])
-    ]
+      let same : fold (content_after id) (cond (eqb e.1 id) None held) (deletions es) ≡ fold (content_after id) held (deletions es) =
+      ap (λ (c : Option Content). fold (content_after id) c (deletions es)) (no e.1 id None held apart) in
+      elim (swept_out id es held) [
+        | inl gone ↦ inl (same ∙ gone)
+        | inr stays ↦ inr (same ∙ stays.0, λ is. elim is [ inl here ↦ apart here | inr there ↦ stays.1 there ])
+      ]
 ]
 
 pub ended_keys : (n : ℕ) (keys : List Held) (said held : ℕ → Option Content) (made : ℕ → Type 0) → Reflects n keys said held made

@@ -2,6 +2,8 @@
 #![tactic(auto)]
 
 #[cfg(test)]
+mod line_tests;
+#[cfg(test)]
 mod listed;
 #[cfg(test)]
 mod sweep_tests;
