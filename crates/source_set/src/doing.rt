@@ -4,7 +4,7 @@ ghost use Rattle.std.specs.Prelude.{◌≡◌, None, Some, true};
 ghost use Rattle.wire_base.specs.Stamp.{IsStamp};
 ghost use Rattle.collector_core.specs.Desks.{alters_not, deletes_not};
 ghost use Rattle.source_set.specs.Deeds.{Alters, Deletes};
-ghost use Rattle.source_set.specs.Doing.{CreatesOne, Once, Performs};
+ghost use Rattle.source_set.specs.Doing.{CreatesOne, Once, Performs, place};
 ghost use Rattle.source_set.specs.Keys.{id_at};
 ghost use Rattle.source_set.specs.declared.told.Told.TheVariants as told;
 
@@ -38,7 +38,8 @@ pub fn perform<D: Desk>(
 ) -> Result<(), Undone>
     requires takes { D.takes desk.old ≡ true }
     requires stamp { IsStamp stamp.now }
-    ensures performed { Performs D.stands D.went stamp.now item.now (record { keys = keys.old; desk = desk.old; swept = swept.old }) (record { keys = keys.new; desk = desk.new; swept = swept.new }) result }
+    ensures performed { Performs D.stands D.went stamp.now item.now
+        (place keys.old desk.old swept.old) (place keys.new desk.new swept.new) result }
     ensures takes { D.takes desk.new ≡ true }
 {
     match item {
@@ -75,7 +76,8 @@ fn add<D: Desk>(
     requires takes { D.takes desk.old ≡ true }
     requires stamp { IsStamp stamp.now }
     requires absent { id_at key keys.old ≡ None }
-    ensures added { Performs D.stands D.went stamp.now (told.Add key content.now) (record { keys = keys.old; desk = desk.old; swept = swept.old }) (record { keys = keys.new; desk = desk.new; swept = swept.new }) result }
+    ensures added { Performs D.stands D.went stamp.now (told.Add key content.now)
+        (place keys.old desk.old swept.old) (place keys.new desk.new swept.new) result }
     ensures takes { D.takes desk.new ≡ true }
 {
     match keys.hold(key) {
@@ -102,7 +104,8 @@ fn create<D: Desk>(
 ) -> Result<u32, BookError>
     requires takes { D.takes desk.old ≡ true }
     requires stamp { IsStamp stamp.now }
-    ensures created { CreatesOne D.stands D.went stamp.now content.now desk.old desk.new swept.old swept.new result }
+    ensures created { CreatesOne D.stands D.went stamp.now content.now
+        desk.old desk.new swept.old swept.new result }
     ensures takes { D.takes desk.new ≡ true }
 {
     match desk.create(stamp, content) {
@@ -124,7 +127,8 @@ fn alter<D: Desk>(
 ) -> Result<(), Undone>
     requires takes { D.takes desk.old ≡ true }
     requires stamp { IsStamp stamp.now }
-    ensures altered { Once D.stands D.went stamp.now (Alters id content.now) (alters_not id content.now) desk.old desk.new swept.old swept.new result }
+    ensures altered { Once D.stands D.went stamp.now (Alters id content.now) (alters_not id content.now)
+        desk.old desk.new swept.old swept.new result }
     ensures takes { D.takes desk.new ≡ true }
 {
     match desk.alter(stamp, id, content) {
@@ -140,7 +144,8 @@ fn alter<D: Desk>(
 fn delete<D: Desk>(desk: &mut D, stamp: &[u8; 20], id: u32, swept: &mut Swept) -> Result<(), Undone>
     requires takes { D.takes desk.old ≡ true }
     requires stamp { IsStamp stamp.now }
-    ensures deleted { Once D.stands D.went stamp.now (Deletes id) (deletes_not id) desk.old desk.new swept.old swept.new result }
+    ensures deleted { Once D.stands D.went stamp.now (Deletes id) (deletes_not id)
+        desk.old desk.new swept.old swept.new result }
     ensures takes { D.takes desk.new ≡ true }
 {
     match desk.delete(stamp, id) {
@@ -164,7 +169,8 @@ fn remove<D: Desk>(
     requires takes { D.takes desk.old ≡ true }
     requires stamp { IsStamp stamp.now }
     requires held { id_at key keys.old ≡ Some id }
-    ensures removed { Performs D.stands D.went stamp.now (told.Gone key) (record { keys = keys.old; desk = desk.old; swept = swept.old }) (record { keys = keys.new; desk = desk.new; swept = swept.new }) result }
+    ensures removed { Performs D.stands D.went stamp.now (told.Gone key)
+        (place keys.old desk.old swept.old) (place keys.new desk.new swept.new) result }
     ensures takes { D.takes desk.new ≡ true }
 {
     match delete(desk, stamp, id, swept) {
@@ -186,7 +192,8 @@ fn remove_all<D: Desk>(
 ) -> Result<(), Undone>
     requires takes { D.takes desk.old ≡ true }
     requires stamp { IsStamp stamp.now }
-    ensures removed { Performs D.stands D.went stamp.now told.Ended (record { keys = keys.old; desk = desk.old; swept = swept.old }) (record { keys = keys.new; desk = desk.new; swept = swept.new }) result }
+    ensures removed { Performs D.stands D.went stamp.now told.Ended
+        (place keys.old desk.old swept.old) (place keys.new desk.new swept.new) result }
     ensures takes { D.takes desk.new ≡ true }
 {
     let Ok(order) = keys.by_id(alloc) else {

@@ -1,5 +1,5 @@
-//! Laws of what items leave of the records of an inventory. Each function does nothing; its clause is
-//! the law.
+//! Laws of what items leave of the records of an inventory. Each function does nothing; its clause
+//! is the law.
 
 ghost use Rattle.source_set.specs.Records.{DeedsAreRecorded, KeysAreRecorded};
 

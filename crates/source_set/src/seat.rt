@@ -46,7 +46,8 @@ pub fn ask<S: TagSource, D: Desk>(
 ) -> Result<(), Stop>
     requires takes { D.takes desk.old ≡ true }
     requires stamp { IsStamp stamp.now }
-    ensures asked { Asks S.reports D.stands D.went stamp.now number (stand seat.old desk.old swept.old) (stand seat.new desk.new swept.new) result }
+    ensures asked { Asks S.reports D.stands D.went stamp.now number
+        (stand seat.old desk.old swept.old) (stand seat.new desk.new swept.new) result }
     ensures cause { HasCauseAt S.faults seat.old.source seat.new.source (asked_failed number result) }
     ensures takes { D.takes desk.new ≡ true }
 {
@@ -74,7 +75,8 @@ fn ask_once<S: TagSource, D: Desk>(
 ) -> Result<bool, Stop>
     requires takes { D.takes desk.old ≡ true }
     requires stamp { IsStamp stamp.now }
-    ensures asked { AsksOnce S.reports D.stands D.went stamp.now number (stand seat.old desk.old swept.old) (stand seat.new desk.new swept.new) result }
+    ensures asked { AsksOnce S.reports D.stands D.went stamp.now number
+        (stand seat.old desk.old swept.old) (stand seat.new desk.new swept.new) result }
     ensures cause { HasCauseAt S.faults seat.old.source seat.new.source (asked_failed number result) }
     ensures takes { D.takes desk.new ≡ true }
 {
@@ -97,7 +99,8 @@ fn hear<S: Drop, D: Desk>(
 ) -> Result<bool, Stop>
     requires takes { D.takes desk.old ≡ true }
     requires stamp { IsStamp stamp.now }
-    ensures heard { Hears D.stands D.went stamp.now told number (stand seat.old desk.old swept.old) (stand seat.new desk.new swept.new) result }
+    ensures heard { Hears D.stands D.went stamp.now told number
+        (stand seat.old desk.old swept.old) (stand seat.new desk.new swept.new) result }
     ensures takes { D.takes desk.new ≡ true }
 {
     match no_item(&told, number) {
@@ -157,7 +160,8 @@ pub fn do_item<S: Drop, D: Desk>(
 ) -> Result<(), Stop>
     requires takes { D.takes desk.old ≡ true }
     requires stamp { IsStamp stamp.now }
-    ensures tried { Tries D.stands D.went stamp.now item number (stand seat.old desk.old swept.old) (stand seat.new desk.new swept.new) result }
+    ensures tried { Tries D.stands D.went stamp.now item number
+        (stand seat.old desk.old swept.old) (stand seat.new desk.new swept.new) result }
     ensures takes { D.takes desk.new ≡ true }
 {
     match perform(alloc, &mut seat.keys, desk, stamp, &item, swept) {

@@ -49,7 +49,8 @@ impl<S: Drop> Model for Sources<S> {
 
     ghost view = { λ set. record { seats = set.seats.items; kept = set.kept; faults = set.faults } };
 
-    ghost invariant = { λ set. (length set.seats.items ≤ 255) × IsSeated (length set.seats.items) set.kept };
+    ghost invariant = { λ set. (length set.seats.items ≤ 255)
+        × IsSeated (length set.seats.items) set.kept };
 }
 
 impl<S: TagSource> Sources<S> {
@@ -74,8 +75,10 @@ impl<S: TagSource> Sources<S> {
     ) -> (Swept, Result<(), SweepError>)
         requires takes { D.takes desk.old ≡ true }
         requires stamp { IsStamp stamp.now }
-        ensures swept { Sweeps S.reports D.stands D.went stamp.now self.old self.new desk.old desk.new result.0 result.1 }
-        ensures causes { HaveCauses S.faults self.old.seats self.new.seats (λ number. is_failed_at number result.1) }
+        ensures swept { Sweeps S.reports D.stands D.went stamp.now
+            self.old self.new desk.old desk.new result.0 result.1 }
+        ensures causes { HaveCauses S.faults self.old.seats self.new.seats
+            (λ number. is_failed_at number result.1) }
         ensures cause { HasCause self.old.faults self.new.faults (sweep_failed result.1) }
         ensures takes { D.takes desk.new ≡ true }
     {
@@ -141,8 +144,10 @@ fn sweep_seats<S: TagSource, D: Desk>(
     requires seated { IsSeated (length seats.old.items) kept }
     requires takes { D.takes desk.old ≡ true }
     requires stamp { IsStamp stamp.now }
-    ensures swept { SweepsSeats S.reports D.stands D.went stamp.now kept (row seats.old.items desk.old swept.old) (row seats.new.items desk.new swept.new) result }
-    ensures causes { HaveCauses S.faults seats.old.items seats.new.items (λ number. stopped_failed number result) }
+    ensures swept { SweepsSeats S.reports D.stands D.went stamp.now kept
+        (row seats.old.items desk.old swept.old) (row seats.new.items desk.new swept.new) result }
+    ensures causes { HaveCauses S.faults seats.old.items seats.new.items
+        (λ number. stopped_failed number result) }
     ensures takes { D.takes desk.new ≡ true }
 {
     match do_kept(alloc, seats, kept, desk, stamp, swept) {
@@ -163,8 +168,10 @@ fn do_kept<S: TagSource, D: Desk>(
     requires seated { IsSeated (length seats.old.items) kept }
     requires takes { D.takes desk.old ≡ true }
     requires stamp { IsStamp stamp.now }
-    ensures done { DoesKept S.reports D.stands D.went stamp.now kept (row seats.old.items desk.old swept.old) (row seats.new.items desk.new swept.new) result }
-    ensures causes { HaveCauses S.faults seats.old.items seats.new.items (λ number. stopped_failed number result) }
+    ensures done { DoesKept S.reports D.stands D.went stamp.now kept
+        (row seats.old.items desk.old swept.old) (row seats.new.items desk.new swept.new) result }
+    ensures causes { HaveCauses S.faults seats.old.items seats.new.items
+        (λ number. stopped_failed number result) }
     ensures takes { D.takes desk.new ≡ true }
 {
     let Some(Kept { source, item }) = kept else {
@@ -188,8 +195,10 @@ fn ask_all<S: TagSource, D: Desk>(
     requires few { length seats.old.items ≤ 255 }
     requires takes { D.takes desk.old ≡ true }
     requires stamp { IsStamp stamp.now }
-    ensures asked { AsksAll S.reports D.stands D.went stamp.now 0 seats.old.items desk.old swept.old seats.new.items desk.new swept.new result }
-    ensures causes { HaveCauses S.faults seats.old.items seats.new.items (λ number. stopped_failed number result) }
+    ensures asked { AsksAll S.reports D.stands D.went stamp.now 0
+        seats.old.items desk.old swept.old seats.new.items desk.new swept.new result }
+    ensures causes { HaveCauses S.faults seats.old.items seats.new.items
+        (λ number. stopped_failed number result) }
     ensures takes { D.takes desk.new ≡ true }
 {
     for place in 0..seats.len() {
