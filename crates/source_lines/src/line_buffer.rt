@@ -44,9 +44,14 @@ impl Model for LineBuffer {
 
     ghost Value = { BufferView };
 
-    ghost view = { λ buffer. record { held = drop buffer.place buffer.octets.items; number = buffer.number; room = vec_capacity buffer.octets - vec_len buffer.octets } };
+    ghost view = { λ buffer. record {
+      held = drop buffer.place buffer.octets.items;
+      number = buffer.number;
+      room = vec_capacity buffer.octets - vec_len buffer.octets;
+    } };
 
-    ghost invariant = { λ buffer. (buffer.place ≤ buffer.searched) × (buffer.searched ≤ length buffer.octets.items)
+    ghost invariant = { λ buffer. (buffer.place ≤ buffer.searched)
+        × (buffer.searched ≤ length buffer.octets.items)
         × (buffer.searched ≤ buffer.place + before_feed (drop buffer.place buffer.octets.items))
         × (buffer.searched ≤ buffer.place + 4194304) };
 }

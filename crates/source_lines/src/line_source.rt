@@ -30,13 +30,18 @@ impl<S: Drop> Model for LineSource<S> {
 
     ghost Value = { LineView S };
 
-    ghost view = { λ source. record { input = source.input; held = source.lines.held; number = source.lines.number } };
+    ghost view = { λ source. record {
+      input = source.input;
+      held = source.lines.held;
+      number = source.lines.number;
+    } };
 }
 
 impl<S: Source + Drop> LineSource<S> {
     /// A source of the lines of `input`, the first of which has the number 1.
     pub fn new(alloc: Global, input: S) -> Result<Self, Memory>
-        ensures made { IfOk result (λ made. made ≡ record { input = input; held = []; number = 1 }) }
+        ensures made { IfOk result (λ made.
+            made ≡ record { input = input; held = []; number = 1 }) }
     {
         Ok(LineSource {
             input,
@@ -46,7 +51,8 @@ impl<S: Source + Drop> LineSource<S> {
 
     /// The next item, or why there is none. Then all items are left.
     fn read_item(&mut self) -> Result<Told, Stopped>
-        ensures item { IfOk result (λ item. (is_failed item ≡ false) × (item ≢ told.Memory) × Gave (WillReport S.left) self.old item self.new) }
+        ensures item { IfOk result (λ item. (is_failed item ≡ false) × (item ≢ told.Memory)
+            × Gave (WillReport S.left) self.old item self.new) }
         ensures unread { IfUnread (WillReport S.left) self.old self.new result }
         ensures cause { HasCause (S.faults self.old.input) (S.faults self.new.input) (is_fault result) }
     {
