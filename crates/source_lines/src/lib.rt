@@ -1,8 +1,8 @@
 //! A source of lines: what is installed, read from an input of lines.
 //!
 //! It stands on `source_set` for sources, on `coswid_codec` and `coswid_tag` for tags, on
-//! `cbor_det` for the words of their clauses, on `swima_model` for contents, on `wire_base`, and on `hex` and
-//! `memchr`.
+//! `cbor_det` for the words of their clauses, on `swima_model` for contents, on `wire_base`, and on
+//! `hex` and `memchr`.
 //!
 //! | file | what it holds |
 //! |---|---|
