@@ -23,7 +23,12 @@ fn an_ended_source_leaves_nothing(rt: HostRuntime) -> Result<(), Memory> {
 #[test]
 fn a_source_goes_on_where_it_was_quiet(rt: HostRuntime) -> Result<(), Memory> {
     let alloc = rt.alloc();
-    let steps = [Step::Add(1, b'a'), Step::Add(1, b'b'), Step::Quiet, Step::Gone(1)];
+    let steps = [
+        Step::Add(1, b'a'),
+        Step::Add(1, b'b'),
+        Step::Quiet,
+        Step::Gone(1),
+    ];
     let mut set = set_of_two(alloc, &[], &steps)?;
     let mut book = empty_book(alloc)?;
     assert!(rt; swept(&mut set, &mut book) == Some((counts(1, 1, 0, 0), Ok(()))));
@@ -53,7 +58,12 @@ fn a_failed_source_stops_the_sweep(rt: HostRuntime) -> Result<(), Memory> {
 #[test]
 fn what_is_no_item_is_not_kept(rt: HostRuntime) -> Result<(), Memory> {
     let alloc = rt.alloc();
-    let steps = [Step::Bad(7), Step::Memory, Step::Change(2, b'a'), Step::Add(2, b'a')];
+    let steps = [
+        Step::Bad(7),
+        Step::Memory,
+        Step::Change(2, b'a'),
+        Step::Add(2, b'a'),
+    ];
     let mut set = set_of(alloc, &steps)?;
     let mut book = empty_book(alloc)?;
     let bad = SweepError::BadLine { source: 0, line: 7 };

@@ -18,11 +18,7 @@ pub(crate) fn set_of(alloc: Global, steps: &[Step]) -> Result<SourceSet, Memory>
 }
 
 /// A set of two sources in boxes.
-pub(crate) fn set_of_two(
-    alloc: Global,
-    one: &[Step],
-    other: &[Step],
-) -> Result<SourceSet, Memory> {
+pub(crate) fn set_of_two(alloc: Global, one: &[Step], other: &[Step]) -> Result<SourceSet, Memory> {
     let mut boxes: Vec<Box<dyn TagSource + Send>> = Vec::new(alloc);
     boxes.push(Box::new(alloc, Listed::new(alloc, one)?)?)?;
     boxes.push(Box::new(alloc, Listed::new(alloc, other)?)?)?;
