@@ -60,6 +60,7 @@ pub trait TagSource: Drop {
         ensures cause { HasCause (faults self.old) (faults self.new) (is_failed result) };
 }
 
+/// A box is a source like the one in it.
 impl TagSource for Box<dyn TagSource + Send> {
     ghost reports = { λ source. (TagSource-box source).reports source.value };
 
