@@ -1,0 +1,4 @@
+pub mod World
+pub mod Lines
+pub mod Standing
+pub mod Tellings
