@@ -26,7 +26,7 @@ pub record BeginsLine (number : ℕ) (octets : List ℕ) (item : Told) (rest : L
   pub says : IsItem number (take (before_feed octets) octets) item
   pub leaves : rest ≡ drop (before_feed octets + 1) octets
 
--- Octets begin with more of them than a line may have. So many are a bad line, and what follows
+-- Octets begin with more of them than a line may have. That many are a bad line, and what follows
 -- begins the next.
 pub record BeginsLong (number : ℕ) (octets : List ℕ) (item : Told) (rest : List ℕ) : Type 0 where
   pub long : MOST_OCTETS < before_feed octets
