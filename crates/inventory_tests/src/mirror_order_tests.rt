@@ -49,23 +49,22 @@ fn mirror(alloc: Global) -> Option<Mirror> {
     Some(mirror)
 }
 
-/// The events of a report, from the event 2 on: what each does to which record, and the octet.
-fn report(alloc: Global, changes: &[(Action, u32, u8)]) -> Option<Report>
+/// An event of a record whose locator is this octet.
+fn event(alloc: Global, eid: u32, action: Action, id: u32, octet: u8) -> Option<Event> {
+    Some(Event {
+        eid,
+        stamp: *b"2026-02-03T04:05:06Z",
+        action,
+        subject: record(alloc, id, octet)?,
+    })
+}
+
+/// A report of these events, which were consulted up to `eid`; `None` where there are more than
+/// 4096.
+fn report_of(events: Events, eid: u32) -> Option<Report>
     ensures few { IfSome result (λ report. report_count report < 2 ^ 32) }
 {
-    let mut events = Events::new(alloc);
-    let mut eid = 1u32;
-    for (action, id, octet) in changes {
-        eid = eid.checked_add(1)?;
-        let changed = Event {
-            eid,
-            stamp: *b"2026-02-03T04:05:06Z",
-            action: *action,
-            subject: record(alloc, *id, *octet)?,
-        };
-        events.push(changed).ok()?;
-    }
-    if events.len() > 100 {
+    if events.len() > 4096 {
         return None;
     }
     Some(Report::Events {
@@ -76,6 +75,19 @@ fn report(alloc: Global, changes: &[(Action, u32, u8)]) -> Option<Report>
         consulted: eid,
         events,
     })
+}
+
+/// The events of a report, from the event 2 on: what each does to which record, and the octet.
+fn report(alloc: Global, changes: &[(Action, u32, u8)]) -> Option<Report>
+    ensures few { IfSome result (λ report. report_count report < 2 ^ 32) }
+{
+    let mut events = Events::new(alloc);
+    let mut eid = 1u32;
+    for (action, id, octet) in changes {
+        eid = eid.checked_add(1)?;
+        events.push(event(alloc, eid, *action, *id, *octet)?).ok()?;
+    }
+    report_of(events, eid)
 }
 
 /// Whether the mirror holds exactly these records, in this order.
@@ -172,4 +184,33 @@ fn a_record_comes_again(rt: HostRuntime) {
     ];
     let wanted = [(10, b'a'), (20, b'b'), (40, b'e')];
     assert!(rt; makes(rt.alloc(), &changes, &wanted) == Some(true));
+}
+
+/// The events 2 to 4097: 4,095 that create records, in falling order of their identifiers, and the
+/// last, which creates record 20 again.
+fn last_contradicts(alloc: Global) -> Option<Report>
+    ensures few { IfSome result (λ report. report_count report < 2 ^ 32) }
+{
+    let mut events = Events::new(alloc);
+    for eid in 2..4097u32 {
+        let id = 5000u32.checked_sub(eid)?;
+        events.push(event(alloc, eid, Creation, id, b'x')?).ok()?;
+    }
+    events.push(event(alloc, 4097, Creation, 20, b'x')?).ok()?;
+    report_of(events, 4097)
+}
+
+/// Whether a report whose last event alone does not fit leaves a mirror as it was, with its mark.
+fn stays_whole(alloc: Global) -> Option<bool> {
+    let mut mirror = mirror(alloc)?;
+    let taken = mirror.take_owned(last_contradicts(alloc)?);
+    let refused = taken == Taken::Contradiction { eid: 4097 };
+    let stays = mirror.point() == Some(Point { epoch: 1, eid: 1 });
+    let held = holds(&mirror, &[(10, b'a'), (20, b'b'), (30, b'c')]);
+    Some(refused & stays & held & mirror.off())
+}
+
+#[test]
+fn a_contradiction_after_4095_events_leaves_all(rt: HostRuntime) {
+    assert!(rt; stays_whole(rt.alloc()) == Some(true));
 }
