@@ -7,7 +7,7 @@ use Rattle.wire_base.specs.declared.outside.files.NamedFile.{NamedFile}
 use Rattle.wire_base.specs.declared.outside.stopped.Stopped.{Stopped}
 use Rattle.swid_cli.specs.declared.command.Command.{Command}
 use Rattle.swid_cli.specs.declared.command.Command.TheVariants.{Mirror, Tag, Links}
-use Rattle.swid_cli.specs.declared.ending.Ending.{Ending}
+use Rattle.command_text.specs.declared.ending.Ending.{Ending}
 use Rattle.swid_cli.specs.Commands.{Says}
 use Rattle.swid_cli.specs.Links.{LIST_OCTETS, LinksTells}
 use Rattle.swid_cli.specs.Run.{status_of}

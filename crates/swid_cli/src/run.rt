@@ -12,10 +12,10 @@ ghost use Rattle.wire_base.specs.Outside.{Adds, Rose};
 ghost use Rattle.wire_base.specs.Passing.{AddsFront};
 
 use crate::command::{Command, command_of};
-use crate::ending::Ending;
 use crate::links::links;
 use crate::mirror::mirror;
 use crate::tag::tag;
+use command_text::Ending;
 use std::alloc::Global;
 use wire_base::{Files, Sink, Source, Stopped, write_all};
 

@@ -1,11 +1,11 @@
-//! The lines that `mirror` prints.
+//! What a mirror answered to a report, and what it holds.
 
 ghost use Rattle.std.specs.Prelude.{◌≡◌, ◌≢◌, ◌∷◌, ◌++◌, [], IfOk, OnOk, string_bytes};
 ghost use Rattle.std.specs.List.{flat_map};
 ghost use Rattle.std.specs.Fmt.{decimal};
 ghost use Rattle.swima_model.specs.declared.report.Kind.TheVariants as kinds;
 ghost use Rattle.validator_core.specs.declared.mirror.Taken.{Taken as TakenValue};
-ghost use Rattle.swid_cli.specs.Text.{body_text, content_words, line, mirror_text, model_text, record_line, skipped_line, took, took_line};
+ghost use Rattle.command_text.specs.Text.{body_text, content_words, line, mirror_text, model_text, record_line, skipped_line, took, took_line};
 
 use crate::refusal_lines::from_string;
 use itoa::Buffer;
@@ -16,7 +16,7 @@ use validator_core::{Mirror, Taken};
 use wire_base::{Memory, Octets, put_escaped};
 
 /// The point of a report, and how many records or events it has.
-pub(crate) fn point_and_count(report: &Report) -> (Point, usize)
+pub fn point_and_count(report: &Report) -> (Point, usize)
     ensures told { (answer : TakenValue) → took result.0 result.1 answer ≡ took_line report.now answer }
 {
     match report {
@@ -27,7 +27,7 @@ pub(crate) fn point_and_count(report: &Report) -> (Point, usize)
 
 /// The line that says what a mirror answered to a report of that many records or events at a point;
 /// `Memory` has none.
-pub(crate) fn took_line(
+pub fn took_line(
     alloc: Global,
     point: Point,
     count: usize,
@@ -71,14 +71,14 @@ fn other_epoch(alloc: Global, have: Option<u32>, got: u32) -> Result<Octets, Mem
 }
 
 /// The line of an attribute that was skipped.
-pub(crate) fn skipped_line(alloc: Global, vendor: u32, attr_type: u32) -> Result<Octets, Memory>
+pub fn skipped_line(alloc: Global, vendor: u32, attr_type: u32) -> Result<Octets, Memory>
     ensures line { IfOk result (λ made. made ≡ skipped_line vendor attr_type) }
 {
     Ok(from_string(format!(in alloc; "skipped {vendor} {attr_type}\n")?))
 }
 
 /// What a mirror holds: its point and how many records, and a line for each record.
-pub(crate) fn mirror_text(alloc: Global, mirror: &Mirror) -> Result<Octets, Memory>
+pub fn mirror_text(alloc: Global, mirror: &Mirror) -> Result<Octets, Memory>
     ensures text { IfOk result (λ made. made ≡ mirror_text mirror.now) }
 {
     let Some(point) = mirror.point() else {

@@ -2,7 +2,7 @@
 
 /// How the output ends.
 #[derive(Clone, Copy, Debug, PartialEq, Eq)]
-pub(crate) enum Ending {
+pub enum Ending {
     /// The input was read to its end.
     Whole,
     /// The input was refused.

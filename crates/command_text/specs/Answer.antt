@@ -1,9 +1,9 @@
 -- What is printed at once of the octets of an input.
 use Rattle.std.specs.Prelude.{ℕ, List, [], ◌∷◌, codes}
-use Rattle.swid_cli.specs.declared.answer.Answer.{Answer}
-use Rattle.swid_cli.specs.declared.ending.Ending.{Ending}
-use Rattle.swid_cli.specs.declared.ending.Ending.TheVariants as ending
-use Rattle.swid_cli.specs.Text.{refusal}
+use Rattle.command_text.specs.declared.answer.Answer.{Answer}
+use Rattle.command_text.specs.declared.ending.Ending.{Ending}
+use Rattle.command_text.specs.declared.ending.Ending.TheVariants as ending
+use Rattle.command_text.specs.Text.{refusal}
 
 -- The text of an input that is refused.
 abbrev pub refusal_answer : List ℕ → Answer

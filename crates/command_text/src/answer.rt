@@ -1,8 +1,8 @@
 //! What is printed at once of the octets of an input.
 
 ghost use Rattle.std.specs.Prelude.{◌≡◌, IfOk};
-ghost use Rattle.swid_cli.specs.Answer.{ending_of, limit_answer, refusal_answer};
-ghost use Rattle.swid_cli.specs.Text.{refusal};
+ghost use Rattle.command_text.specs.Answer.{ending_of, limit_answer, refusal_answer};
+ghost use Rattle.command_text.specs.Text.{refusal};
 
 use crate::ending::Ending;
 use crate::refusal_lines::refusal;
@@ -11,7 +11,7 @@ use wire_base::{Memory, Octets};
 
 /// A text, and how the output ends with it.
 #[derive(Debug, Drop)]
-pub(crate) struct Answer {
+pub struct Answer {
     /// What is printed.
     pub text: Octets,
     /// How it ends.
@@ -19,7 +19,7 @@ pub(crate) struct Answer {
 }
 
 /// The answer to an input that is refused.
-pub(crate) fn refused(text: Octets) -> Answer
+pub fn refused(text: Octets) -> Answer
     ensures refused { result ≡ refusal_answer text }
 {
     Answer {
@@ -30,14 +30,14 @@ pub(crate) fn refused(text: Octets) -> Answer
 
 /// The answer to an input that is longer than it may be, or has more parts: the most that it may
 /// have.
-pub(crate) fn beyond_limit(alloc: Global, most: usize) -> Result<Answer, Memory>
+pub fn beyond_limit(alloc: Global, most: usize) -> Result<Answer, Memory>
     ensures limit { IfOk result (λ made. made ≡ limit_answer most) }
 {
     Ok(refused(refusal(alloc, "limit", most as u64)?))
 }
 
 /// How the text of an input ends in which all this is wrong.
-pub(crate) fn ending_of<T>(wrong: &[T]) -> Ending
+pub fn ending_of<T>(wrong: &[T]) -> Ending
     ensures ending { result ≡ ending_of wrong.now }
 {
     if wrong.is_empty() {

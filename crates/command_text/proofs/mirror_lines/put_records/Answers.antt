@@ -2,10 +2,10 @@
 use Rattle.std.proofs.Common.{◌∙◌, ◌++◌, ap, sym}
 use Rattle.std.specs.Option.{option_copied}
 use Rattle.swima_model.specs.declared.report.Kind.{Kind}
-use Rattle.swid_cli.specs.Text.{record_line}
-use Rattle.swid_cli.proofs.Printed.{line_put, none_put}
-use Rattle.swid_cli.proofs.mirror.lines.put_records.Goals.{in-Some+in_ok-put_record, in_default}
-use Rattle.swid_cli.proofs.mirror.lines.put_records.Goals as goal
+use Rattle.command_text.specs.Text.{record_line}
+use Rattle.command_text.proofs.Printed.{line_put, none_put}
+use Rattle.command_text.proofs.mirror_lines.put_records.Goals.{in-Some+in_ok-put_record, in_default}
+use Rattle.command_text.proofs.mirror_lines.put_records.Goals as goal
 
 pub loop-place-preserved : goal.loop-place-preserved
 loop-place-preserved c =
