@@ -1,12 +1,9 @@
 -- The day of an endpoint that `make` plays, and what it prints. The day is our own.
-use Rattle.std.specs.Prelude.{◌≡◌, ◌==◌, ◌*◌, ◌+◌, ◌/◌, ◌%◌, ◌^◌, ℕ, zero, suc, Bool, true, false, List, [], ◌∷◌, ◌++◌, Option, Some, None, Result, Ok, length, replicate, filter, codes, if◌then◌else◌, pos}
+use Rattle.std.specs.Prelude.{◌≡◌, ◌==◌, ◌+◌, ◌/◌, ◌%◌, ℕ, zero, suc, Bool, true, false, List, [], ◌∷◌, ◌++◌, Option, Some, None, Ok, length, filter, codes, if◌then◌else◌}
 use Rattle.std.specs.Fmt.{decimal}
 use Rattle.hex.specs.Hex.{encode_lower}
 use Rattle.sha2.specs.Sha256.{sha256}
-use Rattle.cbor_det.specs.Canonical.{canon}
-use Rattle.cbor_det.specs.Term.{Pairs, Term, array, integer, map, no_pairs, no_terms, pair, tagged, term, text}
 use Rattle.wire_base.specs.Stamp.{IsStampAt}
-use Rattle.swima_model.specs.declared.record.Content.{Content}
 use Rattle.swima_model.specs.declared.report.Kind.TheVariants.{Full}
 use Rattle.swima_model.specs.declared.report.Point.{Point}
 use Rattle.validator_core.specs.declared.mirror.Taken.{Taken}
@@ -19,64 +16,9 @@ use Rattle.session_world.specs.Lines.{Told, and_on, cuts, enters, opens, round, 
 use Rattle.session_world.specs.World.{World, begun, carried_up, waits_up}
 use Rattle.session_cli.specs.declared.line.Line.{Line}
 use Rattle.session_cli.specs.declared.line.Line.TheVariants as said
+use Rattle.session_cli.specs.Package.{package_content, packages}
 use Rattle.session_cli.specs.Replay.{Changes}
 use Rattle.command_text.specs.Text.{line, mirror_text, refusal}
-
--- ---- packages
-
--- The number after a number of the sequence that says how long summaries are.
-abbrev pub next_number : ℕ → ℕ
-next_number number = (1103515245 * number + 12345) % 2147483648
-
--- The number of a package, in the sequence that begins with the count of packages.
-abbrev pub number_of : ℕ → ℕ → ℕ
-number_of count zero = count
-number_of count (suc place) = next_number (number_of count place)
-
--- How many letters its summary has.
-abbrev pub letters_of : ℕ → ℕ
-letters_of number = 400 + number % 401
-
--- Its name.
-abbrev pub package_name : ℕ → List ℕ
-package_name place = codes "pkg-" ++ decimal place
-
--- The pair of a key that is a number.
-abbrev pub keyed : ℕ → Term → Pairs → Pairs
-keyed key value pairs = pair (integer (pos key)) value pairs
-
--- The entity that made tag and software: entity-name, reg-id and role (RFC 9393, section 2.6).
-abbrev pub maker_item : Term
-maker_item = map (keyed 31 (text (codes "make")) (keyed 32 (tagged 32 (text (codes "example.com"))) (keyed 33 (array (term (integer (pos 1)) (term (integer (pos 2)) no_terms))) no_pairs)))
-
--- A description with a summary of that many letters `a` (section 2.8).
-abbrev pub description_item : ℕ → Term
-description_item letters = map (keyed 55 (text (replicate letters 97)) no_pairs)
-
--- The tag of a package: tag-id, software-name, entity, software-meta, tag-version and
--- software-version (section 2.3).
-abbrev pub package_item : ℕ → ℕ → ℕ → Term
-package_item place version letters =
-    tagged 1398229316 (map (keyed 0 (text (package_name place)) (keyed 1 (text (package_name place)) (keyed 2 maker_item
-    (keyed 5 (description_item letters) (keyed 12 (integer (pos version)) (keyed 13 (text (codes "1")) no_pairs)))))))
-
--- Its record has the software identifier of the tag and the canonical octets.
-abbrev pub content_by : ℕ → ℕ → ℕ → Content
-content_by place version number = record {
-  model = record { pen = 0; kind = 2 };
-  source = 0;
-  ident = codes "example.com__" ++ package_name place;
-  locator = [];
-  body = canon (package_item place version (letters_of number));
-}
-
-abbrev pub package_content : ℕ → ℕ → ℕ → Content
-package_content count place version = content_by place version (number_of count place)
-
--- The contents of that many packages, from this one on.
-abbrev pub packages : ℕ → ℕ → ℕ → List Content
-packages count first zero = []
-packages count first (suc more) = package_content count first 0 ∷ packages count (first + 1) more
 
 -- ---- the day
 

@@ -10,21 +10,23 @@ use Rattle.coswid_tag.specs.declared.tag.Tag.{Tag}
 use Rattle.coswid_tag.specs.declared.value.CodeValue.TheVariants as code
 use Rattle.coswid_tag.specs.declared.value.TagId.TheVariants as identifier
 use Rattle.coswid_tag.specs.Identifier.{identifier_of}
-use Rattle.session_cli.specs.Day.{package_item, package_name}
+use Rattle.session_cli.specs.Package.{package_item, package_name}
 
--- A tag with a name and a version of it, and no more.
-pub record IsBare (name software_name : List ℕ) (version : ℕ) (g : Tag) : Type 0 where
+-- A tag with these fields and no others.
+pub record IsTagOf (name software : List ℕ) (makers : List Entity) (metas : List SoftwareMeta) (release : List ℕ) (version : ℕ) (g : Tag) : Type 0 where
   pub tag_id : g.tag_id ≡ identifier.Text name
-  pub software_name : g.software_name ≡ software_name
-  pub entity : g.entity ≡ []
+  pub software_name : g.software_name ≡ software
+  pub entity : g.entity ≡ makers
   pub evidence : g.evidence ≡ None
   pub link : g.link ≡ None
+  pub software_meta : g.software_meta ≡ Some metas
   pub payload : g.payload ≡ None
   pub corpus : g.corpus ≡ None
   pub patch : g.patch ≡ None
   pub media : g.media ≡ None
   pub supplemental : g.supplemental ≡ None
   pub tag_version : g.tag_version ≡ pos version
+  pub software_version : g.software_version ≡ Some release
   pub version_scheme : g.version_scheme ≡ None
   pub lang : g.lang ≡ None
   pub extras : pairs_view g.extras ≡ no_pairs
@@ -37,10 +39,13 @@ pub record IsMaker (e : Entity) : Type 0 where
   pub thumbprint : e.thumbprint ≡ None
   pub extras : pairs_view e.extras ≡ no_pairs
 
--- One description, whose summary is that many letters.
-pub record IsDescribed (letters : ℕ) (metas : List SoftwareMeta) : Type 0 where
-  pub meta : SoftwareMeta
-  pub one : metas ≡ meta ∷ []
+pub record AreMakers (makers : List Entity) : Type 0 where
+  pub maker : Entity
+  pub one : makers ≡ maker ∷ []
+  pub is : IsMaker maker
+
+-- A description with this summary and no other field.
+pub record IsDescription (text : List ℕ) (meta : SoftwareMeta) : Type 0 where
   pub activation_status : meta.activation_status ≡ None
   pub channel_type : meta.channel_type ≡ None
   pub colloquial_version : meta.colloquial_version ≡ None
@@ -53,10 +58,16 @@ pub record IsDescribed (letters : ℕ) (metas : List SoftwareMeta) : Type 0 wher
   pub product : meta.product ≡ None
   pub product_family : meta.product_family ≡ None
   pub revision : meta.revision ≡ None
-  pub summary : meta.summary ≡ Some (replicate letters 97)
+  pub summary : meta.summary ≡ Some text
   pub unspsc_code : meta.unspsc_code ≡ None
   pub unspsc_version : meta.unspsc_version ≡ None
   pub extras : pairs_view meta.extras ≡ no_pairs
+
+-- One description, whose summary is that many letters.
+pub record AreDescribed (letters : ℕ) (metas : List SoftwareMeta) : Type 0 where
+  pub meta : SoftwareMeta
+  pub one : metas ≡ meta ∷ []
+  pub is : IsDescription (replicate letters 97) meta
 
 -- The tag of a package: how it is written, and its software identifier.
 pub record IsPackage (place version letters : ℕ) (g : Tag) : Type 0 where

@@ -163,7 +163,7 @@ PlaysFirst Next number goes_on p octets (Some parts) answer = (said : Option Lin
 
 -- What is printed of octets that begin with the line of this number, of which there may be that
 -- many.
-abbrev pub Plays : ℕ → ℕ → Bool → Playing → List ℕ → Answer → Type 0
+unfoldable pub Plays : ℕ → ℕ → Bool → Playing → List ℕ → Answer → Type 0
 Plays zero number goes_on p octets answer = answer ≡ past_lines number goes_on octets
 Plays (suc left) number goes_on p octets answer = PlaysFirst (Plays left (number + 1) goes_on) number goes_on p octets (split_once 10 octets) answer
 

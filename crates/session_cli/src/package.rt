@@ -5,8 +5,8 @@ ghost use Rattle.cbor_det.specs.Term.{depth};
 ghost use Rattle.coswid_codec.specs.Items.{entity_pairs, meta_pairs, tag_item};
 ghost use Rattle.coswid_codec.specs.SizesFit.{SizesFit};
 ghost use Rattle.coswid_tag.specs.Identifier.{identifier_of};
-ghost use Rattle.session_cli.specs.Day.{content_by, letters_of, next_number, number_of, package_item, package_name};
-ghost use Rattle.session_cli.specs.Packages.{IsBare, IsMaker, IsDescribed, IsPackage};
+ghost use Rattle.session_cli.specs.Package.{content_by, letters_of, next_number, number_of, package_item, package_name};
+ghost use Rattle.session_cli.specs.Packages.{AreDescribed, AreMakers, IsDescription, IsMaker, IsPackage, IsTagOf};
 
 use cbor_det::Pairs;
 use coswid_codec::write_tag;
@@ -67,11 +67,18 @@ fn package_tag(alloc: Global, place: u32, version: u32, number: u32) -> Result<T
 {
     let name = package_name(alloc, place)?;
     let software_name = package_name(alloc, place)?;
-    let mut tag = empty_tag(alloc, name, software_name, version);
-    tag.entity.push(maker(alloc)?)?;
-    tag.software_meta = Some(described(alloc, 400 + number % 401)?);
-    tag.software_version = Some(Text::new(alloc, "1")?);
-    Ok(tag)
+    let makers = makers(alloc)?;
+    let metas = described(alloc, 400 + number % 401)?;
+    let release = Text::new(alloc, "1")?;
+    Ok(tag_of(
+        alloc,
+        name,
+        software_name,
+        makers,
+        metas,
+        release,
+        version,
+    ))
 }
 
 fn package_name(alloc: Global, place: u32) -> Result<Text, Memory>
@@ -80,28 +87,45 @@ fn package_name(alloc: Global, place: u32) -> Result<Text, Memory>
     Ok(Text::from_string(format!(in alloc; "pkg-{place}")?))
 }
 
-/// A tag with a name and no more.
-fn empty_tag(alloc: Global, name: Text, software_name: Text, version: u32) -> Tag
-    ensures bare { IsBare name software_name version result }
+/// A tag with these fields and no others.
+fn tag_of(
+    alloc: Global,
+    name: Text,
+    software_name: Text,
+    entity: Entities,
+    metas: SoftwareMetas,
+    release: Text,
+    version: u32,
+) -> Tag
+    ensures fields { IsTagOf name software_name entity metas release version result }
 {
     Tag {
         tag_id: TagId::Text(name),
         software_name,
-        entity: List::new(alloc),
+        entity,
         evidence: None,
         link: None,
-        software_meta: None,
+        software_meta: Some(metas),
         payload: None,
         corpus: None,
         patch: None,
         media: None,
         supplemental: None,
         tag_version: i64::from(version),
-        software_version: None,
+        software_version: Some(release),
         version_scheme: None,
         lang: None,
         extras: Pairs::new(alloc),
     }
+}
+
+/// The one entity that made tag and software.
+fn makers(alloc: Global) -> Result<Entities, Memory>
+    ensures makers { IfOk result AreMakers }
+{
+    let mut makers = List::new(alloc);
+    makers.push(maker(alloc)?)?;
+    Ok(makers)
 }
 
 /// The entity that made tag and software.
@@ -122,16 +146,18 @@ fn maker(alloc: Global) -> Result<Entity, Memory>
 
 /// A description whose summary is that many letters.
 fn described(alloc: Global, letters: u32) -> Result<SoftwareMetas, Memory>
-    ensures described { IfOk result (λ made. IsDescribed letters made) }
+    ensures described { IfOk result (λ made. AreDescribed letters made) }
 {
     let mut metas = List::new(alloc);
-    let mut meta = no_description(alloc);
-    meta.summary = Some(letters_text(alloc, letters)?);
-    metas.push(meta)?;
+    let summary = letters_text(alloc, letters)?;
+    metas.push(description_of(alloc, summary))?;
     Ok(metas)
 }
 
-fn no_description(alloc: Global) -> SoftwareMeta {
+/// A description with this summary and no other field.
+fn description_of(alloc: Global, summary: Text) -> SoftwareMeta
+    ensures fields { IsDescription summary result }
+{
     SoftwareMeta {
         activation_status: None,
         channel_type: None,
@@ -145,7 +171,7 @@ fn no_description(alloc: Global) -> SoftwareMeta {
         product: None,
         product_family: None,
         revision: None,
-        summary: None,
+        summary: Some(summary),
         unspsc_code: None,
         unspsc_version: None,
         extras: Pairs::new(alloc),
