@@ -48,10 +48,10 @@ pub(crate) fn header(alloc: Global, words: &str) -> Option<String> {
         noskip,
         vendor,
         kind,
-        octets,
+        length,
     } = read_header(octets.as_slice());
     let flag = if noskip { "noskip" } else { "-" };
-    format!(in alloc; "{flag} {vendor} {kind} {octets}").ok()
+    format!(in alloc; "{flag} {vendor} {kind} {length}").ok()
 }
 
 /// What a feed answers to octets in pieces of the size.

@@ -93,19 +93,19 @@ below_last value last within differs = let not-same = eqb-false value last diffe
 pub record Makes (h : Header) (octets : List ℕ) : Type 0 where
   pub is-for : header_for (attr_of h octets) ≡ h
   pub named : IsNamed (attr_of h octets)
-  pub form : IsAttr (attr_of h octets) (take h.octets octets)
+  pub form : IsAttr (attr_of h octets) (take h.length octets)
 
-pub good_makes : (most : ℕ) (octets : List ℕ) (h : Header) → AreOctets octets → h.octets ≤ length octets → IsGood most octets h → Makes h octets
+pub good_makes : (most : ℕ) (octets : List ℕ) (h : Header) → AreOctets octets → h.length ≤ length octets → IsGood most octets h → Makes h octets
 good_makes most octets h are enough good =
     let least = good.least in
     let f = header_form octets are (omega (arith, enough)) in
     let form : Form (header_fields h) f.0 = subst (λ (x : Header). Form (header_fields x) f.0) good.is f.3 in
-    let len : ℕ = h.octets - 12 in
+    let len : ℕ = h.length - 12 in
     let value : List ℕ = take len (drop 12 octets) in
-    let count : 12 + length value ≡ h.octets = omega (arith, length-take len (drop 12 octets), length-drop 12 octets) in
-    let is-for : header_for (attr_of h octets) ≡ h = ap (λ (n : ℕ). record { noskip = h.noskip; vendor = h.vendor; kind = h.kind; octets = n }) count in
-    let sum : h.octets ≡ length f.0 + len = omega (arith, f.2) in
-    let parts : take h.octets octets ≡ f.0 ++ value = ap (λ (n : ℕ). take n octets) sum ∙ ap (λ (o : List ℕ). take (length f.0 + len) o) f.1 ∙ take-append-add f.0 (drop 12 octets) len in
+    let count : 12 + length value ≡ h.length = omega (arith, length-take len (drop 12 octets), length-drop 12 octets) in
+    let is-for : header_for (attr_of h octets) ≡ h = ap (λ (n : ℕ). record { noskip = h.noskip; vendor = h.vendor; kind = h.kind; length = n }) count in
+    let sum : h.length ≡ length f.0 + len = omega (arith, f.2) in
+    let parts : take h.length octets ≡ f.0 ++ value = ap (λ (n : ℕ). take n octets) sum ∙ ap (λ (o : List ℕ). take (length f.0 + len) o) f.1 ∙ take-append-add f.0 (drop 12 octets) len in
     let vendor = form.4.3.0 in
     let kind = form.4.4.3.0 in
     record {
@@ -137,7 +137,7 @@ whole_first octets attr len are e =
     let good = stream_good octets w.h w.good in
     let m = good_makes MOST_OCTETS octets w.h are (omega (arith, w.within, w.len-is)) good in
     let all : length (take len octets) ≡ len = omega (arith, length-take len octets, w.within) in
-    let taken : take w.h.octets octets ≡ take len octets = ap (λ (n : ℕ). take n octets) w.len-is in
+    let taken : take w.h.length octets ≡ take len octets = ap (λ (n : ℕ). take n octets) w.len-is in
     let form : IsAttr attr (take len octets) = subst (λ (a : Attr). IsAttr a (take len octets)) w.attr-is (subst (λ (o : List ℕ). IsAttr (attr_of w.h octets) o) taken m.form) in (
       take len octets,
       drop len octets,

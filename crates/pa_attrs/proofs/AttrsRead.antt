@@ -34,10 +34,10 @@ one_within : (supported : List ℕ) (room at : ℕ) (octets : List ℕ) (h : Hea
     → AreWithin room (at + length octets) (attributes supported room at octets).0
 one_within supported room at octets h after is =
     let m = message_good supported room octets h is in
-    let others : Walked = attributes supported (room - 1) (at + h.octets) (drop h.octets octets) in
-    let w = after (at + h.octets) (drop h.octets octets) in
-    let end : at + h.octets + length (drop h.octets octets) ≡ at + length octets = omega (arith, length-drop h.octets octets, m.good.within) in
-    let value : at + 12 + length (take (h.octets - 12) (drop 12 octets)) ≤ at + length octets = omega (arith, length-take (h.octets - 12) (drop 12 octets), m.good.least, m.good.within) in
+    let others : Walked = attributes supported (room - 1) (at + h.length) (drop h.length octets) in
+    let w = after (at + h.length) (drop h.length octets) in
+    let end : at + h.length + length (drop h.length octets) ≡ at + length octets = omega (arith, length-drop h.length octets, m.good.within) in
+    let value : at + 12 + length (take (h.length - 12) (drop 12 octets)) ≤ at + length octets = omega (arith, length-take (h.length - 12) (drop 12 octets), m.good.least, m.good.within) in
     let all : AreWithin room (at + length octets) (placed at h octets ∷ others.0) = record { few = omega (arith, w.few, m.room-left); within = (value, subst (λ (n : ℕ). LieWithin n others.0) end w.within) } in
     subst (λ (x : Walked). AreWithin room (at + length octets) x.0) (sym (walk_more supported room at octets h is)) all
 

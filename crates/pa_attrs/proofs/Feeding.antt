@@ -94,28 +94,28 @@ module _ (header value piece next : List ℕ) (begun first : ℕ) (size : length
 
     -- The header has no fault.
     module _ (torn : front_of (take begun header ++ value) ≡ More) (said : Header) (is : stream_header next ≡ Ok said) where
-      pub least : 12 ≤ said.octets
+      pub least : 12 ≤ said.length
       least = (stream_good next said is).least
 
-      pub most : said.octets ≤ 16777216
+      pub most : said.length ≤ 16777216
       most = (stream_good next said is).within
 
       -- What was held is shorter than the attribute.
-      pub held_less : begun + length value < said.octets
+      pub held_less : begun + length value < said.length
       held_less =
           elim (cases_lt begun 12) [
             | inl short ↦ omega (arith, least, ap (λ (o : List ℕ). length o) (in-order short))
             | inr full ↦
-                let whole : said.octets ≤ length (next ++ value) → ⊥ = λ enough-there.
+                let whole : said.length ≤ length (next ++ value) → ⊥ = λ enough-there.
                 not_whole_and_more _ _ _ (front_whole (next ++ value) said (omega (arith, length-append next value)) (stream_front next value (omega arith) ∙ is) enough-there) (sym (ap front_of (held_before full)) ∙ torn) in
-                elim (cases_lt (length (next ++ value)) said.octets) [
+                elim (cases_lt (length (next ++ value)) said.length) [
                   | inl less ↦ omega (arith, less, length-append next value)
                   | inr enough-there ↦ absurd (whole enough-there)
                 ]
           ]
 
       -- So is the value that was held.
-      pub value_less : length value ≤ said.octets - 12
+      pub value_less : length value ≤ said.length - 12
       value_less =
           elim (cases_lt begun 12) [
             | inl short ↦ omega (arith, ap (λ (o : List ℕ). length o) (in-order short))
@@ -123,42 +123,42 @@ module _ (header value piece next : List ℕ) (begun first : ℕ) (size : length
           ]
 
       -- A header and a value that are shorter than the attribute are within the most octets.
-      pub still_within : (after : List ℕ) → 12 + length after < said.octets → length (take 12 next ++ after) ≤ 16777216
+      pub still_within : (after : List ℕ) → 12 + length after < said.length → length (take 12 next ++ after) ≤ 16777216
       still_within after short = omega (arith, short, most, length-append (take 12 next) after, length-take 12 next)
 
       -- Octets of the rest of the piece went to the value.
-      module _ (after : List ℕ) (more : ℕ) (taken : more ≡ min (said.octets - 12 - length value) (length (drop first piece))) (after-is : after ≡ value ++ take more (drop first piece)) where
+      module _ (after : List ℕ) (more : ℕ) (taken : more ≡ min (said.length - 12 - length value) (length (drop first piece))) (after-is : after ≡ value ++ take more (drop first piece)) where
         length-after : length after ≡ length value + more
         length-after = omega (arith, ap (λ (o : List ℕ). length o) after-is, length-append value (take more (drop first piece)), length-take more (drop first piece))
 
         said-in : stream_header (next ++ (value ++ drop first piece)) ≡ Ok said
         said-in = stream_front next (value ++ drop first piece) (omega arith) ∙ is
 
-        pub still_more : 12 + length after < said.octets
+        pub still_more : 12 + length after < said.length
             → (front_of ((take begun header ++ value) ++ piece) ≡ More) × (take 12 next ++ after ≡ (take begun header ++ value) ++ piece)
         still_more short =
             let count : more ≡ length (drop first piece) = omega (arith, length-after, held_less) in
             let all : after ≡ value ++ drop first piece = after-is ∙ ap (λ (o : List ℕ). value ++ o) (take_all more (drop first piece) (omega arith)) in
-            let few : length (next ++ (value ++ drop first piece)) < said.octets = omega (arith, length-append next (value ++ drop first piece), ap (λ (o : List ℕ). length o) all) in (
+            let few : length (next ++ (value ++ drop first piece)) < said.length = omega (arith, length-append next (value ++ drop first piece), ap (λ (o : List ℕ). length o) all) in (
               ap front_of in_all ∙ front_more (next ++ (value ++ drop first piece)) said header-in said-in few,
               ap (λ (o : List ℕ). o ++ after) (take_all 12 next (omega arith)) ∙ ap (λ (o : List ℕ). next ++ o) all ∙ sym in_all,
             )
 
-        pub is_whole : said.octets ≤ 12 + length after
+        pub is_whole : said.length ≤ 12 + length after
             → (front_of ((take begun header ++ value) ++ piece) ≡ Whole (record { noskip = said.noskip; vendor = said.vendor; kind = said.kind; value = after }) (length (take begun header ++ value) + (first + more)))
             × (0 < first + more) × (first + more ≤ length piece)
         is_whole enough-there =
             let all : List ℕ = next ++ (value ++ drop first piece) in
-            let len : ℕ = said.octets - 12 in
-            let sum : said.octets ≡ 12 + (length value + more) = omega (arith, taken, length-after, value_less, least) in
+            let len : ℕ = said.length - 12 in
+            let sum : said.length ≡ 12 + (length value + more) = omega (arith, taken, length-after, value_less, least) in
             let len-is : len ≡ length value + more = omega arith in
             let rest-length : length (drop first piece) ≡ length piece - first = length-drop first piece in
-            let there : said.octets ≤ length all = omega (arith, length-append next (value ++ drop first piece), length-append value (drop first piece), taken, sum) in
+            let there : said.length ≤ length all = omega (arith, length-append next (value ++ drop first piece), length-append value (drop first piece), taken, sum) in
             let value-is : take len (drop 12 all) ≡ after =
             ap (λ (o : List ℕ). take len o) (drop_at next (value ++ drop first piece) 12 long) ∙ ap (λ (n : ℕ). take n (value ++ drop first piece)) len-is ∙ take-append-add value (drop first piece) more ∙ sym after-is in
-            let octets-are : said.octets ≡ length (take begun header ++ value) + (first + more) = omega (arith, length-held, sum, least, enough) in (
+            let octets-are : said.length ≡ length (take begun header ++ value) + (first + more) = omega (arith, length-held, sum, least, enough) in (
               ap front_of in_all ∙ front_whole all said header-in said-in there
-                  ∙ ap (λ (o : List ℕ). Whole (record { noskip = said.noskip; vendor = said.vendor; kind = said.kind; value = o }) said.octets) value-is
+                  ∙ ap (λ (o : List ℕ). Whole (record { noskip = said.noskip; vendor = said.vendor; kind = said.kind; value = o }) said.length) value-is
                   ∙ ap (λ (n : ℕ). Whole (record { noskip = said.noskip; vendor = said.vendor; kind = said.kind; value = after }) n) octets-are,
               omega (arith, held_less, sum, enough),
               omega (arith, taken, used, rest-length),

@@ -29,7 +29,7 @@ header_there octets long =
     (then_value 1 0 0 octets _ (get_or octets 0 0) (omega arith) (one_octet octets 0 (omega arith))
     ∙ then_placed 3 1 0 octets _ (header_of octets).vendor (omega arith) refl
     ∙ then_placed 4 4 0 octets _ (header_of octets).kind (omega arith) refl
-    ∙ then_placed 4 8 0 octets _ (header_of octets).octets long refl)
+    ∙ then_placed 4 8 0 octets _ (header_of octets).length long refl)
 
 -- The first 12 octets have the header of all.
 header_first : (octets : List ℕ) → 12 ≤ length octets → header_of (take 12 octets) ≡ header_of octets

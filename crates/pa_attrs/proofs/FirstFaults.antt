@@ -72,12 +72,12 @@ ok_row supported room octets e = ap (λ (row : Option AttrFault). unless row (he
 behind_none : (attrs : List PlacedAttr) (at : ℕ) (octets : List ℕ) (place : ℕ) (left : List ℕ) → StandBefore attrs at octets place left → at ≤ place
 behind_none [] at octets place left is = omega (arith, is.0)
 behind_none (attr ∷ attrs) at octets place left is =
-    let others = behind_none attrs (at + (header_of octets).octets) (drop (header_of octets).octets octets) place left is.3 in
+    let others = behind_none attrs (at + (header_of octets).length) (drop (header_of octets).length octets) place left is.3 in
     omega (arith, others)
 
 behind_one : (attr : PlacedAttr) (attrs : List PlacedAttr) (at : ℕ) (octets : List ℕ) (place : ℕ) (left : List ℕ) → StandBefore (attr ∷ attrs) at octets place left → at + HEADER ≤ place
 behind_one attr attrs at octets place left is =
-    let others = behind_none attrs (at + (header_of octets).octets) (drop (header_of octets).octets octets) place left is.3 in
+    let others = behind_none attrs (at + (header_of octets).length) (drop (header_of octets).length octets) place left is.3 in
     omega (arith, others, is.0)
 
 -- Room for one attribute less.
@@ -135,21 +135,21 @@ stops_here supported room at octets shown some e = record {
 
 -- An attribute without a fault, and a fault after it.
 lowest_behind : (supported : List ℕ) (room at : ℕ) (octets : List ℕ) (h : Header) (others : List PlacedAttr) (broken : Broken) → message_header supported room octets ≡ Ok h → header_of octets ≡ h
-    → IsFirstFault supported (room - 1) (at + h.octets) (drop h.octets octets) others broken → (attrs : List PlacedAttr) (place : ℕ) (left : List ℕ) → StandBefore attrs at octets place left → 0 < length left
+    → IsFirstFault supported (room - 1) (at + h.length) (drop h.length octets) others broken → (attrs : List PlacedAttr) (place : ℕ) (left : List ℕ) → StandBefore attrs at octets place left → 0 < length left
     → AreNotBelow (broken.at + broken.fault.at) place (rows_behind supported room attrs left)
 lowest_behind supported room at octets h others broken e header-is first [] place left is some =
     let none : first_shown (rows_behind supported room [] octets) ≡ None = ap first_shown (sym (room_same supported room octets)) ∙ row_ok supported room octets h e in
     let here = none_shows (broken.at + broken.fault.at) place (rows_behind supported room [] octets) none in
     subst (λ (o : List ℕ). AreNotBelow (broken.at + broken.fault.at) place (rows_behind supported room [] o)) (sym is.1) here
 lowest_behind supported room at octets h others broken e header-is first (attr ∷ attrs) place left is some =
-    let behind = subst (λ (x : Header). StandBefore attrs (at + x.octets) (drop x.octets octets) place left) header-is is.3 in
+    let behind = subst (λ (x : Header). StandBefore attrs (at + x.length) (drop x.length octets) place left) header-is is.3 in
     subst (λ (rows : List Row). AreNotBelow (broken.at + broken.fault.at) place rows) (room_less supported room attr attrs left) (first.lowest attrs place left behind some)
 
 goes_on : (supported : List ℕ) (room at : ℕ) (octets : List ℕ) (h : Header) (others : List PlacedAttr) (broken : Broken) → message_header supported room octets ≡ Ok h
-    → IsFirstFault supported (room - 1) (at + h.octets) (drop h.octets octets) others broken → IsFirstFault supported room at octets (placed at h octets ∷ others) broken
+    → IsFirstFault supported (room - 1) (at + h.length) (drop h.length octets) others broken → IsFirstFault supported room at octets (placed at h octets ∷ others) broken
 goes_on supported room at octets h others broken e first =
     let m = message_good supported room octets h e in
-    let Stands : Header → Type 0 = λ x. (HEADER ≤ x.octets) × (x.octets ≤ length octets) × (placed at h octets ≡ placed at x octets) × StandBefore others (at + x.octets) (drop x.octets octets) broken.at broken.octets in
+    let Stands : Header → Type 0 = λ x. (HEADER ≤ x.length) × (x.length ≤ length octets) × (placed at h octets ≡ placed at x octets) × StandBefore others (at + x.length) (drop x.length octets) broken.at broken.octets in
     record {
       behind = subst Stands (sym m.good.is) (m.good.least, m.good.within, refl, first.behind);
       some = first.some;
@@ -171,11 +171,11 @@ first_by supported room at octets before broken (Err shown) behind is e =
     same_broken : (a b : Broken) → Some a ≡ Some b → a ≡ b
     same_broken a b e = cc
 first_by supported room at octets before broken (Ok h) behind is e =
-    let others : Walked = attributes supported (room - 1) (at + h.octets) (drop h.octets octets) in
+    let others : Walked = attributes supported (room - 1) (at + h.length) (drop h.length octets) in
     let joined : in_front (placed at h octets) others ≡ (before, Some broken) = sym (walk_more supported room at octets h is) ∙ e in
     let all : placed at h octets ∷ others.0 ≡ before = ap (λ (w : Walked). w.0) joined in
     let fault : others.1 ≡ Some broken = ap (λ (w : Walked). w.1) joined in
-    let first = behind others.0 (placed at h octets) (sym all) (room - 1) (at + h.octets) (drop h.octets octets) (ap (λ (b : Option Broken). (others.0, b)) fault) in
+    let first = behind others.0 (placed at h octets) (sym all) (room - 1) (at + h.length) (drop h.length octets) (ap (λ (b : Option Broken). (others.0, b)) fault) in
     subst (λ (l : List PlacedAttr). IsFirstFault supported room at octets l broken) all (goes_on supported room at octets h others.0 broken is first)
 
 -- A fault that the reading finds is the first.
@@ -212,14 +212,14 @@ first_back supported (attr ∷ before) broken room at octets first =
     let low = first.lowest [] at octets (refl, refl) (omega (arith, least, within)) in
     let none = none_below (broken.at + broken.fault.at) at (rows_behind supported room [] octets) (omega (arith, far-off)) (small supported (room - 0) octets h) low in
     let is = ok_row supported room octets (ap first_shown (room_same supported room octets) ∙ none) in
-    let others : IsFirstFault supported (room - 1) (at + h.octets) (drop h.octets octets) before broken = record {
+    let others : IsFirstFault supported (room - 1) (at + h.length) (drop h.length octets) before broken = record {
       behind = first.behind.3;
       some = first.some;
       row = ap first_shown (room_less supported room attr before broken.octets) ∙ first.row;
       lowest = λ attrs place left stand some. subst (λ (rows : List Row). AreNotBelow (broken.at + broken.fault.at) place rows) (sym (room_less supported room attr attrs left))
           (first.lowest (placed at h octets ∷ attrs) place left (least, within, refl, stand) some);
     } in
-    walk_more supported room at octets h is ∙ ap (λ (w : Walked). in_front (placed at h octets) w) (first_back supported before broken (room - 1) (at + h.octets) (drop h.octets octets) others)
+    walk_more supported room at octets h is ∙ ap (λ (w : Walked). in_front (placed at h octets) w) (first_back supported before broken (room - 1) (at + h.length) (drop h.length octets) others)
     ∙ ap (λ (p : PlacedAttr). (p ∷ before, Some broken)) (sym first.behind.2)
 
 -- ---- a message

@@ -25,11 +25,11 @@ pub front_bad : (octets : List ℕ) (fault : AttrFault) → HEADER ≤ length oc
 unfolding front_of
 front_bad octets fault long is = laws.torn_front stream octets fault long is
 
-pub front_more : (octets : List ℕ) (h : Header) → HEADER ≤ length octets → stream_header octets ≡ Ok h → length octets < h.octets → front_of octets ≡ More
+pub front_more : (octets : List ℕ) (h : Header) → HEADER ≤ length octets → stream_header octets ≡ Ok h → length octets < h.length → front_of octets ≡ More
 unfolding front_of
 front_more octets h long is short = laws.waiting_front stream octets h long is short
 
-pub front_whole : (octets : List ℕ) (h : Header) → HEADER ≤ length octets → stream_header octets ≡ Ok h → h.octets ≤ length octets → front_of octets ≡ Whole (attr_of h octets) h.octets
+pub front_whole : (octets : List ℕ) (h : Header) → HEADER ≤ length octets → stream_header octets ≡ Ok h → h.length ≤ length octets → front_of octets ≡ Whole (attr_of h octets) h.length
 unfolding front_of
 front_whole octets h long is enough = laws.full_front stream octets h long is enough
 
@@ -60,14 +60,14 @@ pub record IsWhole (octets : List ℕ) (attr : Attr) (len : ℕ) : Type 0 where
   pub most : len ≤ MOST_OCTETS
   pub within : len ≤ length octets
   pub attr-is : attr_of h octets ≡ attr
-  pub len-is : h.octets ≡ len
+  pub len-is : h.length ≡ len
 
 whole_by : (octets : List ℕ) (attr : Attr) (len : ℕ) → Seen stream octets (front_of octets) → front_of octets ≡ Whole attr len → IsWhole octets attr len
 whole_by octets attr len (Short short is) e = absurd cc
 whole_by octets attr len (Torn fault long err is) e = absurd cc
 whole_by octets attr len (Waits h long ok short is) e = absurd cc
 whole_by octets attr len (Full h long ok all is) e =
-    let w = laws.valued_whole h.octets (Ok (attr_of h octets)) attr len (sym is ∙ e) in
+    let w = laws.valued_whole h.length (Ok (attr_of h octets)) attr len (sym is ∙ e) in
     let g = stream_good octets h ok in
     let same : Ok (attr_of h octets) ≡ Ok attr = w.1 in
     record { h = h; good = ok; least = omega (arith, g.least, w.0); most = omega (arith, g.within, w.0); within = omega (arith, all, w.0); attr-is = cc; len-is = w.0 }
@@ -75,14 +75,14 @@ whole_by octets attr len (Full h long ok all is) e =
 pub whole_is : (octets : List ℕ) (attr : Attr) (len : ℕ) → front_of octets ≡ Whole attr len → IsWhole octets attr len
 whole_is octets attr len e = whole_by octets attr len (seen octets) e
 
-more_by : (octets : List ℕ) → Seen stream octets (front_of octets) → front_of octets ≡ More → (length octets < HEADER) ⊎ ((h : Header) × (HEADER ≤ length octets) × (stream_header octets ≡ Ok h) × (length octets < h.octets))
+more_by : (octets : List ℕ) → Seen stream octets (front_of octets) → front_of octets ≡ More → (length octets < HEADER) ⊎ ((h : Header) × (HEADER ≤ length octets) × (stream_header octets ≡ Ok h) × (length octets < h.length))
 more_by octets (Short short is) e = inl short
 more_by octets (Torn fault long err is) e = absurd cc
 more_by octets (Waits h long ok short is) e = inr (h, long, ok, short)
 more_by octets (Full h long ok all is) e = absurd cc
 
 -- What may become anything is shorter than a header, or than its header says.
-pub more_is : (octets : List ℕ) → front_of octets ≡ More → (length octets < HEADER) ⊎ ((h : Header) × (HEADER ≤ length octets) × (stream_header octets ≡ Ok h) × (length octets < h.octets))
+pub more_is : (octets : List ℕ) → front_of octets ≡ More → (length octets < HEADER) ⊎ ((h : Header) × (HEADER ≤ length octets) × (stream_header octets ≡ Ok h) × (length octets < h.length))
 more_is octets e = more_by octets (seen octets) e
 
 -- ---- with other octets after them
@@ -96,11 +96,11 @@ pub whole_within : (octets : List ℕ) (attr : Attr) (len : ℕ) → front_of oc
 whole_within octets attr len e = let w = whole_is octets attr len e in (w.least, w.most, w.within)
 
 -- The value of an attribute is the same.
-attr_front : (octets rest : List ℕ) (h : Header) → HEADER ≤ h.octets → h.octets ≤ length octets → attr_of h (octets ++ rest) ≡ attr_of h octets
+attr_front : (octets rest : List ℕ) (h : Header) → HEADER ≤ h.length → h.length ≤ length octets → attr_of h (octets ++ rest) ≡ attr_of h octets
 attr_front octets rest h least enough =
     let behind = drop-append-le 12 octets rest (omega arith) in
-    let value : take (h.octets - 12) (drop 12 (octets ++ rest)) ≡ take (h.octets - 12) (drop 12 octets) =
-    ap (λ (o : List ℕ). take (h.octets - 12) o) behind ∙ take-append-le (h.octets - 12) (drop 12 octets) rest (omega (arith, length-drop 12 octets)) in
+    let value : take (h.length - 12) (drop 12 (octets ++ rest)) ≡ take (h.length - 12) (drop 12 octets) =
+    ap (λ (o : List ℕ). take (h.length - 12) o) behind ∙ take-append-le (h.length - 12) (drop 12 octets) rest (omega (arith, length-drop 12 octets)) in
     ap (λ (o : List ℕ). record { noskip = h.noskip; vendor = h.vendor; kind = h.kind; value = o }) value
 
 lasting : laws.IsLasting stream
@@ -129,6 +129,6 @@ whole_less octets rest attr len e enough =
     let long : HEADER ≤ length octets = omega arith in
     let good : stream_header octets ≡ Ok w.h = sym (stream_front octets rest long) ∙ w.good in
     let g = stream_good octets w.h good in
-    let within : w.h.octets ≤ length octets = omega (arith, w.len-is) in
+    let within : w.h.length ≤ length octets = omega (arith, w.len-is) in
     front_whole octets w.h long good within
-    ∙ ap (λ (a : Attr). Whole a w.h.octets) (sym (attr_front octets rest w.h g.least within) ∙ w.attr-is) ∙ ap (λ (n : ℕ). Whole attr n) w.len-is
+    ∙ ap (λ (a : Attr). Whole a w.h.length) (sym (attr_front octets rest w.h g.least within) ∙ w.attr-is) ∙ ap (λ (n : ℕ). Whole attr n) w.len-is

@@ -55,26 +55,26 @@ header_block = do
   vendor ← number 3
   kind ← number 4
   octets ← number 4
-  done (record { noskip = is_set flags NOSKIP; vendor = vendor; kind = kind; octets = octets })
+  done (record { noskip = is_set flags NOSKIP; vendor = vendor; kind = kind; length = octets })
 
-header_is : (h : Header) → h ≡ record { noskip = h.noskip; vendor = h.vendor; kind = h.kind; octets = h.octets }
+header_is : (h : Header) → h ≡ record { noskip = h.noskip; vendor = h.vendor; kind = h.kind; length = h.length }
 header_is h = refl
 
 header_exact : Exact header_block (λ h. h) header_fields (λ h. Unit {0}) Anything
 unfolding header_block
 header_exact = then_flags λ flags. then_number λ vendor. then_number λ kind. then_number λ octets.
-    gives (record { noskip = is_set flags NOSKIP; vendor = vendor; kind = kind; octets = octets }) refl (assumption refl) (λ h k. cc (header_is h))
+    gives (record { noskip = is_set flags NOSKIP; vendor = vendor; kind = kind; length = octets }) refl (assumption refl) (λ h k. cc (header_is h))
 
 -- Octets that are enough have it.
 header_there : (all : List ℕ) → HEADER ≤ length all → header_block (record { at = 0; octets = all }) ≡ Ok (header_of all, record { at = 12; octets = drop 12 all })
 unfolding header_block
 header_there all long =
     let flags : number_of (take 1 all) ≡ slice_index all 0 = first_is all (omega arith) in
-    next_there (λ flags. number 3 >>= λ vendor. number 4 >>= λ kind. number 4 >>= λ octets. done (record { noskip = is_set flags NOSKIP; vendor = vendor; kind = kind; octets = octets })) 1 0 0 all (omega arith)
-    ∙ next_there (λ vendor. number 4 >>= λ kind. number 4 >>= λ octets. done (record { noskip = is_set (number_of (take 1 all)) NOSKIP; vendor = vendor; kind = kind; octets = octets })) 3 1 1 all (omega arith)
-    ∙ next_there (λ kind. number 4 >>= λ octets. done (record { noskip = is_set (number_of (take 1 all)) NOSKIP; vendor = number_of (slice_range all 1 4); kind = kind; octets = octets })) 4 4 4 all (omega arith)
-    ∙ next_there (λ octets. done (record { noskip = is_set (number_of (take 1 all)) NOSKIP; vendor = number_of (slice_range all 1 4); kind = number_of (slice_range all 4 8); octets = octets })) 4 8 8 all (omega arith)
-    ∙ ap (λ (n : ℕ). Ok (record { noskip = is_set n NOSKIP; vendor = number_of (slice_range all 1 4); kind = number_of (slice_range all 4 8); octets = number_of (slice_range all 8 12) }, record { at = 12; octets = drop 12 all })) flags
+    next_there (λ flags. number 3 >>= λ vendor. number 4 >>= λ kind. number 4 >>= λ octets. done (record { noskip = is_set flags NOSKIP; vendor = vendor; kind = kind; length = octets })) 1 0 0 all (omega arith)
+    ∙ next_there (λ vendor. number 4 >>= λ kind. number 4 >>= λ octets. done (record { noskip = is_set (number_of (take 1 all)) NOSKIP; vendor = vendor; kind = kind; length = octets })) 3 1 1 all (omega arith)
+    ∙ next_there (λ kind. number 4 >>= λ octets. done (record { noskip = is_set (number_of (take 1 all)) NOSKIP; vendor = number_of (slice_range all 1 4); kind = kind; length = octets })) 4 4 4 all (omega arith)
+    ∙ next_there (λ octets. done (record { noskip = is_set (number_of (take 1 all)) NOSKIP; vendor = number_of (slice_range all 1 4); kind = number_of (slice_range all 4 8); length = octets })) 4 8 8 all (omega arith)
+    ∙ ap (λ (n : ℕ). Ok (record { noskip = is_set n NOSKIP; vendor = number_of (slice_range all 1 4); kind = number_of (slice_range all 4 8); length = number_of (slice_range all 8 12) }, record { at = 12; octets = drop 12 all })) flags
 
 -- So they begin with its layout.
 pub header_form : (all : List ℕ) → AreOctets all → HEADER ≤ length all → (front : List ℕ) × (all ≡ front ++ drop 12 all) × (length front ≡ 12) × Form (header_fields (header_of all)) front
@@ -101,7 +101,7 @@ header_length h front (flags, a, parts-a, is-flags, (vendor, b, parts-b, is-vend
       ap (λ (o : List ℕ). length o) parts-d,
       length-append len d,
       ap (λ (o : List ℕ). length o) is-len.1,
-      length-octets_of 4 h.octets,
+      length-octets_of 4 h.length,
       ap (λ (o : List ℕ). length o) none,
     )
 

@@ -45,20 +45,20 @@ pub record IsGood (most : ℕ) (octets : List ℕ) (h : Header) : Type 0 where
   pub is : header_of octets ≡ h
   pub vendor : eqb h.vendor NO_VENDOR ≡ false
   pub kind : eqb h.kind NO_TYPE ≡ false
-  pub least : HEADER ≤ h.octets
-  pub within : h.octets ≤ most
+  pub least : HEADER ≤ h.length
+  pub within : h.length ≤ most
 
 good_by : (most : ℕ) (octets : List ℕ) (x h : Header) → header_of octets ≡ x → unless (first_shown (header_rows most x)) x ≡ Ok h → IsGood most octets h
 good_by most octets x h of e =
-    let p = passes (x.vendor == NO_VENDOR) (x.kind == NO_TYPE) (nat_lt x.octets HEADER || nat_lt most x.octets) x h e in
-    let n = neither (nat_lt x.octets HEADER) (nat_lt most x.octets) p.2 in
+    let p = passes (x.vendor == NO_VENDOR) (x.kind == NO_TYPE) (nat_lt x.length HEADER || nat_lt most x.length) x h e in
+    let n = neither (nat_lt x.length HEADER) (nat_lt most x.length) p.2 in
     let is : x ≡ h = p.3 in
     record {
       is = of ∙ is;
       vendor = subst (λ (y : Header). eqb y.vendor NO_VENDOR ≡ false) is p.0;
       kind = subst (λ (y : Header). eqb y.kind NO_TYPE ≡ false) is p.1;
-      least = subst (λ (y : Header). HEADER ≤ y.octets) is (ltb-false x.octets HEADER n.0);
-      within = subst (λ (y : Header). y.octets ≤ most) is (ltb-false most x.octets n.1);
+      least = subst (λ (y : Header). HEADER ≤ y.length) is (ltb-false x.length HEADER n.0);
+      within = subst (λ (y : Header). y.length ≤ most) is (ltb-false most x.length n.1);
     }
 
 pub unless_good : (most : ℕ) (octets : List ℕ) (h : Header) → unless (first_shown (header_rows most (header_of octets))) (header_of octets) ≡ Ok h → IsGood most octets h

@@ -67,12 +67,12 @@ walk_back supported (attr ∷ attrs) room at octets form named passed count =
     let len = attr_length attr s.0 is in
     let h : Header = header_for attr in
     let passes = header_passes supported room attr s.0 s.1 (omega arith) is named.0 passed.0 in
-    let behind : drop h.octets (s.0 ++ s.1) ≡ s.1 = drop_at s.0 s.1 h.octets len in
-    let others = walk_back supported attrs (room - 1) (at + h.octets) s.1 s.4 named.1 passed.1 (omega arith) in
+    let behind : drop h.length (s.0 ++ s.1) ≡ s.1 = drop_at s.0 s.1 h.length len in
+    let others = walk_back supported attrs (room - 1) (at + h.length) s.1 s.4 named.1 passed.1 (omega arith) in
     ap (λ (o : List ℕ). attributes supported room at o) s.2 ∙ walk_more supported room at (s.0 ++ s.1) h passes
-    ∙ ap (λ (o : List ℕ). in_front (placed at h (s.0 ++ s.1)) (attributes supported (room - 1) (at + h.octets) o)) behind
+    ∙ ap (λ (o : List ℕ). in_front (placed at h (s.0 ++ s.1)) (attributes supported (room - 1) (at + h.length) o)) behind
     ∙ ap (λ (w : Walked). in_front (placed at h (s.0 ++ s.1)) w) others
-    ∙ ap (λ (a : Attr). (record { at = at + 12; attr = a } ∷ places (at + h.octets) attrs, None)) (attr_there attr s.0 s.1 is)
+    ∙ ap (λ (a : Attr). (record { at = at + 12; attr = a } ∷ places (at + h.length) attrs, None)) (attr_there attr s.0 s.1 is)
 
 -- Attributes that are read are in their layout.
 record IsWalk (supported : List ℕ) (room at : ℕ) (octets : List ℕ) (all : List PlacedAttr) : Type 0 where
@@ -85,16 +85,16 @@ record IsWalk (supported : List ℕ) (room at : ℕ) (octets : List ℕ) (all : 
 
 -- What one attribute more adds.
 walk_one : (supported : List ℕ) (room at : ℕ) (octets : List ℕ) (h : Header) (others : List PlacedAttr) → AreOctets octets → message_header supported room octets ≡ Ok h
-    → IsWalk supported (room - 1) (at + h.octets) (drop h.octets octets) others → IsWalk supported room at octets (placed at h octets ∷ others)
+    → IsWalk supported (room - 1) (at + h.length) (drop h.length octets) others → IsWalk supported room at octets (placed at h octets ∷ others)
 walk_one supported room at octets h others are is w =
     let m = message_good supported room octets h is in
     let k = good_makes (length octets) octets h are m.good.within m.good in
     let attr : Attr = attr_of h octets in
-    let len : HEADER + length attr.value ≡ h.octets = ap (λ (x : Header). x.octets) k.is-for in
-    let joined = Form-append (attr_fields attr) (flat_map attr_fields w.attrs) (take h.octets octets) (drop h.octets octets) (attr_joined attr (take h.octets octets) k.form) w.form in
+    let len : HEADER + length attr.value ≡ h.length = ap (λ (x : Header). x.length) k.is-for in
+    let joined = Form-append (attr_fields attr) (flat_map attr_fields w.attrs) (take h.length octets) (drop h.length octets) (attr_joined attr (take h.length octets) k.form) w.form in
     record {
       attrs = attr ∷ w.attrs;
-      form = subst (λ (o : List ℕ). Form (flat_map attr_fields (attr ∷ w.attrs)) o) (take-append-drop h.octets octets) joined;
+      form = subst (λ (o : List ℕ). Form (flat_map attr_fields (attr ∷ w.attrs)) o) (take-append-drop h.length octets) joined;
       named = (k.named, w.named);
       passed = (subst (λ (x : Header). is_refused supported x ≡ false) (sym k.is-for) m.not-refused, w.passed);
       count = omega (arith, w.count, m.room-left);
@@ -115,12 +115,12 @@ walk_by supported room at octets all (Err fault) behind are some is e =
     never broken e = cc
 walk_by supported room at octets all (Ok h) behind are some is e =
     let m = message_good supported room octets h is in
-    let others : Walked = attributes supported (room - 1) (at + h.octets) (drop h.octets octets) in
+    let others : Walked = attributes supported (room - 1) (at + h.length) (drop h.length octets) in
     let joined : in_front (placed at h octets) others ≡ (all, None) = sym (walk_more supported room at octets h is) ∙ e in
     let none : others.1 ≡ None = ap (λ (w : Walked). w.1) joined in
     let all-are : placed at h octets ∷ others.0 ≡ all = ap (λ (w : Walked). w.0) joined in
-    let are-behind = AreOctets-rest octets (take h.octets octets) (drop h.octets octets) (sym (take-append-drop h.octets octets)) are in
-    let w = behind m.room-left (at + h.octets) (drop h.octets octets) others.0 are-behind (ap (λ (b : Option Broken). (others.0, b)) none) in
+    let are-behind = AreOctets-rest octets (take h.length octets) (drop h.length octets) (sym (take-append-drop h.length octets)) are in
+    let w = behind m.room-left (at + h.length) (drop h.length octets) others.0 are-behind (ap (λ (b : Option Broken). (others.0, b)) none) in
     subst (λ (l : List PlacedAttr). IsWalk supported room at octets l) all-are (walk_one supported room at octets h others.0 are is w)
 
 -- The same of no octets, and of others.

@@ -69,7 +69,7 @@ attr_code false false false false false false shown is = absurd cc
 
 rows_code : (supported : List ℕ) (room : ℕ) (octets : List ℕ) (h : Header) (shown : AttrFault) → first_shown (message_rows supported room octets h) ≡ Some shown → IsCode shown.code
 rows_code supported room octets h shown is =
-    attr_code (room == 0) (nat_lt (length octets) HEADER) (is_refused supported h) (h.vendor == NO_VENDOR) (h.kind == NO_TYPE) (nat_lt h.octets HEADER || nat_lt (length octets) h.octets) shown is
+    attr_code (room == 0) (nat_lt (length octets) HEADER) (is_refused supported h) (h.vendor == NO_VENDOR) (h.kind == NO_TYPE) (nat_lt h.length HEADER || nat_lt (length octets) h.length) shown is
 
 reported_as : (octets : List ℕ) (answer : Bool) (broken : Broken) (fault : PaFault) → fault ≡ fault_of octets answer broken → IsCode broken.fault.code → IsReported fault
 reported_as octets answer broken fault is code =

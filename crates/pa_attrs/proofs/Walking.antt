@@ -55,7 +55,7 @@ pub fault_place : (supported : List ℕ) (room : ℕ) (octets : List ℕ) (shown
 unfolding message_header
 fault_place supported room octets shown is =
     let h : Header = header_of octets in
-    place_by (room == 0) (nat_lt (length octets) HEADER) (is_refused supported h) (h.vendor == NO_VENDOR) (h.kind == NO_TYPE) (nat_lt h.octets HEADER || nat_lt (length octets) h.octets) h shown is
+    place_by (room == 0) (nat_lt (length octets) HEADER) (is_refused supported h) (h.vendor == NO_VENDOR) (h.kind == NO_TYPE) (nat_lt h.length HEADER || nat_lt (length octets) h.length) h shown is
 
 -- ---- one attribute, and those after it
 
@@ -86,7 +86,7 @@ walk_stops supported (suc room) at octets shown some is =
 
 -- An attribute, and those after it.
 pub walk_more : (supported : List ℕ) (room at : ℕ) (octets : List ℕ) (h : Header) → message_header supported room octets ≡ Ok h
-    → attributes supported room at octets ≡ in_front (placed at h octets) (attributes supported (room - 1) (at + h.octets) (drop h.octets octets))
+    → attributes supported room at octets ≡ in_front (placed at h octets) (attributes supported (room - 1) (at + h.length) (drop h.length octets))
 unfolding attributes
 walk_more supported zero at octets h is = let m = message_good supported 0 octets h is in absurd (omega (arith, m.room-left))
 walk_more supported (suc room) at octets h is =
@@ -95,7 +95,7 @@ walk_more supported (suc room) at octets h is =
     let less : suc room - 1 ≡ room = omega arith in
     ap (λ (b : Bool). cond b ([], None) (and_others others at octets (message_header supported (suc room) octets))) (some_octets octets (omega (arith, m.long)))
     ∙ ap (λ (r : Result Header AttrFault). and_others others at octets r) is
-    ∙ ap (λ (n : ℕ). in_front (placed at h octets) (attributes supported n (at + h.octets) (drop h.octets octets))) (sym less)
+    ∙ ap (λ (n : ℕ). in_front (placed at h octets) (attributes supported n (at + h.length) (drop h.length octets))) (sym less)
 
 -- ---- a loop over them
 
@@ -126,10 +126,10 @@ told_more seen attr = ap (λ (b : Bool). not b) (list_any-append is_error seen (
 
 pub went_on : (supported : List ℕ) (total : Walked) (room at : ℕ) (rest : List ℕ) (attrs after : List PlacedAttr) (answer answer-after : Bool) (h : Header)
     → message_header supported room rest ≡ Ok h → after ≡ attrs ++ filter (supports supported) (placed at h rest ∷ []) → answer-after ≡ (answer && not (is_error (placed at h rest)))
-    → Walks supported total room at rest attrs answer → Walks supported total (room - 1) (at + h.octets) (drop h.octets rest) after answer-after
+    → Walks supported total room at rest attrs answer → Walks supported total (room - 1) (at + h.length) (drop h.length rest) after answer-after
 went_on supported total room at rest attrs after answer answer-after h is keeps tells w =
     let attr : PlacedAttr = placed at h rest in
-    let others : Walked = attributes supported (room - 1) (at + h.octets) (drop h.octets rest) in
+    let others : Walked = attributes supported (room - 1) (at + h.length) (drop h.length rest) in
     record {
       seen = w.seen ++ attr ∷ [];
       kept-so = keeps ∙ ap (λ (l : List PlacedAttr). l ++ filter (supports supported) (attr ∷ [])) w.kept-so ∙ sym (filter-append (supports supported) w.seen (attr ∷ []));

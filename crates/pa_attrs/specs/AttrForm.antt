@@ -11,12 +11,12 @@ header_fields h =
     Flags ((NOSKIP, h.noskip) ∷ [])  -- Flags
     ∷ Number 3 h.vendor  -- PA-TNC Attribute Vendor ID
     ∷ Number 4 h.kind  -- PA-TNC Attribute Type
-    ∷ Number 4 h.octets  -- PA-TNC Attribute Length
+    ∷ Number 4 h.length  -- PA-TNC Attribute Length
     ∷ []
 
 -- The header of an attribute: the length counts the octets of the header too.
 abbrev pub header_for : Attr → Header
-header_for attr = record { noskip = attr.noskip; vendor = attr.vendor; kind = attr.kind; octets = HEADER + length attr.value }
+header_for attr = record { noskip = attr.noskip; vendor = attr.vendor; kind = attr.kind; length = HEADER + length attr.value }
 
 -- An attribute.
 abbrev pub attr_fields : Attr → List Field

@@ -27,7 +27,7 @@ abbrev pub header_rows : ℕ → Header → List Row
 header_rows most h =
     row (h.vendor == NO_VENDOR) INVALID_PARAMETER 1
     ∷ row (h.kind == NO_TYPE) INVALID_PARAMETER 4
-    ∷ row (nat_lt h.octets HEADER || nat_lt most h.octets) INVALID_PARAMETER 8
+    ∷ row (nat_lt h.length HEADER || nat_lt most h.length) INVALID_PARAMETER 8
     ∷ []
 
 -- Attributes of the type are supported, by a list of types of vendor 0.

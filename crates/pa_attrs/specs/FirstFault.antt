@@ -16,10 +16,10 @@ use Rattle.pa_attrs.specs.MessageReading.{Broken, fault_of, is_answered, placed,
 abbrev pub StandBefore : List PlacedAttr → ℕ → List ℕ → ℕ → List ℕ → Type 0
 StandBefore [] at octets place left = (place ≡ at) × (left ≡ octets)
 StandBefore (attr ∷ attrs) at octets place left =
-    (HEADER ≤ (header_of octets).octets)
-    × ((header_of octets).octets ≤ length octets)
+    (HEADER ≤ (header_of octets).length)
+    × ((header_of octets).length ≤ length octets)
     × (attr ≡ placed at (header_of octets) octets)
-    × StandBefore attrs (at + (header_of octets).octets) (drop (header_of octets).octets octets) place left
+    × StandBefore attrs (at + (header_of octets).length) (drop (header_of octets).length octets) place left
 
 -- The rows on the attribute that begins with the octets that are left, after these others, where
 -- that many have room.

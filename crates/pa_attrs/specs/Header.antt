@@ -16,12 +16,12 @@ header_of octets = record {
   noskip = is_set (slice_index octets 0) NOSKIP;
   vendor = number_of (slice_range octets 1 4);
   kind = number_of (slice_range octets 4 8);
-  octets = number_of (slice_range octets 8 12);
+  length = number_of (slice_range octets 8 12);
 }
 
 -- The attribute with the header that stands first in the octets.
 abbrev pub attr_of : Header → List ℕ → Attr
-attr_of h octets = record { noskip = h.noskip; vendor = h.vendor; kind = h.kind; value = take (h.octets - HEADER) (drop HEADER octets) }
+attr_of h octets = record { noskip = h.noskip; vendor = h.vendor; kind = h.kind; value = take (h.length - HEADER) (drop HEADER octets) }
 
 -- ---- fields as they are read
 
@@ -40,11 +40,11 @@ read_header_fields = do
   vendor ← placed (number 3)
   kind ← placed (number 4)
   count ← placed (number 4)
-  done (record { noskip = is_set flags NOSKIP; vendor = vendor; kind = kind; octets = count })
+  done (record { noskip = is_set flags NOSKIP; vendor = vendor; kind = kind; length = count })
 
 -- What they say.
 abbrev pub header_said : HeaderFields → Header
-header_said fields = record { noskip = fields.noskip; vendor = fields.vendor.value; kind = fields.kind.value; octets = fields.octets.value }
+header_said fields = record { noskip = fields.noskip; vendor = fields.vendor.value; kind = fields.kind.value; length = fields.length.value }
 
 -- The fields that say a header.
 abbrev pub placed_header : Header → HeaderFields
@@ -52,5 +52,5 @@ placed_header h = record {
   noskip = h.noskip;
   vendor = record { at = 1; value = h.vendor };
   kind = record { at = 4; value = h.kind };
-  octets = record { at = 8; value = h.octets };
+  length = record { at = 8; value = h.length };
 }

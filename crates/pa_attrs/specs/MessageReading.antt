@@ -38,7 +38,7 @@ placed at h octets = record { at = at + HEADER; attr = attr_of h octets }
 
 -- An attribute and those after it, or its fault.
 abbrev pub and_others : (ℕ → List ℕ → Walked) → ℕ → List ℕ → Result Header AttrFault → Walked
-and_others others at octets (Ok h) = in_front (placed at h octets) (others (at + h.octets) (drop h.octets octets))
+and_others others at octets (Ok h) = in_front (placed at h octets) (others (at + h.length) (drop h.length octets))
 and_others others at octets (Err fault) = ([], Some (record { at = at; octets = octets; fault = fault }))
 
 -- The attributes of octets that begin at `at`, where that many have room; there are none in no

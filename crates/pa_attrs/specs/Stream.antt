@@ -18,7 +18,7 @@ pub use Rattle.wire_base.specs.Feeding.{More, Bad, Whole, fresh}
 
 -- Attributes of a stream. A fault shows in the header alone.
 abbrev pub stream : Headed Header Attr AttrFault
-stream = record { size = HEADER; header = stream_header; len = λ h. h.octets; value = λ h octets. Ok (attr_of h octets) }
+stream = record { size = HEADER; header = stream_header; len = λ h. h.length; value = λ h octets. Ok (attr_of h octets) }
 
 -- A whole attribute with its octets, a fault, or what may become either.
 abbrev pub Front : Type 0

@@ -18,7 +18,7 @@ pub struct Header {
     /// The type.
     pub kind: u32,
     /// The octets of the attribute, with the 12 of its header.
-    pub octets: u32,
+    pub length: u32,
 }
 
 /// The fields of a header (RFC 5792, section 4.1), with their places from its first octet.
@@ -27,7 +27,7 @@ pub(crate) struct HeaderFields {
     pub(crate) noskip: bool,
     pub(crate) vendor: Placed<u32>,
     pub(crate) kind: Placed<u32>,
-    pub(crate) octets: Placed<u32>,
+    pub(crate) length: Placed<u32>,
 }
 
 impl HeaderFields {
@@ -39,7 +39,7 @@ impl HeaderFields {
             noskip: self.noskip,
             vendor: self.vendor.value,
             kind: self.kind.value,
-            octets: self.octets.value,
+            length: self.length.value,
         }
     }
 }
@@ -75,7 +75,7 @@ fn fields(mut cursor: Cursor) -> Result<HeaderFields, FieldRefused>
         at: cursor.place(),
         value: cursor.u32()?,
     };
-    let octets = Placed {
+    let length = Placed {
         at: cursor.place(),
         value: cursor.u32()?,
     };
@@ -83,6 +83,6 @@ fn fields(mut cursor: Cursor) -> Result<HeaderFields, FieldRefused>
         noskip: flags & NOSKIP != 0,
         vendor,
         kind,
-        octets,
+        length,
     })
 }

@@ -70,9 +70,9 @@ fn header_fault(fields: &HeaderFields, most: u32) -> Option<AttrFault>
     if fields.kind.value == NO_TYPE {
         return Some(invalid(fields.kind.at));
     }
-    let octets = fields.octets.value;
-    if octets < HEADER_OCTETS as u32 || most < octets {
-        return Some(invalid(fields.octets.at));
+    let length = fields.length.value;
+    if length < HEADER_OCTETS as u32 || most < length {
+        return Some(invalid(fields.length.at));
     }
     None
 }

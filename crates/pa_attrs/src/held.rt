@@ -76,10 +76,10 @@ impl Held {
         let (_, rest) = piece.split_at(first);
         match stream_header(&header) {
             Ok(said) => {
-                let more = take_value(&mut self.value, rest, said.octets as usize - HEADER_OCTETS)?;
+                let more = take_value(&mut self.value, rest, said.length as usize - HEADER_OCTETS)?;
                 self.header = header;
                 self.begun = HEADER_OCTETS;
-                if HEADER_OCTETS + self.value.len() < said.octets as usize {
+                if HEADER_OCTETS + self.value.len() < said.length as usize {
                     return Ok(None);
                 }
                 Ok(Some((self.give(said), first + more)))

@@ -114,9 +114,9 @@ fn attributes(
         };
         keep(alloc, supported, header, rest, at, &mut attrs)?;
         answer = is_still_answered(answer, header);
-        let (_, behind) = rest.split_at(header.octets as usize);
+        let (_, behind) = rest.split_at(header.length as usize);
         rest = behind;
-        at += header.octets;
+        at += header.length;
         room -= 1;
     }
     Ok(attrs)
@@ -132,15 +132,15 @@ fn keep(
     at: u32,
     attrs: &mut PlacedAttrs,
 ) -> Result<(), Memory>
-    requires least { HEADER ≤ header.octets }
-    requires within { header.octets ≤ length octets.now }
+    requires least { HEADER ≤ header.length }
+    requires within { header.length ≤ length octets.now }
     requires places { at + HEADER < 2 ^ 32 }
     ensures appended { OnOk result (attrs.new ≡ attrs.old ++ filter (supports supported.now) (placed at header octets.now ∷ [])) }
 {
     if !is_supported(supported, header.vendor, header.kind) {
         return Ok(());
     }
-    let value = List::from_slice(alloc, &octets[HEADER_OCTETS..header.octets as usize])?;
+    let value = List::from_slice(alloc, &octets[HEADER_OCTETS..header.length as usize])?;
     let attr = Attr {
         noskip: header.noskip,
         vendor: header.vendor,

@@ -78,13 +78,13 @@ number_kind Close = refl
 from_start : (octets : List ℕ) (n : ℕ) → slice_range octets 0 n ≡ take n octets
 from_start octets n = let all : n - 0 ≡ n = omega arith in ap (λ (k : ℕ). take k octets) all
 
-form_of : (s : Bool) (octets : List ℕ) (b : Batch) (n : ℕ) (h : Header) → AreOctets octets → 8 ≤ length octets → header_of s octets ≡ Ok h → h.octets ≤ length octets
-    → WholeOf s h (messages_of 64 8 (slice_range octets 8 h.octets)) b n → Begins s octets b n
+form_of : (s : Bool) (octets : List ℕ) (b : Batch) (n : ℕ) (h : Header) → AreOctets octets → 8 ≤ length octets → header_of s octets ≡ Ok h → h.length ≤ length octets
+    → WholeOf s h (messages_of 64 8 (slice_range octets 8 h.length)) b n → Begins s octets b n
 form_of s octets b n h are long ok all w =
     let o = unless_ok (first_shown (header_rows s octets)) (header_in octets) h ok in
     let none = none_show (header_rows s octets) o.0 in
     let lengths = or_parts (ltb (batch_length octets) 8) (ltb 16777216 (batch_length octets)) none.1.1.1.0 in
-    let count : batch_length octets ≡ n = ap (λ (x : Header). x.octets) o.1 ∙ w.octets in
+    let count : batch_length octets ≡ n = ap (λ (x : Header). x.length) o.1 ∙ w.octets in
     let least : 8 ≤ n = omega (arith, ltb-false (batch_length octets) 8 lengths.0, count) in
     let most : n ≤ 16777216 = omega (arith, ltb-false 16777216 (batch_length octets) lengths.1, count) in
     let within : n ≤ length octets = omega (arith, all, w.octets) in
@@ -124,7 +124,7 @@ whole_forth_by : (s : Bool) (octets : List ℕ) (b : Batch) (n : ℕ) → AreOct
 whole_forth_by s octets b n are (Short short is) e = absurd cc
 whole_forth_by s octets b n are (Torn f long err is) e = absurd cc
 whole_forth_by s octets b n are (Waits h long ok short is) e = absurd cc
-whole_forth_by s octets b n are (Full h long ok all is) e = form_of s octets b n h are long ok all (whole_of s h (messages_of 64 8 (slice_range octets 8 h.octets)) b n (sym is ∙ e))
+whole_forth_by s octets b n are (Full h long ok all is) e = form_of s octets b n h are long ok all (whole_of s h (messages_of 64 8 (slice_range octets 8 h.length)) b n (sym is ∙ e))
 
 pub whole_forth : (s : Bool) (octets : List ℕ) (b : Batch) (n : ℕ) → AreOctets octets → front_of s octets ≡ Whole b n → Begins s octets b n
 whole_forth s octets b n are e = whole_forth_by s octets b n are (seen s octets) e
@@ -188,13 +188,13 @@ whole_back b octets more form =
     ) in
     let h : Header = header_in all in
     let ok : header_of b.from_server all ≡ Ok h = ap (λ (o : Option PbFault). unless o h) none in
-    let count : h.octets ≡ length octets = says.count ∙ sym size in
-    let rest : slice_range all 8 h.octets ≡ form.rest = ap (λ (k : ℕ). slice_range all 8 k) count ∙ ap (λ (k : ℕ). slice_range all k (length octets)) (sym says.eight) ∙ p.body_there in
-    let read : messages_of 64 8 (slice_range all 8 h.octets) ≡ Ok b.messages = ap (λ (o : List ℕ). messages_of 64 8 o) rest ∙ messages_back b.messages 64 8 form.rest form.messages form.few in
+    let count : h.length ≡ length octets = says.count ∙ sym size in
+    let rest : slice_range all 8 h.length ≡ form.rest = ap (λ (k : ℕ). slice_range all 8 k) count ∙ ap (λ (k : ℕ). slice_range all k (length octets)) (sym says.eight) ∙ p.body_there in
+    let read : messages_of 64 8 (slice_range all 8 h.length) ≡ Ok b.messages = ap (λ (o : List ℕ). messages_of 64 8 o) rest ∙ messages_back b.messages 64 8 form.rest form.messages form.few in
     let kind : h.kind ≡ b.kind = ap (λ (o : Option BatchKind). unwrap_or o Close) kind_here in
     front_full b.from_server all h (omega (arith, says.eight, there)) ok (omega (arith, count, p.there))
     ∙ ap (λ (r : Result (List Message) PbFault). whole_front b.from_server h r) read
-    ∙ ap (λ (k : BatchKind). Whole (record { from_server = b.from_server; kind = k; messages = b.messages }) h.octets) kind
+    ∙ ap (λ (k : BatchKind). Whole (record { from_server = b.from_server; kind = k; messages = b.messages }) h.length) kind
     ∙ ap (λ (n : ℕ). Whole b n) count
 
 pub begins_back : (s : Bool) (octets : List ℕ) (b : Batch) (n : ℕ) → Begins s octets b n → front_of s octets ≡ Whole b n

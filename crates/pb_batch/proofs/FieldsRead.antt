@@ -37,7 +37,7 @@ header_fields_in octets = record {
   version = record { at = 0; value = get_or octets 0 0 };
   flags = record { at = 1; value = get_or octets 1 0 };
   kind = record { at = 3; value = get_or octets 3 0 };
-  octets = record { at = 4; value = batch_length octets };
+  length = record { at = 4; value = batch_length octets };
 }
 
 header_there : (octets : List ℕ) → 8 ≤ length octets → value_alone (read_header_fields (record { at = 0; octets = octets })) ≡ Ok (header_fields_in octets)
@@ -105,7 +105,7 @@ head_fields_from first at rest = record {
   flags = record { at = first; value = get_or rest 0 0 };
   vendor = record { at = at + 1; value = vendor_in rest };
   kind = record { at = at + 4; value = kind_in rest };
-  octets = record { at = at + 8; value = length_in rest };
+  length = record { at = at + 8; value = length_in rest };
 }
 
 abbrev pub head_fields_in : ℕ → List ℕ → HeadFields
@@ -315,11 +315,11 @@ known_read at rest there may =
 
 -- A message whose head is known is read as the table of its value's faults says.
 abbrev IsKnownRead : ℕ → List ℕ → MessageHead → Type 0
-IsKnownRead at rest head = head.octets ≤ length rest → IsTrue (may_have (type_of head.vendor head.kind) head.octets)
-    → in_batch (value_alone (read_message head (record { at = at; octets = take head.octets rest }))) ≡ value_of at rest (type_of head.vendor head.kind)
+IsKnownRead at rest head = head.length ≤ length rest → IsTrue (may_have (type_of head.vendor head.kind) head.length)
+    → in_batch (value_alone (read_message head (record { at = at; octets = take head.length rest }))) ≡ value_of at rest (type_of head.vendor head.kind)
 
-pub value_read : (at : ℕ) (rest : List ℕ) (head : MessageHead) → head ≡ head_in rest → head.octets ≤ length rest → IsTrue (may_have (type_of head.vendor head.kind) head.octets)
-    → in_batch (value_alone (read_message head (record { at = at; octets = take head.octets rest }))) ≡ value_of at rest (type_of head.vendor head.kind)
+pub value_read : (at : ℕ) (rest : List ℕ) (head : MessageHead) → head ≡ head_in rest → head.length ≤ length rest → IsTrue (may_have (type_of head.vendor head.kind) head.length)
+    → in_batch (value_alone (read_message head (record { at = at; octets = take head.length rest }))) ≡ value_of at rest (type_of head.vendor head.kind)
 value_read at rest head is there may = subst (λ (h : MessageHead). IsKnownRead at rest h) (sym is) (known_read at rest) there may
 
 -- What a call gave that is what the fields say is what the table says.

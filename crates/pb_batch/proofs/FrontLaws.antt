@@ -45,9 +45,9 @@ bad_forth_by s octets f are (Torn g long err is) e =
     inl (record { long = long; row = unless_err (first_shown (header_rows s octets)) (header_in octets) g err ∙ ap (λ (x : PbFault). Some x) one })
 bad_forth_by s octets f are (Full h long ok all is) e =
     let o = unless_ok (first_shown (header_rows s octets)) (header_in octets) h ok in
-    let count : batch_length octets ≡ h.octets = ap (λ (x : Header). x.octets) o.1 in
-    let read : messages_of 64 8 (slice_range octets 8 h.octets) ≡ Err f = full_bad s h (messages_of 64 8 (slice_range octets 8 h.octets)) f (sym is ∙ e) in
-    let fault = faults_forth 64 8 (slice_range octets 8 h.octets) f (AreOctets-between octets 8 h.octets are) read in
+    let count : batch_length octets ≡ h.length = ap (λ (x : Header). x.length) o.1 in
+    let read : messages_of 64 8 (slice_range octets 8 h.length) ≡ Err f = full_bad s h (messages_of 64 8 (slice_range octets 8 h.length)) f (sym is ∙ e) in
+    let fault = faults_forth 64 8 (slice_range octets 8 h.length) f (AreOctets-between octets 8 h.length are) read in
     inr (record {
       long = long;
       good = o.0;

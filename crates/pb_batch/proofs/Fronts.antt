@@ -30,20 +30,20 @@ pub header_more : (s : Bool) (xs ys : List ℕ) → 8 ≤ length xs → header_o
 header_more s xs ys long = sym (header_front s (xs ++ ys)) ∙ ap (λ (o : List ℕ). header_of s o) (take-append-le 8 xs ys long) ∙ header_front s xs
 
 -- The length in a header without a fault.
-pub header_bounds : (s : Bool) (octets : List ℕ) (h : Header) → header_of s octets ≡ Ok h → (8 ≤ h.octets) × (h.octets ≤ 16777216)
+pub header_bounds : (s : Bool) (octets : List ℕ) (h : Header) → header_of s octets ≡ Ok h → (8 ≤ h.length) × (h.length ≤ 16777216)
 header_bounds s octets h ok =
     let len : ℕ = batch_length octets in
     let o = unless_ok (first_shown (header_rows s octets)) (header_in octets) h ok in
     let none = none_show (header_rows s octets) o.0 in
     let p = or_parts (ltb len 8) (ltb 16777216 len) none.1.1.1.0 in
-    let is : len ≡ h.octets = ap (λ (x : Header). x.octets) o.1 in
+    let is : len ≡ h.length = ap (λ (x : Header). x.length) o.1 in
     (omega (arith, ltb-false len 8 p.0, is), omega (arith, ltb-false 16777216 len p.1, is))
 
 -- ---- batches
 
 -- All octets of a batch with its messages, or their fault.
 abbrev pub whole_front : Bool → Header → Result (List Message) PbFault → Front
-whole_front s h read = valued h.octets (batch_of s h read)
+whole_front s h read = valued h.length (batch_of s h read)
 
 -- The messages' octets of a batch that is there stay as they are.
 slice_more : (xs ys : List ℕ) (n : ℕ) → n ≤ length xs → 8 ≤ length xs → slice_range (xs ++ ys) 8 n ≡ slice_range xs 8 n
@@ -54,7 +54,7 @@ lasting s = record {
   some = omega arith;
   header = header_more s;
   least = λ octets h ok. (header_bounds s octets h ok).0;
-  value = λ octets more h ok long all. ap (λ (o : List ℕ). batch_of s h (messages_of 64 8 o)) (slice_more octets more h.octets all long);
+  value = λ octets more h ok long all. ap (λ (o : List ℕ). batch_of s h (messages_of 64 8 o)) (slice_more octets more h.length all long);
 }
 
 -- What joined octets begin with, by how much of the batch is there.
@@ -70,17 +70,17 @@ pub front_refused : (s : Bool) (octets : List ℕ) (f : PbFault) → 8 ≤ lengt
 unfolding front_of
 front_refused s octets f long err = laws.torn_front (batches s) octets f long err
 
-pub front_waits : (s : Bool) (octets : List ℕ) (h : Header) → 8 ≤ length octets → header_of s octets ≡ Ok h → length octets < h.octets → front_of s octets ≡ More
+pub front_waits : (s : Bool) (octets : List ℕ) (h : Header) → 8 ≤ length octets → header_of s octets ≡ Ok h → length octets < h.length → front_of s octets ≡ More
 unfolding front_of
 front_waits s octets h long ok short = laws.waiting_front (batches s) octets h long ok short
 
-pub front_full : (s : Bool) (octets : List ℕ) (h : Header) → 8 ≤ length octets → header_of s octets ≡ Ok h → h.octets ≤ length octets → front_of s octets ≡ whole_front s h (messages_of 64 8 (slice_range octets 8 h.octets))
+pub front_full : (s : Bool) (octets : List ℕ) (h : Header) → 8 ≤ length octets → header_of s octets ≡ Ok h → h.length ≤ length octets → front_of s octets ≡ whole_front s h (messages_of 64 8 (slice_range octets 8 h.length))
 unfolding front_of
 front_full s octets h long ok all = laws.full_front (batches s) octets h long ok all
 
 -- A batch that is whole has its length from the header, and its messages from the octets.
 pub record WholeOf (s : Bool) (h : Header) (read : Result (List Message) PbFault) (b : Batch) (n : ℕ) : Type 0 where
-  pub octets : h.octets ≡ n
+  pub octets : h.length ≡ n
   pub messages : read ≡ Ok b.messages
   pub kind : h.kind ≡ b.kind
   pub from_server : s ≡ b.from_server
@@ -99,7 +99,7 @@ whole_of s h (Ok ms) b n e =
 
 -- All octets of a batch make a batch or a fault.
 pub full_not_more : {A : Type 0} (s : Bool) (h : Header) (read : Result (List Message) PbFault) → whole_front s h read ≡ More → A
-full_not_more s h read e = laws.valued_not_more h.octets (batch_of s h read) e
+full_not_more s h read e = laws.valued_not_more h.length (batch_of s h read) e
 
 -- ---- the laws
 

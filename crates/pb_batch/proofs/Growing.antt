@@ -87,13 +87,13 @@ grows_refused {first = first} {piece = piece} {after = after} s f filled long er
     ap (λ (o : List ℕ). front_of s o) (filled_rest filled) ∙ front_refused s (after ++ rest) f (omega (arith, long, length-append after rest)) (header_more s after rest long ∙ err)
 
 -- Octets that were held are fewer than the header counts, since they are no batch yet.
-torn_short : (s : Bool) (held : List ℕ) (h : Header) → Seen (batches s) held (front_of s held) → front_of s held ≡ More → 8 ≤ length held → header_of s held ≡ Ok h → length held < h.octets
+torn_short : (s : Bool) (held : List ℕ) (h : Header) → Seen (batches s) held (front_of s held) → front_of s held ≡ More → 8 ≤ length held → header_of s held ≡ Ok h → length held < h.length
 torn_short s held h (Short short is) torn long ok = omega (arith, short, long)
 torn_short s held h (Torn f l err is) torn long ok = absurd cc
-torn_short s held h (Waits g l also short is) torn long ok = let same : Ok g ≡ Ok h = sym also ∙ ok in let one : g ≡ h = cc in omega (arith, short, ap (λ (x : Header). x.octets) one)
-torn_short s held h (Full g l also all is) torn long ok = full_not_more s g (messages_of 64 8 (slice_range held 8 g.octets)) (sym is ∙ torn)
+torn_short s held h (Waits g l also short is) torn long ok = let same : Ok g ≡ Ok h = sym also ∙ ok in let one : g ≡ h = cc in omega (arith, short, ap (λ (x : Header). x.length) one)
+torn_short s held h (Full g l also all is) torn long ok = full_not_more s g (messages_of 64 8 (slice_range held 8 g.length)) (sym is ∙ torn)
 
-held_short : {first : ℕ} {held piece after : List ℕ} (s : Bool) (h : Header) → front_of s held ≡ More → Filled 8 held piece after first → 8 ≤ length after → header_of s after ≡ Ok h → length held < h.octets
+held_short : {first : ℕ} {held piece after : List ℕ} (s : Bool) (h : Header) → front_of s held ≡ More → Filled 8 held piece after first → 8 ≤ length after → header_of s after ≡ Ok h → length held < h.length
 held_short {first = first} {held = held} {piece = piece} {after = after} s h torn filled long ok =
     elim (cases_lt (length held) 8) [
       | inl short ↦ let bounds = header_bounds s after h ok in omega (arith, bounds.0, short)
@@ -106,22 +106,22 @@ held_short {first = first} {held = held} {piece = piece} {after = after} s h tor
 pub record Taken (s : Bool) (held piece after : List ℕ) (h : Header) (used : ℕ) : Type 0 where
   pub ok : header_of s after ≡ Ok h
   pub long : 8 ≤ length after
-  pub short : length after ≤ h.octets
+  pub short : length after ≤ h.length
   pub joined : held ++ piece ≡ after ++ drop used piece
   pub counted : length after ≡ length held + used
   pub within : used ≤ length piece
-  pub fewer : length held < h.octets
+  pub fewer : length held < h.length
   pub kept : take (length held) after ≡ held
 
 pub taken : {first more : ℕ} {held piece mid after : List ℕ} (s : Bool) (h : Header) → front_of s held ≡ More → Filled 8 held piece mid first → 8 ≤ length mid → header_of s mid ≡ Ok h
-    → Filled h.octets mid (drop first piece) after more → Taken s held piece after h (first + more)
+    → Filled h.length mid (drop first piece) after more → Taken s held piece after h (first + more)
 taken {first = first} {more = more} {held = held} {piece = piece} {mid = mid} {after = after} s h torn begun long ok filled =
     let rest : List ℕ = drop first piece in
     let one = filled_length begun in
     let two = filled_length filled in
     let bounds = header_bounds s mid h ok in
     let fewer = held_short s h torn begun long ok in
-    let mid_short : length mid ≤ h.octets = omega (arith, one, begun.counted, bounds.0, fewer) in
+    let mid_short : length mid ≤ h.length = omega (arith, one, begun.counted, bounds.0, fewer) in
     record {
       ok = ap (λ (o : List ℕ). header_of s o) filled.joined ∙ header_more s mid (take more rest) long ∙ ok;
       long = omega (arith, long, two);
@@ -135,26 +135,26 @@ taken {first = first} {more = more} {held = held} {piece = piece} {mid = mid} {a
     }
 
 -- Octets of which the header counts more.
-pub grows_waits : {first more : ℕ} {held piece mid after : List ℕ} (s : Bool) (h : Header) → Filled 8 held piece mid first → Filled h.octets mid (drop first piece) after more → Taken s held piece after h (first + more)
-    → length after < h.octets → (front_of s (held ++ piece) ≡ More) × (after ≡ held ++ piece)
+pub grows_waits : {first more : ℕ} {held piece mid after : List ℕ} (s : Bool) (h : Header) → Filled 8 held piece mid first → Filled h.length mid (drop first piece) after more → Taken s held piece after h (first + more)
+    → length after < h.length → (front_of s (held ++ piece) ≡ More) × (after ≡ held ++ piece)
 grows_waits {first = first} {held = held} {piece = piece} {mid = mid} {after = after} s h begun filled t few =
     let all : after ≡ held ++ piece = filled_all filled few ∙ sym (filled_rest begun) in
     let is = front_waits s after h t.long t.ok few in
     (ap (λ (o : List ℕ). front_of s o) (sym all) ∙ is, all)
 
 -- All octets of the batch are there: it is whole, or has a fault.
-whole_taken : {used : ℕ} {held piece after : List ℕ} (s : Bool) (h : Header) → Taken s held piece after h used → h.octets ≤ length after → front_of s (held ++ piece) ≡ whole_front s h (messages_of 64 8 (drop 8 after))
+whole_taken : {used : ℕ} {held piece after : List ℕ} (s : Bool) (h : Header) → Taken s held piece after h used → h.length ≤ length after → front_of s (held ++ piece) ≡ whole_front s h (messages_of 64 8 (drop 8 after))
 whole_taken {used = used} {piece = piece} {after = after} s h t all =
     let octets : List ℕ = after ++ drop used piece in
-    let same : slice_range octets 8 h.octets ≡ drop 8 after =
-    ap (λ (o : List ℕ). take (h.octets - 8) o) (drop-append-le 8 after (drop used piece) t.long)
-    ∙ take-append-le (h.octets - 8) (drop 8 after) (drop used piece) (omega (arith, all, t.long, length-drop 8 after))
-    ∙ take_all (h.octets - 8) (drop 8 after) (omega (arith, t.short, length-drop 8 after)) in
+    let same : slice_range octets 8 h.length ≡ drop 8 after =
+    ap (λ (o : List ℕ). take (h.length - 8) o) (drop-append-le 8 after (drop used piece) t.long)
+    ∙ take-append-le (h.length - 8) (drop 8 after) (drop used piece) (omega (arith, all, t.long, length-drop 8 after))
+    ∙ take_all (h.length - 8) (drop 8 after) (omega (arith, t.short, length-drop 8 after)) in
     ap (λ (o : List ℕ). front_of s o) t.joined
     ∙ front_full s octets h (omega (arith, t.long, length-append after (drop used piece))) (header_more s after (drop used piece) t.long ∙ t.ok) (omega (arith, all, length-append after (drop used piece)))
     ∙ ap (λ (o : List ℕ). whole_front s h (messages_of 64 8 o)) same
 
-pub grows_bad : {used : ℕ} {held piece after : List ℕ} (s : Bool) (h : Header) (e : Refused PbFault) → Taken s held piece after h used → h.octets ≤ length after
+pub grows_bad : {used : ℕ} {held piece after : List ℕ} (s : Bool) (h : Header) (e : Refused PbFault) → Taken s held piece after h used → h.length ≤ length after
     → Gives {X = List Message} (λ ms. ms) (Err e) (messages_of 64 8 (drop 8 after)) → Grows s held piece (Err e) after
 grows_bad s h (refused.Fault f) t all fails = whole_taken s h t all ∙ ap (λ (r : Result (List Message) PbFault). whole_front s h r) fails
 grows_bad s h refused.Memory t all fails = t.kept
@@ -170,10 +170,10 @@ taken_is_batch {after = after} s h messages t forms few =
       short = omega (arith, forms_length messages (drop 8 after) forms, length-drop 8 after, t.long, t.short, bounds.1);
     }
 
-pub grows_done : {used : ℕ} {held piece after : List ℕ} (s : Bool) (h : Header) (messages : List Message) → Taken s held piece after h used → h.octets ≤ length after
+pub grows_done : {used : ℕ} {held piece after : List ℕ} (s : Bool) (h : Header) (messages : List Message) → Taken s held piece after h used → h.length ≤ length after
     → messages_of 64 8 (drop 8 after) ≡ Ok messages → MessagesForm messages (drop 8 after) → length messages ≤ 64 → Grows s held piece (Ok (Some (record { from_server = s; kind = h.kind; messages = messages }, used))) after
 grows_done {used = used} {held = held} {piece = piece} s h messages t all is forms few =
-    let len : h.octets ≡ length held + used = omega (arith, all, t.short, t.counted) in (
+    let len : h.length ≡ length held + used = omega (arith, all, t.short, t.counted) in (
       whole_taken s h t all ∙ ap (λ (r : Result (List Message) PbFault). whole_front s h r) is ∙ ap (λ (n : ℕ). Whole (record { from_server = s; kind = h.kind; messages = messages }) n) len,
       omega (arith, t.fewer, len),
       t.within,

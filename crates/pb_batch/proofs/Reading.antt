@@ -103,11 +103,11 @@ more front (suc left) place rest head m total some ok is so_far =
 pub more_of : (most : ℕ) (front after : List Message) (place : ℕ) (octets : List ℕ) (head : MessageHead) (m : Message) (total : Result (List Message) PbFault)
     → 0 < length (drop place octets) → head_of (most - length front) place (drop place octets) ≡ Ok head → head ≡ head_in (drop place octets) → value_of place (drop place octets) (type_in (drop place octets)) ≡ Ok m
     → after ≡ front ++ m ∷ [] → with_front front (messages_of (most - length front) place (drop place octets)) ≡ total
-    → with_front after (messages_of (most - length after) (place + head.octets) (drop (place + head.octets) octets)) ≡ total
+    → with_front after (messages_of (most - length after) (place + head.length) (drop (place + head.length) octets)) ≡ total
 more_of most front after place octets head m total some ok fields is pushed so_far =
     let rest : List ℕ = drop place octets in
     let count : most - length after ≡ most - length front - 1 = rw pushed (omega (arith, length_push front m)) in
-    let len : head.octets ≡ length_in rest = ap (λ (h : MessageHead). h.octets) fields in
+    let len : head.length ≡ length_in rest = ap (λ (h : MessageHead). h.length) fields in
     let behind : drop (place + length_in rest) octets ≡ drop (length_in rest) rest = sym (drop-drop (length_in rest) place octets) in
     rw (count, pushed, len, behind) (more front (most - length front) place rest head m total some ok is so_far)
 

@@ -27,7 +27,7 @@ read_header_fields = do
   reserved ← octets 1
   kind ← placed (number 1)
   count ← placed (number 4)
-  done (record { version = version; flags = flags; kind = kind; octets = count })
+  done (record { version = version; flags = flags; kind = kind; length = count })
 
 -- The faults of the fields, each at its place: those of `header_rows`.
 abbrev pub header_field_rows : Bool → HeaderFields → List (Row PbFault)
@@ -35,13 +35,13 @@ header_field_rows from_server f =
     record { shows = not (f.version.value == VERSION); fault = record { code = VERSION_NOT_SUPPORTED; offset = f.version.at; version = f.version.value } }
     ∷ row (differ (is_set f.flags.value FLAG) from_server) INVALID_PARAMETER f.flags.at
     ∷ row (is_none (kind_of (f.kind.value % 16))) INVALID_PARAMETER f.kind.at
-    ∷ row (nat_lt f.octets.value HEADER_OCTETS || nat_lt BATCH_OCTETS f.octets.value) INVALID_PARAMETER f.octets.at
+    ∷ row (nat_lt f.length.value HEADER_OCTETS || nat_lt BATCH_OCTETS f.length.value) INVALID_PARAMETER f.length.at
     ∷ []
 
 -- What they say, or the first fault in them.
 abbrev pub checked_header : Bool → HeaderFields → Result Header PbFault
 checked_header from_server f =
-    unless (first_shown (header_field_rows from_server f)) (record { kind = unwrap_or (kind_of (f.kind.value % 16)) batch.Close; octets = f.octets.value })
+    unless (first_shown (header_field_rows from_server f)) (record { kind = unwrap_or (kind_of (f.kind.value % 16)) batch.Close; length = f.length.value })
 
 -- ---- the head of a message (section 4.2)
 
@@ -51,11 +51,11 @@ read_head_fields = do
   vendor ← placed (number 3)
   kind ← placed (number 4)
   count ← placed (number 4)
-  done (record { flags = flags; vendor = vendor; kind = kind; octets = count })
+  done (record { flags = flags; vendor = vendor; kind = kind; length = count })
 
 -- What they say.
 abbrev pub head_said : HeadFields → MessageHead
-head_said f = record { noskip = is_set f.flags.value FLAG; vendor = f.vendor.value; kind = f.kind.value; octets = f.octets.value }
+head_said f = record { noskip = is_set f.flags.value FLAG; vendor = f.vendor.value; kind = f.kind.value; length = f.length.value }
 
 -- The faults of the fields, each at its place, where that many octets are left: those of
 -- `head_rows`, of which the first two are of a head that is not there.
@@ -64,7 +64,7 @@ head_field_rows left f =
     row (is_set f.flags.value FLAG && not (is_known f.vendor.value f.kind.value)) UNSUPPORTED_MESSAGE f.flags.at
     ∷ row (f.vendor.value == NO_VENDOR) INVALID_PARAMETER f.vendor.at
     ∷ row (f.kind.value == NO_TYPE) INVALID_PARAMETER f.kind.at
-    ∷ row (nat_lt left f.octets.value || not (may_have (type_of f.vendor.value f.kind.value) f.octets.value)) INVALID_PARAMETER f.octets.at
+    ∷ row (nat_lt left f.length.value || not (may_have (type_of f.vendor.value f.kind.value) f.length.value)) INVALID_PARAMETER f.length.at
     ∷ []
 
 -- What they say, or the first fault in them.

@@ -18,14 +18,14 @@ use Rattle.pb_batch.specs.Faults.{number, header_rows, batch_length, noskip_in, 
 
 -- What a header says, and the same by the table of its faults.
 abbrev pub header_in : List ℕ → Header
-header_in octets = record { kind = unwrap_or (kind_of (slice_index octets 3 % 16)) batch.Close; octets = batch_length octets }
+header_in octets = record { kind = unwrap_or (kind_of (slice_index octets 3 % 16)) batch.Close; length = batch_length octets }
 
 abbrev pub header_of : Bool → List ℕ → Result Header PbFault
 header_of from_server octets = unless (first_shown (header_rows from_server octets)) (header_in octets)
 
 -- The head of a message, and the same by the table of its faults.
 abbrev pub head_in : List ℕ → MessageHead
-head_in rest = record { noskip = noskip_in rest; vendor = vendor_in rest; kind = kind_in rest; octets = length_in rest }
+head_in rest = record { noskip = noskip_in rest; vendor = vendor_in rest; kind = kind_in rest; length = length_in rest }
 
 abbrev pub head_of : ℕ → ℕ → List ℕ → Result MessageHead PbFault
 head_of left place rest = unless (first_shown (head_rows left place rest)) (head_in rest)
@@ -73,8 +73,8 @@ abbrev pub batches : Bool → Headed Header Batch PbFault
 batches from_server = record {
   size = HEADER_OCTETS;
   header = header_of from_server;
-  len = λ header. header.octets;
-  value = λ header octets. batch_of from_server header (messages_of BATCH_MESSAGES HEADER_OCTETS (slice_range octets HEADER_OCTETS header.octets));
+  len = λ header. header.length;
+  value = λ header octets. batch_of from_server header (messages_of BATCH_MESSAGES HEADER_OCTETS (slice_range octets HEADER_OCTETS header.length));
 }
 
 -- What joined octets begin with, where batches of this direction are expected.

@@ -29,10 +29,10 @@ written_message m = written_fields (message_fields ((FLAG, written_noskip m) ∷
 
 -- The same of its head alone, which has no body.
 abbrev pub written_head : MessageHead → List ℕ
-written_head head = written_fields (Flags ((FLAG, head.noskip) ∷ []) ∷ Number 3 head.vendor ∷ Number 4 head.kind ∷ Number 4 head.octets ∷ [])
+written_head head = written_fields (Flags ((FLAG, head.noskip) ∷ []) ∷ Number 3 head.vendor ∷ Number 4 head.kind ∷ Number 4 head.length ∷ [])
 
 abbrev pub head_of_message : Message → MessageHead
-head_of_message m = record { noskip = written_noskip m; vendor = vendor_of m; kind = number_of_type m; octets = message_octets m }
+head_of_message m = record { noskip = written_noskip m; vendor = vendor_of m; kind = number_of_type m; length = message_octets m }
 
 -- What is written of a header.
 abbrev pub written_header : Batch → List ℕ

@@ -17,7 +17,7 @@ pub(crate) struct Header {
     /// What the batch is for.
     pub(crate) kind: BatchKind,
     /// The octets of the batch, with those of the header.
-    pub(crate) octets: u32,
+    pub(crate) length: u32,
 }
 
 /// The fields of a header (RFC 5793, section 4.1).
@@ -26,7 +26,7 @@ struct HeaderFields {
     version: Placed<u8>,
     flags: Placed<u8>,
     kind: Placed<u8>,
-    octets: Placed<u32>,
+    length: Placed<u32>,
 }
 
 /// Reads a header of the direction that is expected; `None` where not all of it is there.
@@ -59,13 +59,13 @@ fn check_fields(from_server: bool, fields: HeaderFields) -> Result<Header, PbFau
     let Some(kind) = BatchKind::from_number(fields.kind.value % BATCH_TYPES) else {
         return Err(PbFault::new(PbErrorCode::InvalidParameter, fields.kind.at));
     };
-    let count = fields.octets.value;
+    let count = fields.length.value;
     if count < HEADER as u32 || MOST_BATCH_OCTETS < count {
-        return Err(PbFault::new(PbErrorCode::InvalidParameter, fields.octets.at));
+        return Err(PbFault::new(PbErrorCode::InvalidParameter, fields.length.at));
     }
     Ok(Header {
         kind,
-        octets: count,
+        length: count,
     })
 }
 
@@ -88,7 +88,7 @@ fn read_fields(mut cursor: Cursor) -> Result<HeaderFields, FieldRefused>
         at: cursor.place(),
         value: cursor.u8()?,
     };
-    let octets = Placed {
+    let length = Placed {
         at: cursor.place(),
         value: cursor.u32()?,
     };
@@ -96,6 +96,6 @@ fn read_fields(mut cursor: Cursor) -> Result<HeaderFields, FieldRefused>
         version,
         flags,
         kind,
-        octets,
+        length,
     })
 }

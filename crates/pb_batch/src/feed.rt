@@ -139,8 +139,8 @@ fn grow(
         return Ok(None);
     };
     let (_, rest) = piece.split_at(first);
-    let more = fill(held, rest, header.octets as usize)?;
-    if held.len() < header.octets as usize {
+    let more = fill(held, rest, header.length as usize)?;
+    if held.len() < header.length as usize {
         return Ok(None);
     }
     let messages = read_messages(alloc, held.as_slice())?;

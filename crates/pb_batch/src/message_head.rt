@@ -22,7 +22,7 @@ pub(crate) struct MessageHead {
     pub(crate) vendor: u32,
     pub(crate) kind: u32,
     /// The octets of the message, with those of the head.
-    pub(crate) octets: u32,
+    pub(crate) length: u32,
 }
 
 /// The fields of a head (RFC 5793, section 4.2).
@@ -31,7 +31,7 @@ struct HeadFields {
     flags: Placed<u8>,
     vendor: Placed<u32>,
     kind: Placed<u32>,
-    octets: Placed<u32>,
+    length: Placed<u32>,
 }
 
 /// Reads the head of the message that stands first in `rest`, what is left of the batch from the
@@ -40,8 +40,8 @@ pub(crate) fn read_head(left: usize, at: u32, rest: &[u8]) -> Result<MessageHead
     requires { at + length rest.now < 2 ^ 31 }
     ensures head { result ≡ head_of left at rest.now }
     ensures fields { IfOk result (λ head. head ≡ head_in rest.now) }
-    ensures within { IfOk result (λ head. head.octets ≤ length rest.now) }
-    ensures may { IfOk result (λ head. IsTrue (may_have (type_of head.vendor head.kind) head.octets)) }
+    ensures within { IfOk result (λ head. head.length ≤ length rest.now) }
+    ensures may { IfOk result (λ head. IsTrue (may_have (type_of head.vendor head.kind) head.length)) }
 {
     if left == 0 {
         return Err(PbFault::new(PbErrorCode::InvalidParameter, at));
@@ -56,11 +56,11 @@ pub(crate) fn read_head(left: usize, at: u32, rest: &[u8]) -> Result<MessageHead
 fn check_fields(fields: HeadFields, left: usize) -> Result<MessageHead, PbFault>
     ensures head { result ≡ checked_head left fields }
     ensures fields { IfOk result (λ head. head ≡ head_said fields) }
-    ensures within { IfOk result (λ head. head.octets ≤ left) }
-    ensures may { IfOk result (λ head. IsTrue (may_have (type_of head.vendor head.kind) head.octets)) }
+    ensures within { IfOk result (λ head. head.length ≤ left) }
+    ensures may { IfOk result (λ head. IsTrue (may_have (type_of head.vendor head.kind) head.length)) }
 {
     let noskip = fields.flags.value & NOSKIP != 0;
-    let (vendor, kind, octets) = (fields.vendor.value, fields.kind.value, fields.octets.value);
+    let (vendor, kind, length) = (fields.vendor.value, fields.kind.value, fields.length.value);
     if noskip && !is_known(vendor, kind) {
         return Err(PbFault::new(PbErrorCode::UnsupportedMandatoryMessage, fields.flags.at));
     }
@@ -70,14 +70,14 @@ fn check_fields(fields: HeadFields, left: usize) -> Result<MessageHead, PbFault>
     if kind == NO_TYPE {
         return Err(PbFault::new(PbErrorCode::InvalidParameter, fields.kind.at));
     }
-    if left < octets as usize || !may_have(MessageType::from_numbers(vendor, kind), octets) {
-        return Err(PbFault::new(PbErrorCode::InvalidParameter, fields.octets.at));
+    if left < length as usize || !may_have(MessageType::from_numbers(vendor, kind), length) {
+        return Err(PbFault::new(PbErrorCode::InvalidParameter, fields.length.at));
     }
     Ok(MessageHead {
         noskip,
         vendor,
         kind,
-        octets,
+        length,
     })
 }
 
@@ -99,7 +99,7 @@ fn read_fields(mut cursor: Cursor) -> Result<HeadFields, FieldRefused>
         at: cursor.place(),
         value: cursor.u32()?,
     };
-    let octets = Placed {
+    let length = Placed {
         at: cursor.place(),
         value: cursor.u32()?,
     };
@@ -107,7 +107,7 @@ fn read_fields(mut cursor: Cursor) -> Result<HeadFields, FieldRefused>
         flags,
         vendor,
         kind,
-        octets,
+        length,
     })
 }
 

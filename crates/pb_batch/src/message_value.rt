@@ -27,12 +27,12 @@ pub(crate) fn read_value(
     rest: &[u8],
 ) -> Result<Message, BatchRefused>
     requires head { head ≡ head_in rest.now }
-    requires within { head.octets ≤ length rest.now }
-    requires may { IsTrue (may_have (type_of head.vendor head.kind) head.octets) }
+    requires within { head.length ≤ length rest.now }
+    requires may { IsTrue (may_have (type_of head.vendor head.kind) head.length) }
     requires places { at + length rest.now < 2 ^ 31 }
     ensures value { Gives (λ m. m) result (value_of at rest.now (type_of head.vendor head.kind)) }
 {
-    let cursor = Cursor::new(at, &rest[..head.octets as usize]);
+    let cursor = Cursor::new(at, &rest[..head.length as usize]);
     match read_message(alloc, head, cursor) {
         Ok(message) => Ok(message),
         Err(refused) => Err(in_value(refused)),

@@ -28,7 +28,7 @@ pub(crate) fn read_messages(alloc: Global, batch: &[u8]) -> Result<Messages, Bat
         let rest = &batch[at..];
         let head = read_head(MOST_MESSAGES - messages.len(), at as u32, rest)?;
         messages.push(read_value(alloc, head, at as u32, rest)?)?;
-        at += head.octets as usize;
+        at += head.length as usize;
     }
     Ok(messages)
 }

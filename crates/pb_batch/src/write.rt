@@ -86,7 +86,7 @@ fn head_of(message: &Message) -> MessageHead
     requires short { message_octets message.now ≤ BATCH_OCTETS }
     ensures head { result ≡ head_of_message message.now }
 {
-    let octets = octets_of_message(message);
+    let length = octets_of_message(message);
     let (noskip, vendor, kind) = match message {
         Message::Pa { .. } => (true, IETF, 1),
         Message::Assessment(_) => (true, IETF, 2),
@@ -103,7 +103,7 @@ fn head_of(message: &Message) -> MessageHead
         noskip,
         vendor,
         kind,
-        octets,
+        length,
     }
 }
 
@@ -115,7 +115,7 @@ fn put_head(out: &mut Octets, head: MessageHead) -> Result<(), Memory>
     out.push(flag(head.noskip, NOSKIP))?;
     put_u24(out, head.vendor)?;
     put_u32(out, head.kind)?;
-    put_u32(out, head.octets)
+    put_u32(out, head.length)
 }
 
 /// The fields of the message's value (RFC 5793, sections 4.5, 4.6, 4.7 and 4.9).

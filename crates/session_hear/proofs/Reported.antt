@@ -110,9 +110,9 @@ header_front_told from_server octets (Some other) fault is bad =
     let same : other ≡ fault = cc in subst (λ (f : PbFault). IsTold f.code) same (shown_told (header_rows from_server octets) other (header_told from_server octets) is)
 header_front_told from_server octets None fault is bad =
     let header = header_in octets in
-    let rest : List ℕ = slice_range octets HEADER_OCTETS header.octets in
-    batch_told from_server header header.octets HEADER_OCTETS rest (messages_of BATCH_MESSAGES HEADER_OCTETS rest) fault refl
-    (unless_more (nat_lt (length octets) header.octets) (valued header.octets (batch_of from_server header (messages_of BATCH_MESSAGES HEADER_OCTETS rest))) fault bad)
+    let rest : List ℕ = slice_range octets HEADER_OCTETS header.length in
+    batch_told from_server header header.length HEADER_OCTETS rest (messages_of BATCH_MESSAGES HEADER_OCTETS rest) fault refl
+    (unless_more (nat_lt (length octets) header.length) (valued header.length (batch_of from_server header (messages_of BATCH_MESSAGES HEADER_OCTETS rest))) fault bad)
 
 pub bad_is_told : (from_server : Bool) (octets : List ℕ) (fault : PbFault) → front_of from_server octets ≡ Bad fault → IsTold fault.code
 unfolding front_of

@@ -59,7 +59,7 @@ near_by false false false bad e = absurd cc
 pub bad_near : (octets : List ℕ) (bad : AttrFault) → front_of octets ≡ Bad bad → bad.at < HEADER
 bad_near octets bad is =
     let h : Header = header_of octets in
-    near_by (h.vendor == NO_VENDOR) (h.kind == NO_TYPE) (nat_lt h.octets HEADER || nat_lt MOST_OCTETS h.octets) bad (stream_shown octets bad (bad_is octets bad is).1)
+    near_by (h.vendor == NO_VENDOR) (h.kind == NO_TYPE) (nat_lt h.length HEADER || nat_lt MOST_OCTETS h.length) bad (stream_shown octets bad (bad_is octets bad is).1)
 
 same_fault : (test : Bool) (one : AttrFault) (others : Option AttrFault) (bad : AttrFault) → cond test (Some one) others ≡ Some bad → ((test ≡ true) × (one ≡ bad)) ⊎ ((test ≡ false) × (others ≡ Some bad))
 same_fault true one others bad e = inl (refl, cc)

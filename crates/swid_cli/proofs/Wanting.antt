@@ -26,13 +26,13 @@ use Rattle.swid_cli.proofs.Fronts.{first_begins, long_shows, moves_told, parts_l
 
 -- The header counts the octets of the attribute, and the value has those after the header.
 pub whole_says : (octets : List ℕ) (attr : Attr) (len : ℕ) → front_of octets ≡ Whole attr len
-    → ((header_of octets).octets ≡ len) × (len ≡ HEADER + length attr.value) × (HEADER ≤ len) × (len ≤ MOST_OCTETS) × (len ≤ length octets)
+    → ((header_of octets).length ≡ len) × (len ≡ HEADER + length attr.value) × (HEADER ≤ len) × (len ≤ MOST_OCTETS) × (len ≤ length octets)
 whole_says octets attr len e =
     let w = whole_is octets attr len e in
     let g = stream_good octets w.h w.good in
-    let value : length attr.value ≡ length (take (w.h.octets - 12) (drop 12 octets)) = ap (λ (a : Attr). length a.value) (sym w.attr-is) in (
-      ap (λ (h : Header). h.octets) g.is ∙ w.len-is,
-      omega (arith, value, length-take (w.h.octets - 12) (drop 12 octets), length-drop 12 octets, w.len-is, w.least, w.within),
+    let value : length attr.value ≡ length (take (w.h.length - 12) (drop 12 octets)) = ap (λ (a : Attr). length a.value) (sym w.attr-is) in (
+      ap (λ (h : Header). h.length) g.is ∙ w.len-is,
+      omega (arith, value, length-take (w.h.length - 12) (drop 12 octets), length-drop 12 octets, w.len-is, w.least, w.within),
       w.least,
       w.most,
       w.within,
@@ -60,15 +60,15 @@ cut_limit room count over = rw (lt-ltb room count over) refl
 
 module _ (room len : ℕ) (feed : Feeding) (begun : IsBegun room len feed) where
   -- some octets are wanting, and there is no fault in the header
-  begun_by : (length feed.octets < HEADER) ⊎ ((h : Header) × (HEADER ≤ length feed.octets) × (stream_header feed.octets ≡ Ok h) × (length feed.octets < h.octets))
-      → (h : Header) × (stream_header feed.octets ≡ Ok h) × (h.octets ≡ len) × (length feed.octets < len) × (len ≤ MOST_OCTETS)
+  begun_by : (length feed.octets < HEADER) ⊎ ((h : Header) × (HEADER ≤ length feed.octets) × (stream_header feed.octets ≡ Ok h) × (length feed.octets < h.length))
+      → (h : Header) × (stream_header feed.octets ≡ Ok h) × (h.length ≡ len) × (length feed.octets < len) × (len ≤ MOST_OCTETS)
   begun_by (inl short) = absurd (omega (arith, short, begun.header))
   begun_by (inr m) =
       let g = stream_good feed.octets m.0 m.2 in
-      let is : m.0.octets ≡ len = ap (λ (h : Header). h.octets) (sym g.is) ∙ begun.said in
+      let is : m.0.length ≡ len = ap (λ (h : Header). h.length) (sym g.is) ∙ begun.said in
       (m.0, m.2, is, omega (arith, is, m.3), omega (arith, is, g.within))
 
-  pub wanting : (h : Header) × (stream_header feed.octets ≡ Ok h) × (h.octets ≡ len) × (length feed.octets < len) × (len ≤ MOST_OCTETS)
+  pub wanting : (h : Header) × (stream_header feed.octets ≡ Ok h) × (h.length ≡ len) × (length feed.octets < len) × (len ≤ MOST_OCTETS)
   wanting = begun_by (more_is feed.octets begun.more)
 
   -- a piece after it leaves the header as it is
@@ -87,7 +87,7 @@ module _ (room len : ℕ) (feed : Feeding) (begun : IsBegun room len feed) where
     goes = refl;
     header = omega (arith, length-append feed.octets piece, begun.header);
     more = takes.0;
-    said = ap (λ (h : Header). h.octets) (header_stays piece) ∙ begun.said;
+    said = ap (λ (h : Header). h.length) (header_stays piece) ∙ begun.said;
     passed = ap (is_refused REPORT_TYPES) (header_stays piece) ∙ begun.passed;
     within = omega (arith, length-append feed.octets piece, within);
   })
@@ -96,7 +96,7 @@ module _ (room len : ℕ) (feed : Feeding) (begun : IsBegun room len feed) where
   pub whole_len : (piece : List ℕ) (attr : Attr) (used : ℕ) → front_of (feed.octets ++ piece) ≡ Whole attr (length feed.octets + used) → (length feed.octets + used ≡ len) × (len ≡ HEADER + length attr.value)
   whole_len piece attr used e =
       let w = whole_says (feed.octets ++ piece) attr (length feed.octets + used) e in
-      let is : length feed.octets + used ≡ len = sym w.0 ∙ ap (λ (h : Header). h.octets) (header_stays piece) ∙ begun.said in
+      let is : length feed.octets + used ≡ len = sym w.0 ∙ ap (λ (h : Header). h.length) (header_stays piece) ∙ begun.said in
       (is, sym is ∙ w.1)
 
   -- all octets, of which the feed holds some
@@ -173,7 +173,7 @@ fresh_takes before after piece held answer is same feeds =
 
 -- An attribute that is whole with its header has no value.
 pub header_whole : (held : List ℕ) (attr : Attr) (used : ℕ) (after : Feeding) → length held ≡ HEADER → TakesPiece [] held (fed.Done attr used) after
-    → (front_of held ≡ Whole attr (header_of held).octets) × ((header_of held).octets ≡ HEADER) × ((header_of held).octets ≡ HEADER + length attr.value)
+    → (front_of held ≡ Whole attr (header_of held).length) × ((header_of held).length ≡ HEADER) × ((header_of held).length ≡ HEADER + length attr.value)
 header_whole held attr used after size takes =
     let none : length (nothing) + used ≡ used = omega arith in
     let is : front_of held ≡ Whole attr used = takes.0 ∙ ap (λ (n : ℕ). Whole attr n) none in

@@ -27,7 +27,7 @@ pub record IsBegun (room len : ℕ) (feed : Feeding) : Type 0 where
   pub goes : feed.stopped ≡ None
   pub header : HEADER ≤ length feed.octets
   pub more : front_of feed.octets ≡ More
-  pub said : (header_of feed.octets).octets ≡ len
+  pub said : (header_of feed.octets).length ≡ len
   pub passed : is_refused REPORT_TYPES (header_of feed.octets) ≡ false
   pub within : length feed.octets ≤ room
 

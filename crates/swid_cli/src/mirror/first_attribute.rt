@@ -60,8 +60,8 @@ pub(crate) fn take_front<S: Source>(
     }
     let mut feed = AttrFeed::new(alloc);
     match feed.feed(start.as_slice()) {
-        AttrFed::More => take_value(input, feed, header.octets, room),
-        AttrFed::Done(attr, _) => Ok(Front::Whole(attr, header.octets)),
+        AttrFed::More => take_value(input, feed, header.length, room),
+        AttrFed::Done(attr, _) => Ok(Front::Whole(attr, header.length)),
         AttrFed::Fault(fault) => Ok(Front::Faulty(fault)),
         AttrFed::Memory => Err(Stopped::Memory),
     }

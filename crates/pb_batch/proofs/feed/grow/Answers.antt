@@ -41,7 +41,7 @@ returns-in_err-messages c =
     let p = err_from_is_err_and c.from_residual-in_err-messages.result c.from_residual-in_err-messages.ensures.1 in
     let seen = header_is_seen c.args.from_server c.fill.new.held c.in-Some.header (sym (rw (c.as_slice.ensures.items, c.in-Some.is) at c.in_ok-header.ensures.header)) in
     let filled = rw c.split_at.ensures.back at c.in_ok-more.ensures.filled in
-    let all : c.in-Some.header.octets ≤ length c.fill-2.new.held = omega (arith, c.len.ensures.len, c.if-len-header.false) in
+    let all : c.in-Some.header.length ≤ length c.fill-2.new.held = omega (arith, c.len.ensures.len, c.if-len-header.false) in
     let fails = rw c.as_slice-2.ensures.items at c.in_err-messages.ensures.messages in
     rw (p.1, p.2) (record { grown = grows_bad c.args.from_server c.in-Some.header c.in_err-messages.field-0.0 (taken c.args.from_server c.in-Some.header c.requires.torn c.in_ok-first.ensures.filled seen.0 seen.1 filled) all fails })
 
@@ -49,7 +49,7 @@ pub returns : goal.returns
 returns c =
     let seen = header_is_seen c.args.from_server c.fill.new.held c.in-Some.header (sym (rw (c.as_slice.ensures.items, c.in-Some.is) at c.in_ok-header.ensures.header)) in
     let filled = rw c.split_at.ensures.back at c.in_ok-more.ensures.filled in
-    let all : c.in-Some.header.octets ≤ length c.fill-2.new.held = omega (arith, c.len.ensures.len, c.if-len-header.false) in
+    let all : c.in-Some.header.length ≤ length c.fill-2.new.held = omega (arith, c.len.ensures.len, c.if-len-header.false) in
     let is = rw c.as_slice-2.ensures.items at c.in_ok-messages.ensures.messages in
     let forms = rw c.as_slice-2.ensures.items at c.in_ok-messages.ensures.forms in
     record { grown = grows_done c.args.from_server c.in-Some.header c.in_ok-messages.messages (taken c.args.from_server c.in-Some.header c.requires.torn c.in_ok-first.ensures.filled seen.0 seen.1 filled) all is forms c.in_ok-messages.ensures.few }

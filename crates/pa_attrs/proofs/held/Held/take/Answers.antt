@@ -32,20 +32,20 @@ returns-in_err-more-in-Ok-clause-within c = rw c.in_err-more-in-Ok.ensures.uncha
 pub returns-then-len-said-clause-within : goal.returns-then-len-said-clause-within
 returns-then-len-said-clause-within c =
     let o = c.requires.order in
-    let short : 12 + length c.take_value.new.value.items < c.in-Ok.said.octets = omega (arith, c.if-len-said.true, c.len.ensures) in
+    let short : 12 + length c.take_value.new.value.items < c.in-Ok.said.length = omega (arith, c.if-len-said.true, c.len.ensures) in
     still_within _ _ _ _ _ _ o.size o.within o.first c.begin_header-first.array_long c.begin_header-first.ensures.used c.begin_header-first.ensures.octets c.if-begun-lt-HEADER_OCTETS.false c.requires.torn _ (sym c.in-Ok.ensures.header) _ short
 
 pub returns-then-len-said-clause-holds : goal.returns-then-len-said-clause-holds
 returns-then-len-said-clause-holds c =
     let o = c.requires.order in
-    let short : 12 + length c.take_value.new.value.items < c.in-Ok.said.octets = omega (arith, c.if-len-said.true, c.len.ensures) in
+    let short : 12 + length c.take_value.new.value.items < c.in-Ok.said.length = omega (arith, c.if-len-said.true, c.len.ensures) in
     still_more _ _ _ _ _ _ o.size o.within o.first c.begin_header-first.array_long c.begin_header-first.ensures.used c.begin_header-first.ensures.octets c.if-begun-lt-HEADER_OCTETS.false c.requires.torn _ (sym c.in-Ok.ensures.header) _ _
     (rw c.split_at.ensures.back at c.in_ok-more-in-Ok.ensures.used) (rw c.split_at.ensures.back at c.in_ok-more-in-Ok.ensures.octets) short
 
 pub returns-else-len-said-clause-holds : goal.returns-else-len-said-clause-holds
 returns-else-len-said-clause-holds c =
     let o = c.requires.order in
-    let enough : c.in-Ok.said.octets ≤ 12 + length c.take_value.new.value.items = omega (arith, c.if-len-said.false, c.len.ensures) in
+    let enough : c.in-Ok.said.length ≤ 12 + length c.take_value.new.value.items = omega (arith, c.if-len-said.false, c.len.ensures) in
     let w = is_whole _ _ _ _ _ _ o.size o.within o.first c.begin_header-first.array_long c.begin_header-first.ensures.used c.begin_header-first.ensures.octets c.if-begun-lt-HEADER_OCTETS.false c.requires.torn _ (sym c.in-Ok.ensures.header) _ _
     (rw c.split_at.ensures.back at c.in_ok-more-in-Ok.ensures.used) (rw c.split_at.ensures.back at c.in_ok-more-in-Ok.ensures.octets) enough in
     (w.0 ∙ ap (λ (a : Attr). Whole a (length (octets_of_held c.args.self.now) + (c.begin_header-first.result + c.in_ok-more-in-Ok.more))) (sym c.give.ensures.attr), w.1, w.2, c.give.ensures.nothing)

@@ -51,8 +51,8 @@ returns-in-Done-clause-front g c = λ octets told.
     let takes = fresh_takes c.new-feed.result c.feed.new.self _ held (fed.Done c.in-Done.attr c.in-Done.field-1) c.new-feed.ensures.fresh c.as_slice-2.ensures.items c.in-Done.ensures.fed in
     let size : length held ≡ HEADER = omega (arith, c.in_ok-fill.ensures.within, c.min.ensures, long) in
     let whole = header_whole held c.in-Done.attr c.in-Done.field-1 c.feed.new.self size takes in
-    subst (λ (n : ℕ). (front.Whole c.in-Done.attr n ≡ first_of room octets) × (g.S.Source.left c.fill.new.input ≡ Some (drop n octets))) (ap (λ (h : Header). h.octets) (sym said))
-    (is_header room octets _ held read long c.in-Done.attr (header_of held).octets passed whole.0 whole.1)
+    subst (λ (n : ℕ). (front.Whole c.in-Done.attr n ≡ first_of room octets) × (g.S.Source.left c.fill.new.input ≡ Some (drop n octets))) (ap (λ (h : Header). h.length) (sym said))
+    (is_header room octets _ held read long c.in-Done.attr (header_of held).length passed whole.0 whole.1)
 
 pub returns-in-Done-clause-within : goal.returns-in-Done-clause-within
 returns-in-Done-clause-within g c =
@@ -63,7 +63,7 @@ returns-in-Done-clause-within g c =
     let takes = fresh_takes c.new-feed.result c.feed.new.self _ held (fed.Done c.in-Done.attr c.in-Done.field-1) c.new-feed.ensures.fresh c.as_slice-2.ensures.items c.in-Done.ensures.fed in
     let size : length held ≡ HEADER = omega (arith, c.in_ok-fill.ensures.within, c.min.ensures, long) in
     let whole = header_whole held c.in-Done.attr c.in-Done.field-1 c.feed.new.self size takes in
-    let count : c.read_header-header.result.octets ≡ (header_of held).octets = ap (λ (h : Header). h.octets) said in
+    let count : c.read_header-header.result.length ≡ (header_of held).length = ap (λ (h : Header). h.length) said in
     (count ∙ whole.2, omega (arith, count, whole.1, long))
 
 pub returns-in-Fault-clause-front : goal.returns-in-Fault-clause-front
