@@ -113,18 +113,18 @@ impl World {
     }
 
     /// Carries at most that many of the octets that wait to the validator, as one piece.
-    pub fn up(&mut self, alloc: Global, most: u32, told: &mut Tellings) -> Result<(), Memory>
+    pub fn up(&mut self, alloc: Global, most: usize, told: &mut Tellings) -> Result<(), Memory>
         ensures does { DoesOk (ups most) self.old told.old self.new told.new result }
     {
-        let count = self.waiting_up().len().min(most as usize);
+        let count = self.waiting_up().len().min(most);
         self.carry_up(alloc, count, told)
     }
 
     /// Carries at most that many of the octets that wait to the collector, as one piece.
-    pub fn down(&mut self, alloc: Global, most: u32, told: &mut Tellings) -> Result<(), Memory>
+    pub fn down(&mut self, alloc: Global, most: usize, told: &mut Tellings) -> Result<(), Memory>
         ensures does { DoesOk (downs most) self.old told.old self.new told.new result }
     {
-        let count = self.waiting_down().len().min(most as usize);
+        let count = self.waiting_down().len().min(most);
         self.carry_down(alloc, count, told)
     }
 
