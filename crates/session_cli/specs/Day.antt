@@ -3,21 +3,19 @@ use Rattle.std.specs.Prelude.{◌≡◌, ◌==◌, ◌+◌, ◌/◌, ◌%◌, �
 use Rattle.std.specs.Fmt.{decimal}
 use Rattle.hex.specs.Hex.{encode_lower}
 use Rattle.sha2.specs.Sha256.{sha256}
-use Rattle.wire_base.specs.Stamp.{IsStampAt}
 use Rattle.swima_model.specs.declared.report.Kind.TheVariants.{Full}
 use Rattle.swima_model.specs.declared.report.Point.{Point}
 use Rattle.validator_core.specs.declared.mirror.Taken.{Taken}
 use Rattle.validator_core.specs.declared.mirror.Taken.TheVariants as taken
 use Rattle.validator_core.specs.Held.{Held}
-use Rattle.collector_core.specs.declared.book.edit.Edit.{Edit}
 use Rattle.session_world.specs.declared.telling.Telling.{Telling}
 use Rattle.session_world.specs.declared.telling.Telling.TheVariants.{Refused, Took, CollectorEnds, ValidatorEnds}
-use Rattle.session_world.specs.Lines.{Told, and_on, cuts, enters, opens, round, runs, ups}
+use Rattle.session_world.specs.Lines.{Told, and_on, cuts, opens, round, runs, ups}
 use Rattle.session_world.specs.World.{World, begun, carried_up, waits_up}
 use Rattle.session_cli.specs.declared.line.Line.{Line}
 use Rattle.session_cli.specs.declared.line.Line.TheVariants as said
 use Rattle.session_cli.specs.Package.{package_content, packages}
-use Rattle.session_cli.specs.Replay.{Changes}
+use Rattle.session_cli.specs.Replay.{IsEntered}
 use Rattle.command_text.specs.Text.{line, mirror_text, refusal}
 
 -- ---- the day
@@ -38,15 +36,11 @@ day_change count number =
     else said.Alter number (package_content count number number))
 
 -- One change, with the stamp of as many seconds.
-pub record IsChanged (count number : ℕ) (w : World) (told : Told) : Type 0 where
-  pub stamp : List ℕ
-  pub stamped : IsStampAt number (Ok stamp)
-  pub change : Edit
-  pub changes : Changes (day_change count number) stamp change
-  pub does : told ≡ enters change w
+abbrev pub IsChanged : ℕ → ℕ → World → Told → Type 0
+IsChanged count number w told = IsEntered (day_change count number) number w told
 
 -- That many changes, from this one on.
-abbrev pub AreChanged : ℕ → ℕ → ℕ → World → Told → Type 0
+unfoldable pub AreChanged : ℕ → ℕ → ℕ → World → Told → Type 0
 AreChanged count zero number w told = told ≡ (w, [])
 AreChanged count (suc more) number w told =
     (one : Told) × IsChanged count number w one × ((others : Told) × AreChanged count more (number + 1) one.0 others × (told ≡ (others.0, one.1 ++ others.1)))

@@ -88,31 +88,32 @@ Played = Playing × List ℕ
 abbrev pub told_in : ℕ → Told → Played
 told_in changes told = (record { world = told.0; changes = changes }, flat_map telling_line told.1)
 
--- The change of the inventory that a line says, with a stamp.
+-- The change of a record that a line says, with a stamp.
 abbrev pub Changes : Line → List ℕ → Edit → Type 0
 Changes (line.Create content) stamp (edit.Create moment given) = (moment.now ≡ stamp) × (given.now ≡ content)
 Changes (line.Alter id content) stamp (edit.Alter moment other given) = (moment.now ≡ stamp) × (other ≡ id) × (given.now ≡ content)
 Changes (line.Delete id) stamp (edit.Delete moment other) = (moment.now ≡ stamp) × (other ≡ id)
-Changes (line.Epoch number) stamp (edit.BeginEpoch epoch) = epoch ≡ number
-Changes (line.Trim number) stamp (edit.Trim first) = first ≡ number
 Changes said stamp change = ⊥
 
--- A line that changes the inventory. The stamp of the change is that of as many seconds as there
--- were such lines.
-pub record Enters (p : Playing) (said : Line) (after : Played) : Type 0 where
+-- A world in which the change that a line says was entered, with the stamp of that second.
+pub record IsEntered (said : Line) (second : ℕ) (w : World) (told : Told) : Type 0 where
   pub stamp : List ℕ
-  pub stamped : IsStampAt (p.changes + 1) (Ok stamp)
+  pub stamped : IsStampAt second (Ok stamp)
   pub change : Edit
   pub changes : Changes said stamp change
-  pub does : after ≡ told_in (p.changes + 1) (lines.enters change p.world)
+  pub does : told ≡ lines.enters change w
+
+-- A line that changes records. The stamp is that of as many seconds as there were changes.
+abbrev pub Enters : Playing → Line → Played → Type 0
+Enters p said after = (told : Told) × IsEntered said (p.changes + 1) p.world told × (after ≡ told_in (p.changes + 1) told)
 
 -- What a line makes, and what is printed of it.
 abbrev pub IsPlayed : Playing → Line → Played → Type 0
 IsPlayed p (line.Create content) after = Enters p (line.Create content) after
 IsPlayed p (line.Alter id content) after = Enters p (line.Alter id content) after
 IsPlayed p (line.Delete id) after = Enters p (line.Delete id) after
-IsPlayed p (line.Epoch epoch) after = Enters p (line.Epoch epoch) after
-IsPlayed p (line.Trim first) after = Enters p (line.Trim first) after
+IsPlayed p (line.Epoch epoch) after = after ≡ told_in (p.changes + 1) (lines.enters (edit.BeginEpoch epoch) p.world)
+IsPlayed p (line.Trim first) after = after ≡ told_in (p.changes + 1) (lines.enters (edit.Trim first) p.world)
 IsPlayed p line.Open after = after ≡ told_in p.changes (lines.opens p.world)
 IsPlayed p (line.Up most) after = after ≡ told_in p.changes (lines.ups most p.world)
 IsPlayed p (line.Down most) after = after ≡ told_in p.changes (lines.downs most p.world)

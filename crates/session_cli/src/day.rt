@@ -1,9 +1,12 @@
 //! The day of an endpoint: a first session, forty changes, a session that is cut half way, and a
 //! last one.
 
-ghost use Rattle.std.specs.Prelude.{◌≡◌, ◌≤◌, IfOk, OnOk};
+ghost use Rattle.std.specs.Prelude.{◌≡◌, ◌≤◌, ◌+◌, IfOk, OnOk};
 ghost use Rattle.session_world.specs.World.{World as WorldValue};
 ghost use Rattle.session_cli.specs.Day.{AreChanged, IsChanged};
+ghost use Rattle.session_cli.specs.Package.{package_content};
+ghost use Rattle.session_cli.specs.Replay.{IsEntered};
+ghost use Rattle.session_cli.specs.declared.line.Line.TheVariants as said;
 ghost use Rattle.session_cli.specs.Days.{Ends, FollowsFirst, IsMorning, PlaysDay, Steps};
 
 use crate::package::{next_number, number_of, package};
@@ -88,27 +91,48 @@ impl Day {
         requires number { number ≤ 40 }
         ensures changes { OnOk result (Steps (IsChanged count number) self.old self.new) }
     {
-        let stamp = &stamp_text(u64::from(number)).unwrap();
         match number % 4 {
-            0 => self
-                .world
-                .enter(Edit::Delete { stamp, id: number }, &mut self.told),
-            3 => {
-                let added = count + number;
-                let content = &package(alloc, added, 0, number_of(count, added))?;
-                self.world
-                    .enter(Edit::Create { stamp, content }, &mut self.told)
-            }
-            _ => {
-                let content = &package(alloc, number, number, number_of(count, number))?;
-                let edit = Edit::Alter {
-                    stamp,
-                    id: number,
-                    content,
-                };
-                self.world.enter(edit, &mut self.told)
-            }
+            0 => self.delete(number),
+            3 => self.create(alloc, count, number),
+            _ => self.alter(alloc, count, number),
         }
+    }
+
+    fn delete(&mut self, number: u32) -> Result<(), Memory>
+        requires number { number ≤ 40 }
+        ensures changes { OnOk result (Steps (IsEntered (said.Delete number) number) self.old self.new) }
+    {
+        let stamp = &stamp_text(u64::from(number)).unwrap();
+        self.world
+            .enter(Edit::Delete { stamp, id: number }, &mut self.told)
+    }
+
+    /// A package that was not there.
+    fn create(&mut self, alloc: Global, count: u32, number: u32) -> Result<(), Memory>
+        requires few { count ≤ 5000 }
+        requires number { number ≤ 40 }
+        ensures changes { OnOk result (Steps (IsEntered (said.Create (package_content count (count + number) 0)) number) self.old self.new) }
+    {
+        let stamp = &stamp_text(u64::from(number)).unwrap();
+        let added = count + number;
+        let content = &package(alloc, added, 0, number_of(count, added))?;
+        self.world
+            .enter(Edit::Create { stamp, content }, &mut self.told)
+    }
+
+    /// Another tag of a package.
+    fn alter(&mut self, alloc: Global, count: u32, number: u32) -> Result<(), Memory>
+        requires number { number ≤ 40 }
+        ensures changes { OnOk result (Steps (IsEntered (said.Alter number (package_content count number number)) number) self.old self.new) }
+    {
+        let stamp = &stamp_text(u64::from(number)).unwrap();
+        let content = &package(alloc, number, number, number_of(count, number))?;
+        let edit = Edit::Alter {
+            stamp,
+            id: number,
+            content,
+        };
+        self.world.enter(edit, &mut self.told)
     }
 
     /// A session that is cut in the middle of the report, and another.
@@ -118,7 +142,7 @@ impl Day {
         self.world.open(alloc)?;
         self.world.round(alloc, &mut self.told)?;
         let half = self.world.waiting_up().len() / 2;
-        self.world.up(alloc, half as u32, &mut self.told)?;
+        self.world.up(alloc, half, &mut self.told)?;
         self.world.cut();
         self.world.open(alloc)?;
         self.world.run(alloc, &mut self.told)

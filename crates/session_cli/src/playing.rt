@@ -157,7 +157,7 @@ impl Playing {
         ensures changes { self.new.changes ≡ self.old.changes }
     {
         let mut told: Tellings = List::new(alloc);
-        self.world.up(alloc, most, &mut told)?;
+        self.world.up(alloc, most as usize, &mut told)?;
         told_text(alloc, &told)
     }
 
@@ -166,7 +166,7 @@ impl Playing {
         ensures changes { self.new.changes ≡ self.old.changes }
     {
         let mut told: Tellings = List::new(alloc);
-        self.world.down(alloc, most, &mut told)?;
+        self.world.down(alloc, most as usize, &mut told)?;
         told_text(alloc, &told)
     }
 

@@ -62,7 +62,8 @@ fn play_on(
         let Some((line, after)) = split_once(rest, b'\n') else {
             return ended(out, at_end(alloc, number, goes_on, rest)?);
         };
-        if !play_line(alloc, playing, line, &mut out)? {
+        let is_line = play_line(alloc, playing, line, &mut out)?;
+        if !is_line {
             return ended(out, bad(alloc, number)?);
         }
         rest = after;
