@@ -1,5 +1,6 @@
 -- The words of the command line.
-use Rattle.std.specs.Prelude.{◌≡◌, ◌⊎◌, ℕ, List, [], ◌∷◌, codes}
+use Rattle.std.specs.Prelude.{◌≡◌, ◌≤◌, ◌⊎◌, ℕ, List, [], ◌∷◌, codes}
+use Rattle.std.specs.Fmt.{decimal}
 use Rattle.swima_model.specs.declared.report.Kind.{Kind}
 use Rattle.swima_model.specs.declared.report.Kind.TheVariants.{Ids, Full}
 
@@ -24,6 +25,14 @@ IsTagVerify words = words ≡ codes "tag" ∷ codes "verify" ∷ []
 abbrev pub IsLinks : List (List ℕ) → Type 0
 IsLinks words = words ≡ codes "links" ∷ []
 
+-- The word is `replay`.
+abbrev pub IsReplay : List (List ℕ) → Type 0
+IsReplay words = words ≡ codes "replay" ∷ []
+
+-- The words are `make` and a number of packages.
+abbrev pub IsMake : ℕ → List (List ℕ) → Type 0
+IsMake count words = (40 ≤ count) × (count ≤ 5000) × (words ≡ codes "make" ∷ decimal count ∷ [])
+
 -- The words are a command line.
 abbrev pub IsCommandLine : List (List ℕ) → Type 0
-IsCommandLine words = IsMirror Ids words ⊎ IsMirror Full words ⊎ IsTag words ⊎ IsTagVerify words ⊎ IsLinks words
+IsCommandLine words = IsMirror Ids words ⊎ IsMirror Full words ⊎ IsTag words ⊎ IsTagVerify words ⊎ IsLinks words ⊎ IsReplay words ⊎ ((count : ℕ) × IsMake count words)
