@@ -119,7 +119,7 @@ printed_mirror_is_right history kind octets honest answers whole =
     stream_ends history kind honest (length octets + 1) 0 (empty_mirror kind) octets (record { of_kind = refl; right = refl }) answers whole
 
 -- So it is of what a command printed.
-pub prints_right : (kind : Kind) (told left-after before after : Option (List ℕ)) (status : ℕ) → status ≡ 0 → IfSome told (λ octets. Prints true (stream_text kind octets) left-after before after status)
+pub prints_right : (kind : Kind) (told left-after before after : Option (List ℕ)) (status : ℕ) → status ≡ 0 → IfSome told (λ octets. Prints (stream_text kind octets) left-after before after status)
     → IfSome told (λ octets. (history : History) → IsHonest history → AllAnswer history kind octets → PrintsRight history kind before after)
 prints_right kind None left-after before after status good printed = tt
 prints_right kind (Some octets) left-after before after status good printed = λ history honest answers.

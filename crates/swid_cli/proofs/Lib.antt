@@ -15,3 +15,4 @@ pub mod Reading
 pub mod LinksTelling
 pub mod OneText
 pub mod OneList
+pub mod ReplayTelling

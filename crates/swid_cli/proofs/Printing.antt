@@ -1,19 +1,16 @@
 -- What the words print and read, from what their command did.
-use Rattle.std.proofs.Common.{◌≡◌, ◌≢◌, ◌⊎◌, ℕ, Bool, true, false, [], List, Option, Some, None, Result, Ok, Err, inl, inr, refl}
+use Rattle.std.proofs.Common.{◌≡◌, ◌⊎◌, ℕ, Bool, true, false, [], List, Option, Some, None, Result, Ok, Err, inl, inr, refl}
 use Rattle.std.specs.Prelude.{IfSome}
 use Rattle.std.proofs.lemmas.List.{append-nil}
 use Rattle.wire_base.specs.NamedFile.{Read}
 use Rattle.wire_base.specs.declared.outside.files.NamedFile.{NamedFile}
 use Rattle.wire_base.specs.declared.outside.stopped.Stopped.{Stopped}
-use Rattle.wire_base.specs.declared.outside.stopped.Stopped.TheVariants as stopped
 use Rattle.swima_model.specs.declared.report.Kind.{Kind}
 use Rattle.swid_cli.specs.declared.command.Command.{Command}
 use Rattle.swid_cli.specs.declared.command.Command.TheVariants as command
 use Rattle.command_text.specs.declared.ending.Ending.{Ending}
-use Rattle.command_text.specs.declared.ending.Ending.TheVariants as ending
 use Rattle.swid_cli.specs.Commands.{Says}
-use Rattle.swid_cli.specs.Made.{Made}
-use Rattle.swid_cli.specs.Printing.{CommandPrints, CommandReads, WordsBegin, WordsPrint, WordsPrinted, WordsRead, reads_input}
+use Rattle.swid_cli.specs.Printing.{CommandPrints, CommandReads, WordsBegin, WordsPrint, WordsRead}
 use Rattle.swid_cli.specs.Run.{Prints, Ran, status_of}
 use Rattle.swid_cli.specs.Stream.{Printed, stream_text}
 use Rattle.swid_cli.specs.TagReads.{TagReads}
@@ -22,14 +19,10 @@ use Rattle.swid_cli.specs.Telling.{IsTold, PrintsFront}
 module _ (words : List (List ℕ)) (files : Option (List NamedFile)) (said-command : Command) (said : Says said-command words) where
   -- All was printed, with its status.
   pub words_print : (told left-after before after : Option (List ℕ)) (status : ℕ)
-      → IfSome told (λ octets. (printed : Printed) × CommandPrints said-command files octets printed × Prints (reads_input said-command) printed left-after before after status)
-      → IfSome told (λ octets. WordsPrinted words files octets left-after before after status)
+      → IfSome told (λ octets. (printed : Printed) × CommandPrints said-command files octets printed × Prints printed left-after before after status)
+      → IfSome told (λ octets. (printed : Printed) × WordsPrint words files octets printed × Prints printed left-after before after status)
   words_print None left-after before after status prints = tt
-  words_print (Some octets) left-after before after status prints = record {
-    told = prints.0;
-    words_print = record { command = said-command; said = said; prints = prints.1 };
-    printed = prints.2;
-  }
+  words_print (Some octets) left-after before after status prints = (prints.0, record { command = said-command; said = said; prints = prints.1 }, prints.2)
 
   -- A prefix of it was printed, by a command that reads all of its input first.
   pub words_begin : (most : ℕ) (Tells : List ℕ → List ℕ → Ending → Type 0) → ((octets : List ℕ) (printed : Printed) → IsTold most Tells octets printed → CommandPrints said-command files octets printed)
@@ -40,8 +33,8 @@ module _ (words : List (List ℕ)) (files : Option (List NamedFile)) (said-comma
 
 -- What `mirror` printed is the text of the stream.
 pub mirror_prints : (kind : Kind) (told left-after before after : Option (List ℕ)) (status : ℕ)
-    → IfSome told (λ octets. Prints true (stream_text kind octets) left-after before after status)
-    → IfSome told (λ octets. (printed : Printed) × (printed ≡ stream_text kind octets) × Prints true printed left-after before after status)
+    → IfSome told (λ octets. Prints (stream_text kind octets) left-after before after status)
+    → IfSome told (λ octets. (printed : Printed) × (printed ≡ stream_text kind octets) × Prints printed left-after before after status)
 mirror_prints kind None left-after before after status prints = tt
 mirror_prints kind (Some octets) left-after before after status prints = (stream_text kind octets, refl, prints)
 
@@ -72,29 +65,3 @@ pub words_read : (words : List (List ℕ)) (which : Command) → Says which word
     → IfSome told (λ octets. CommandReads which octets result before after) → IfSome told (λ octets. WordsRead words octets status before after)
 words_read words which said None result status is before after reads = tt
 words_read words which said (Some octets) result status is before after reads = record { command = which; said = said; ended = result; shows = is; reads = reads }
-
--- ---- make
-
--- The text of a day was printed, or a prefix of it.
-pub made_prints : (count : ℕ) (told left-after before after : Option (List ℕ)) (result : Result Ending Stopped) (status : ℕ) → status ≡ status_of result → status ≢ 3 → status ≢ 4 → left-after ≡ told
-    → Made count before after result → IfSome told (λ octets. (printed : Printed) × CommandPrints (command.Make count) None octets printed × Prints false printed left-after before after status)
-made_prints count None left-after before after result status is fault memory same made = tt
-made_prints count (Some octets) left-after before after (Ok how) status is fault memory same made = (
-  record { text = made.0; ending = how; left = octets },
-  (made.1, made.2, refl),
-  record { text = made.3; ending = is; left = same; ended = λ reads. absurd (differ reads) },
-)
-  where
-    differ : false ≡ true → ⊥
-    differ same = absurd cc
-made_prints count (Some octets) left-after before after (Err stopped.Fault) status is fault memory same made = absurd (fault is)
-made_prints count (Some octets) left-after before after (Err stopped.Memory) status is fault memory same made = absurd (memory is)
-
-pub made_begins : (count : ℕ) (words : List (List ℕ)) (files : Option (List NamedFile)) → Says (command.Make count) words → (told before after : Option (List ℕ)) (result : Result Ending Stopped)
-    → Made count before after result → IfSome told (λ octets. WordsBegin words files octets before after)
-made_begins count words files said None before after result made = tt
-made_begins count words files said (Some octets) before after (Ok how) made =
-    inr (record { text = made.0; ending = how; left = octets }, record { command = command.Make count; said = said; prints = (made.1, made.2, refl) }, ([], record { front = made.0; parts = append-nil made.0; wrote = made.3 }))
-made_begins count words files said (Some octets) before after (Err stop) (inl still) = inl still
-made_begins count words files said (Some octets) before after (Err stop) (inr begun) =
-    inr (record { text = begun.0; ending = ending.Whole; left = octets }, record { command = command.Make count; said = said; prints = (begun.1, refl, refl) }, begun.2)

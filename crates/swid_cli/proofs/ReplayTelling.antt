@@ -3,9 +3,9 @@ use Rattle.std.proofs.Common.{◌≡◌, ◌<◌, ◌≤◌, inl, inr, Bool, Lis
 use Rattle.std.proofs.lemmas.Bool.{cases_lt, lt-ltb}
 use Rattle.command_text.specs.declared.ending.Ending.{Ending}
 use Rattle.command_text.specs.declared.ending.Ending.TheVariants as ending
-use Rattle.session_cli.specs.Replay.{PlaysScript, ReplayTells, SCRIPT_OCTETS}
-use Rattle.session_cli.specs.Script.{split_once}
-use Rattle.session_cli.proofs.ReplayTelling.{script_refuses}
+use Rattle.session_script.specs.Replay.{PlaysScript, ReplayTells, SCRIPT_OCTETS}
+use Rattle.session_script.specs.Script.{split_once}
+use Rattle.session_script.proofs.ReplayTelling.{script_refuses}
 use Rattle.swid_cli.proofs.Telling.{IsSound, IsWide}
 
 never : ending.Refused ≡ ending.Whole → ⊥

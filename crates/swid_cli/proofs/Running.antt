@@ -1,5 +1,5 @@
 -- How a command ended decides its status.
-use Rattle.std.proofs.Common.{◌≡◌, ◌≢◌, ℕ, true, List, Option, Some, None, Result, Ok, Err, inl, inr, ◌⊎◌, [], ◌∷◌, refl, sym, ap, ◌∙◌, arith}
+use Rattle.std.proofs.Common.{◌≡◌, ◌≢◌, ℕ, List, Option, Some, None, Result, Ok, Err, inl, inr, ◌⊎◌, [], ◌∷◌, refl, sym, ap, ◌∙◌, arith}
 use Rattle.std.specs.Prelude.{OnOk, MatchBool, IfSome, is_err, codes}
 use Rattle.wire_base.specs.declared.outside.stopped.Stopped.{Stopped}
 use Rattle.wire_base.specs.declared.outside.stopped.Stopped.TheVariants as stopped
@@ -26,18 +26,18 @@ is_whole ending.Findings zero = absurd (omega arith)
 
 -- A command that ended printed all, with its status.
 pub prints_of : (printed : Printed) (left-after before after : Option (List ℕ)) (result : Result Ending Stopped) (status : ℕ) → status ≡ status_of result → status ≢ 3 → status ≢ 4
-    → (printed.ending ≡ ending.Whole → printed.left ≡ []) → Ran printed left-after before after result → Prints true printed left-after before after status
+    → (printed.ending ≡ ending.Whole → printed.left ≡ []) → Ran printed left-after before after result → Prints printed left-after before after status
 prints_of printed left-after before after (Ok how) status is fault memory whole ran = record {
   text = ran.0;
   ending = is ∙ ap ending_status ran.1;
   left = ran.2;
-  ended = λ reads zero. ran.2 ∙ ap (λ (o : List ℕ). Some o) (whole (sym ran.1 ∙ is_whole how (sym is ∙ zero)));
+  ended = λ zero. ran.2 ∙ ap (λ (o : List ℕ). Some o) (whole (sym ran.1 ∙ is_whole how (sym is ∙ zero)));
 }
 prints_of printed left-after before after (Err stopped.Fault) status is fault memory whole ran = absurd (fault is)
 prints_of printed left-after before after (Err stopped.Memory) status is fault memory whole ran = absurd (memory is)
 
 pub prints : (kind : Kind) (told left-after before after : Option (List ℕ)) (result : Result Ending Stopped) (status : ℕ) → status ≡ status_of result → status ≢ 3 → status ≢ 4
-    → IfSome told (λ octets. Ran (stream_text kind octets) left-after before after result) → IfSome told (λ octets. Prints true (stream_text kind octets) left-after before after status)
+    → IfSome told (λ octets. Ran (stream_text kind octets) left-after before after result) → IfSome told (λ octets. Prints (stream_text kind octets) left-after before after status)
 prints kind None left-after before after result status is fault memory ran = tt
 prints kind (Some octets) left-after before after result status is fault memory ran =
     prints_of (stream_text kind octets) left-after before after result status is fault memory (nothing_left 0 (empty_mirror kind) octets) ran

@@ -92,7 +92,7 @@ module _ (most : ℕ) (Tells : List ℕ → List ℕ → Ending → Type 0) wher
   -- A command that ended printed all, with its status.
   pub ran_prints : IsSound → (told left before after : Option (List ℕ)) (result : Result Ending Stopped) (status : ℕ) → status ≡ status_of result → status ≢ 3 → status ≢ 4
       → IfSome told (λ octets. RanTelling most Tells octets left before after result)
-      → IfSome told (λ octets. (printed : Printed) × IsTold most Tells octets printed × Prints true printed left before after status)
+      → IfSome told (λ octets. (printed : Printed) × IsTold most Tells octets printed × Prints printed left before after status)
   ran_prints sound None left before after result status is fault memory ran = tt
   ran_prints sound (Some octets) left before after (Ok how) status is fault memory ran =
       (ran.0, ran.1, prints_of ran.0 left before after (Ok how) status is fault memory (nothing_left sound octets ran.0 ran.1) ran.2)

@@ -1,19 +1,17 @@
 -- What a command line prints and which files it reads, by its words, the octets of its input, and
 -- the files.
-use Rattle.std.specs.Prelude.{◌≡◌, ◌⊎◌, ℕ, Bool, true, false, List, Option, Result}
+use Rattle.std.specs.Prelude.{◌≡◌, ◌⊎◌, ℕ, true, false, List, Option, Result}
 use Rattle.wire_base.specs.NamedFile.{Read}
 use Rattle.wire_base.specs.Passing.{AddsFront}
 use Rattle.wire_base.specs.declared.outside.files.NamedFile.{NamedFile}
 use Rattle.wire_base.specs.declared.outside.stopped.Stopped.{Stopped}
 use Rattle.swid_cli.specs.declared.command.Command.{Command}
-use Rattle.swid_cli.specs.declared.command.Command.TheVariants.{Mirror, Tag, Links, Replay, Make}
+use Rattle.swid_cli.specs.declared.command.Command.TheVariants.{Mirror, Tag, Links, Replay}
 use Rattle.command_text.specs.declared.ending.Ending.{Ending}
-use Rattle.command_text.specs.declared.ending.Ending.TheVariants as ending
 use Rattle.swid_cli.specs.Commands.{Says}
-use Rattle.session_cli.specs.Day.{MakeTells}
 use Rattle.swid_cli.specs.Links.{LIST_OCTETS, LinksTells}
-use Rattle.session_cli.specs.Replay.{SCRIPT_OCTETS, ReplayTells}
-use Rattle.swid_cli.specs.Run.{Prints, status_of}
+use Rattle.session_script.specs.Replay.{SCRIPT_OCTETS, ReplayTells}
+use Rattle.swid_cli.specs.Run.{status_of}
 use Rattle.swid_cli.specs.Stream.{Printed, stream_text}
 use Rattle.swid_cli.specs.TagReads.{TagReads}
 use Rattle.swid_cli.specs.Tagging.{TAG_OCTETS, TagTells}
@@ -26,12 +24,6 @@ CommandPrints (Mirror kind) files octets printed = printed ≡ stream_text kind 
 CommandPrints (Tag looks_at_files) files octets printed = IsTold TAG_OCTETS (TagTells looks_at_files files) octets printed
 CommandPrints Links files octets printed = IsTold LIST_OCTETS LinksTells octets printed
 CommandPrints Replay files octets printed = IsTold SCRIPT_OCTETS ReplayTells octets printed
-CommandPrints (Make count) files octets printed = MakeTells count printed.text × (printed.ending ≡ ending.Whole) × (printed.left ≡ octets)
-
--- It reads its input, to the end where nothing is wrong.
-abbrev pub reads_input : Command → Bool
-reads_input (Make count) = false
-reads_input other = true
 
 -- The reads of files that a command made which ended so: `tag verify` those of the tag, and no
 -- other command any.
@@ -41,19 +33,12 @@ CommandReads (Tag false) octets ended before after = after ≡ before
 CommandReads (Mirror kind) octets ended before after = after ≡ before
 CommandReads Links octets ended before after = after ≡ before
 CommandReads Replay octets ended before after = after ≡ before
-CommandReads (Make count) octets ended before after = after ≡ before
 
 -- The words say a command, and this is what it prints.
 pub record WordsPrint (words : List (List ℕ)) (files : Option (List NamedFile)) (octets : List ℕ) (printed : Printed) : Type 0 where
   pub command : Command
   pub said : Says command words
   pub prints : CommandPrints command files octets printed
-
--- What the words print was printed whole, and a command that reads its input has read it.
-pub record WordsPrinted (words : List (List ℕ)) (files : Option (List NamedFile)) (octets : List ℕ) (left-after before after : Option (List ℕ)) (status : ℕ) : Type 0 where
-  pub told : Printed
-  pub words_print : WordsPrint words files octets told
-  pub printed : Prints (reads_input words_print.command) told left-after before after status
 
 -- Nothing was printed, or a prefix of what the words print.
 abbrev pub WordsBegin : List (List ℕ) → Option (List NamedFile) → List ℕ → Option (List ℕ) → Option (List ℕ) → Type 0

@@ -1,6 +1,6 @@
 -- What a command does. What it leaves of the input and adds to the output is said as far as these
 -- expose.
-use Rattle.std.specs.Prelude.{◌≡◌, ℕ, Bool, true, List, [], ◌∷◌, Option, Some, Result, Ok, Err, codes}
+use Rattle.std.specs.Prelude.{◌≡◌, ℕ, List, [], ◌∷◌, Option, Some, Result, Ok, Err, codes}
 use Rattle.wire_base.specs.Outside.{Adds}
 use Rattle.wire_base.specs.Passing.{AddsFront}
 use Rattle.wire_base.specs.declared.outside.stopped.Stopped.{Stopped}
@@ -33,9 +33,9 @@ Ran printed left-after before after (Ok ended) = Adds before after printed.text 
 Ran printed left-after before after (Err stop) = AddsFront before after printed.text
 
 -- All of a text was printed, with its status, and what it leaves of the input is left; at status 0
--- that is nothing, where the command reads its input.
-pub record Prints (reads_input : Bool) (printed : Printed) (left-after before after : Option (List ℕ)) (status : ℕ) : Type 0 where
+-- that is nothing.
+pub record Prints (printed : Printed) (left-after before after : Option (List ℕ)) (status : ℕ) : Type 0 where
   pub text : Adds before after printed.text
   pub ending : status ≡ ending_status printed.ending
   pub left : left-after ≡ Some printed.left
-  pub ended : reads_input ≡ true → status ≡ 0 → left-after ≡ Some []
+  pub ended : status ≡ 0 → left-after ≡ Some []

@@ -1,6 +1,5 @@
 -- The words of the command line.
-use Rattle.std.specs.Prelude.{◌≡◌, ◌≤◌, ◌⊎◌, ℕ, List, [], ◌∷◌, codes}
-use Rattle.std.specs.Fmt.{decimal}
+use Rattle.std.specs.Prelude.{◌≡◌, ◌⊎◌, ℕ, List, [], ◌∷◌, codes}
 use Rattle.swima_model.specs.declared.report.Kind.{Kind}
 use Rattle.swima_model.specs.declared.report.Kind.TheVariants.{Ids, Full}
 
@@ -29,10 +28,6 @@ IsLinks words = words ≡ codes "links" ∷ []
 abbrev pub IsReplay : List (List ℕ) → Type 0
 IsReplay words = words ≡ codes "replay" ∷ []
 
--- The words are `make` and a number of packages.
-abbrev pub IsMake : ℕ → List (List ℕ) → Type 0
-IsMake count words = (40 ≤ count) × (count ≤ 5000) × (words ≡ codes "make" ∷ decimal count ∷ [])
-
 -- The words are a command line.
 abbrev pub IsCommandLine : List (List ℕ) → Type 0
-IsCommandLine words = IsMirror Ids words ⊎ IsMirror Full words ⊎ IsTag words ⊎ IsTagVerify words ⊎ IsLinks words ⊎ IsReplay words ⊎ ((count : ℕ) × IsMake count words)
+IsCommandLine words = IsMirror Ids words ⊎ IsMirror Full words ⊎ IsTag words ⊎ IsTagVerify words ⊎ IsLinks words ⊎ IsReplay words

@@ -1,10 +1,9 @@
 //! The words of the command line.
 
-ghost use Rattle.std.specs.Prelude.{◌≡◌, ◌↔◌, ◌∷◌, [], ℕ, IsSome, IfSome, None, codes, map};
+ghost use Rattle.std.specs.Prelude.{◌≡◌, ◌↔◌, IsSome, IfSome, map};
 ghost use Rattle.swid_cli.specs.Commands.{Says};
-ghost use Rattle.swid_cli.specs.Words.{IsCommandLine, IsMake};
+ghost use Rattle.swid_cli.specs.Words.{IsCommandLine};
 
-use crate::replay::words::number_within;
 use swima_model::Kind;
 
 /// A command that waits for nobody.
@@ -20,8 +19,6 @@ pub(crate) enum Command {
     Links,
     /// `replay`: play a script of both ends of sessions.
     Replay,
-    /// `make N`: play the day of an endpoint with that many packages.
-    Make(u32),
 }
 
 /// The command that the words say; `None` exactly where they are no command line.
@@ -40,18 +37,6 @@ pub(crate) fn command_of(words: &[&str]) -> Option<Command>
         }),
         ["links"] => Some(Command::Links),
         ["replay"] => Some(Command::Replay),
-        ["make", count] => make_of(count),
         _ => None,
-    }
-}
-
-/// The command `make` with this count.
-fn make_of(count: &str) -> Option<Command>
-    ensures said { IfSome result (λ command. Says command (codes "make" ∷ count.now ∷ [])) }
-    ensures none { result ≡ None → (n : ℕ) → ¬ IsMake n (codes "make" ∷ count.now ∷ []) }
-{
-    match number_within(count.as_bytes(), 40, 5000) {
-        None => None,
-        Some(count) => Some(Command::Make(count)),
     }
 }

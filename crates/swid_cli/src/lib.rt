@@ -23,6 +23,7 @@
 //! | `mirror/supported.rt` | which attributes `mirror` takes | `Front`: `REPORT_TYPES` |
 //! | `tag.rt`, `tag/` | `tag` and `tag verify` | `Tagging`: `TagTells`; `Checking`, `TagReads` |
 //! | `links.rt`, `links/` | `links` | `Links`: `LinksTells`; `TagList` |
+//! | `replay.rt` | `replay` | `Replay` of `session_script`: `ReplayTells` |
 //! | `laws.rt` | what the definitions mean, proved | `FirstLaws`, `TagLaws`, `LinksLaws` |
 #![tactic(auto)]
 
@@ -30,6 +31,7 @@ mod command;
 pub mod laws;
 mod links;
 mod mirror;
+mod replay;
 mod run;
 mod tag;
 

@@ -2,8 +2,9 @@
 
 ghost use Rattle.std.specs.Prelude.{◌≡◌, ◌≢◌, ◌≤◌, ◌⊎◌, ◌↔◌, List, ℕ, IfSome, map};
 ghost use Rattle.swid_cli.specs.Answering.{AllAnswer, PrintsRight};
-ghost use Rattle.swid_cli.specs.Printing.{WordsBegin, WordsPrinted, WordsRead};
-ghost use Rattle.swid_cli.specs.Run.{status_of, usage};
+ghost use Rattle.swid_cli.specs.Printing.{WordsBegin, WordsPrint, WordsRead};
+ghost use Rattle.swid_cli.specs.Run.{Prints, status_of, usage};
+ghost use Rattle.swid_cli.specs.Stream.{Printed};
 ghost use Rattle.swid_cli.specs.Words.{IsCommandLine, IsMirror, IsTagVerify};
 ghost use Rattle.swima_model.specs.History.{History, IsHonest};
 ghost use Rattle.swima_model.specs.declared.report.Kind.{Kind as KindValue};
@@ -11,12 +12,11 @@ ghost use Rattle.wire_base.specs.Outside.{Adds, Rose};
 ghost use Rattle.wire_base.specs.Passing.{AddsFront};
 
 use crate::command::{Command, command_of};
-use crate::ending::Ending;
 use crate::links::links;
-use crate::make::make;
 use crate::mirror::mirror;
 use crate::replay::replay;
 use crate::tag::tag;
+use command_text::Ending;
 use std::alloc::Global;
 use wire_base::{Files, Sink, Source, Stopped, write_all};
 
@@ -53,9 +53,9 @@ pub fn run_plain<S: Source, K: Sink, F: Files>(
     // left of the input are those of the command that the words say. Where a call failed or memory
     // ran out, a prefix of the text was printed.
     ensures printed { result ≢ 2 → result ≢ 3 → result ≢ 4
-        → IfSome (S.left input.old) (λ octets.
-        WordsPrinted (map (λ word. word.now) words.now) (F.contents files.old) octets
-        (S.left input.new) (K.written output.old) (K.written output.new) result) }
+        → IfSome (S.left input.old) (λ octets. (told : Printed)
+        × WordsPrint (map (λ word. word.now) words.now) (F.contents files.old) octets told
+        × Prints told (S.left input.new) (K.written output.old) (K.written output.new) result) }
     ensures front { result ≢ 2
         → IfSome (S.left input.old) (λ octets.
         WordsBegin (map (λ word. word.now) words.now) (F.contents files.old) octets
@@ -104,7 +104,6 @@ pub fn run_plain<S: Source, K: Sink, F: Files>(
         }
         Some(Command::Links) => status(links(alloc, input, output)),
         Some(Command::Replay) => status(replay(alloc, input, output)),
-        Some(Command::Make(count)) => status(make(alloc, count, output)),
     }
 }
 

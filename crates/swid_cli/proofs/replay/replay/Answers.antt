@@ -1,6 +1,6 @@
 use Rattle.std.proofs.Common.{refl}
 use Rattle.std.proofs.lemmas.Result.{err_from_is_err_and}
-use Rattle.session_cli.specs.Replay.{SCRIPT_OCTETS, ReplayTells}
+use Rattle.session_script.specs.Replay.{SCRIPT_OCTETS, ReplayTells}
 use Rattle.swid_cli.proofs.ReplayTelling.{replay_wide}
 use Rattle.swid_cli.proofs.Telling.{ran_front, ran_nothing, ran_whole}
 use Rattle.swid_cli.proofs.replay.replay.Goals as goal

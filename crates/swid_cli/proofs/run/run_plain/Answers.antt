@@ -7,7 +7,7 @@ use Rattle.swid_cli.proofs.TagTelling.{tag_fault, tag_said, tag_sound}
 use Rattle.swid_cli.proofs.Telling.{ran_prints, ran_prints_front}
 use Rattle.swid_cli.specs.declared.command.Command.TheVariants as command
 use Rattle.swid_cli.specs.Links.{LIST_OCTETS, LinksTells}
-use Rattle.session_cli.specs.Replay.{SCRIPT_OCTETS, ReplayTells}
+use Rattle.session_script.specs.Replay.{SCRIPT_OCTETS, ReplayTells}
 use Rattle.swid_cli.specs.Tagging.{TAG_OCTETS}
 use Rattle.swid_cli.proofs.ReplayTelling.{replay_sound}
 use Rattle.swid_cli.proofs.run.run_plain.Goals as goal
