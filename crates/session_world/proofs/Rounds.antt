@@ -1,6 +1,6 @@
 -- Lines of a world, and runs.
 use Rattle.std.proofs.Common.{◌≡◌, ◌≤◌, ◌<◌, ◌-◌, ◌+◌, ◌==◌, ◌&&◌, ℕ, zero, suc, Bool, true, false, cond, List, [], ◌∷◌, ◌++◌, Option, Some, None, length, refl, sym, ap, ap₂, subst, ◌∙◌, append-nil, append_assoc, arith, inl, inr}
-use Rattle.std.specs.Prelude.{drop, min, take, ◌⊎◌}
+use Rattle.std.specs.Prelude.{drop, is_some, min, take, ◌⊎◌}
 use Rattle.std.proofs.lemmas.Bool.{cases_lt, eqb-true}
 use Rattle.std.proofs.lemmas.List.{take_all}
 use Rattle.validator_core.specs.Held.{Held}
@@ -257,3 +257,14 @@ down_carried w = by_joined w.max w.chronicle w.mirror w.joined
 
 pub round_carried : (w : World) → carried_up (round w).0 ≡ carried_up w ++ waits_up w
 round_carried w = down_carried (all_up w).0 ∙ up_carried w
+
+-- ---- whether a session is open
+
+pub open_is : (view : WorldView) (w : World) → StandsFor view w → is_some view.joined ≡ is_some w.joined
+open_is view w stands = by_joined w.max w.chronicle w.mirror view.joined w.joined stands.joined
+  where
+    by_joined : (max : ℕ) (chronicle : Chronicle) (mirror : Held) (joined : Option JoinedView) (spec : Option Joined) → JoinedBy max chronicle mirror joined spec → is_some joined ≡ is_some spec
+    by_joined max chronicle mirror None None by = refl
+    by_joined max chronicle mirror None (Some j) by = absurd by
+    by_joined max chronicle mirror (Some joined) None by = absurd by
+    by_joined max chronicle mirror (Some joined) (Some j) by = refl

@@ -1,6 +1,6 @@
 -- The world of a script: an inventory, a mirror of it, and at most one session between them, whose
 -- octets are carried by hand.
-use Rattle.std.specs.Prelude.{ℕ, false, List, [], Option, Some, None, length, drop}
+use Rattle.std.specs.Prelude.{ℕ, Bool, false, is_some, List, [], Option, Some, None, length, drop}
 use Rattle.wire_base.specs.Turns.{Turn}
 use Rattle.swima_model.specs.declared.report.Kind.{Kind}
 use Rattle.validator_core.specs.Held.{Held, empty_mirror}
@@ -40,6 +40,10 @@ pub record World : Type 0 where
 -- An inventory, an empty mirror of the kind, and no session.
 abbrev pub begun : ℕ → Chronicle → Kind → World
 begun max chronicle kind = record { max = max; chronicle = chronicle; mirror = empty_mirror kind; joined = None }
+
+-- A session is open.
+abbrev pub is_open : World → Bool
+is_open w = is_some w.joined
 
 -- ---- both ends
 

@@ -9,7 +9,7 @@ ghost use Rattle.collector_session.specs.Sizes.{MOST_ROOM};
 ghost use Rattle.session_world.specs.Lines.{again, collector_rests, cuts, downs, enters, idles, is_quiet, opens, round, runs, ups, validator_rests};
 ghost use Rattle.session_world.specs.Standing.{Does, DoesOk, StandsFor, view_down, view_up};
 ghost use Rattle.session_world.specs.Tellings.{ToldOf};
-ghost use Rattle.session_world.specs.World.{World as WorldValue, begun, carried_up, waits_down, waits_up};
+ghost use Rattle.session_world.specs.World.{World as WorldValue, begun, carried_up, is_open, waits_down, waits_up};
 
 use crate::joined::Joined;
 use crate::telling::{Telling, Tellings};
@@ -64,6 +64,16 @@ impl World {
         ensures mirror { result.now ≡ self.now.mirror }
     {
         &self.mirror
+    }
+
+    /// Whether a session is open.
+    pub fn is_open(&self) -> bool
+        ensures open { (w : WorldValue) → StandsFor self.now w → result ≡ is_open w }
+    {
+        match &self.joined {
+            None => false,
+            Some(_) => true,
+        }
     }
 
     /// Changes the inventory, or tells why it refuses the change.
