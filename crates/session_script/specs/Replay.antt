@@ -1,5 +1,5 @@
 -- What `replay` prints, of all octets of the input.
-use Rattle.std.specs.Prelude.{◌≡◌, ◌≤◌, ◌+◌, ℕ, zero, suc, Bool, true, false, List, [], ◌∷◌, ◌++◌, Option, Some, None, Result, Ok, length, take, nat_lt, codes}
+use Rattle.std.specs.Prelude.{◌≡◌, ◌≤◌, ◌+◌, ℕ, zero, suc, Bool, true, false, List, [], ◌∷◌, ◌++◌, Option, Some, None, Result, Ok, length, take, nat_lt, codes, if◌then◌else◌}
 use Rattle.std.specs.List.{flat_map}
 use Rattle.std.specs.Fmt.{decimal}
 use Rattle.hex.specs.Hex.{encode_lower}
@@ -14,7 +14,7 @@ use Rattle.session_world.specs.declared.telling.Telling.{Telling}
 use Rattle.session_world.specs.declared.telling.Telling.TheVariants.{Refused, Took, CollectorEnds, ValidatorEnds}
 use Rattle.session_world.specs.Lines as lines
 use Rattle.session_world.specs.Lines.{Told}
-use Rattle.session_world.specs.World.{World, begun, waits_down, waits_up}
+use Rattle.session_world.specs.World.{World, begun, is_open, waits_down, waits_up}
 use Rattle.command_text.specs.declared.answer.Answer.{Answer}
 use Rattle.command_text.specs.declared.ending.Ending.{Ending}
 use Rattle.command_text.specs.declared.ending.Ending.TheVariants as ending
@@ -70,7 +70,7 @@ abbrev pub octets_text : List ℕ → List ℕ
 octets_text [] = codes "-"
 octets_text (octet ∷ octets) = encode_lower (octet ∷ octets)
 
--- What waits for the validator, and for the collector.
+-- What waits for the validator, and for the collector, where a session is open.
 abbrev pub waits_text : List ℕ → List ℕ → List ℕ
 waits_text up down = text_line (codes "waits" ∷ codes "up" ∷ octets_text up ∷ []) ++ text_line (codes "waits" ∷ codes "down" ∷ octets_text down ∷ [])
 
@@ -121,7 +121,7 @@ IsPlayed p line.Run after = after ≡ told_in p.changes (lines.runs p.world)
 IsPlayed p line.Idle after = after ≡ told_in p.changes (lines.idles p.world)
 IsPlayed p line.Cut after = after ≡ told_in p.changes (lines.cuts p.world)
 IsPlayed p line.Again after = after ≡ told_in p.changes (lines.again p.world)
-IsPlayed p line.Waits after = after ≡ (p, waits_text (waits_up p.world) (waits_down p.world))
+IsPlayed p line.Waits after = after ≡ (p, if is_open p.world then waits_text (waits_up p.world) (waits_down p.world) else [])
 IsPlayed p line.Show after = after ≡ (p, mirror_text p.world.mirror)
 
 -- ---- a script

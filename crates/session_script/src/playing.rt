@@ -61,8 +61,8 @@ impl Playing {
             Line::Idle => self.idle(alloc),
             Line::Cut => Ok(self.cut(alloc)),
             Line::Again => self.again(alloc),
-            Line::Waits => waits_text(alloc, self.world.waiting_up(), self.world.waiting_down()),
-            Line::Show => mirror_text(alloc, self.world.mirror()),
+            Line::Waits => self.waits(alloc),
+            Line::Show => self.show(alloc),
         }
     }
 
@@ -195,5 +195,20 @@ impl Playing {
         let mut told: Tellings = List::new(alloc);
         self.world.again(&mut told)?;
         told_text(alloc, &told)
+    }
+
+    fn waits(&self, alloc: Global) -> Result<Octets, Memory>
+        ensures plays { IfOk result (λ text. (p : PlayingValue) → StandsFor self.now p → PlaysSo p line.Waits text self.now) }
+    {
+        if !self.world.is_open() {
+            return Ok(List::new(alloc));
+        }
+        waits_text(alloc, self.world.waiting_up(), self.world.waiting_down())
+    }
+
+    fn show(&self, alloc: Global) -> Result<Octets, Memory>
+        ensures plays { IfOk result (λ text. (p : PlayingValue) → StandsFor self.now p → PlaysSo p line.Show text self.now) }
+    {
+        mirror_text(alloc, self.world.mirror())
     }
 }
