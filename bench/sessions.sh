@@ -28,6 +28,15 @@
 #   times    how many sessions
 #   one, us  the time of one session in microseconds, alterations included: the lowest wall time of
 #            all runs, less that of runs without a later session, over how many there were
+#
+# The third table has idle turns of a collector with 16 subscriptions of 100 targets each, which
+# matched nothing. Since they were taken 4096 records were altered, and none of their targets: at
+# each turn the events are looked at once for each subscription.
+#
+# Columns:
+#   records  the records
+#   times    how many idle turns
+#   one, us  the time of one in microseconds, as in the second table
 
 set -u
 
@@ -90,3 +99,15 @@ echo
         printf "%8s %6s %6s %10s\n", "records", "events", "times", "one, us"
     }
     { printf "%8s %6s %6s %10.2f\n", $1, $2, $3, ($6 - $4) / $3 }'
+echo
+{
+    for row in '1000 100' '65536 100'; do
+        read -r records times <<<"$row"
+        printf '%s\t%s\t%s\t%s\n' "$records" "$times" "$(measure sessions looks "$records" 0)" "$(measure sessions looks "$records" "$times")"
+    done
+} | awk -F '\t' -v runs="$runs" '
+    BEGIN {
+        printf "idle turns with 16 subscriptions, lowest time of %d runs\n\n", runs
+        printf "%8s %6s %10s\n", "records", "times", "one, us"
+    }
+    { printf "%8s %6s %10.2f\n", $1, $2, ($5 - $3) / $2 }'

@@ -9,6 +9,7 @@
 //! - `sessions first RECORDS SIZE`: the first session over a book, in pieces of that many octets;
 //! - `sessions alone RECORDS`: the same report, without a session;
 //! - `sessions update RECORDS EVENTS TIMES`: that many sessions more, each after that many events;
+//! - `sessions looks RECORDS TIMES`: that many idle turns of a collector with 16 subscriptions;
 //! - `cbor read`, `cbor write`, `cbor feed SIZE`: the items on standard input, one after another;
 //! - `links read`, `links check`: the tags on standard input as a list, and the findings on it;
 //! - `tags read`, `tags write`, `tags both`: the tags on standard input, one after another.
@@ -25,6 +26,7 @@ mod book;
 mod cbor;
 mod figures;
 mod links;
+mod looks;
 mod reading;
 mod sessions;
 mod shelf;
@@ -111,6 +113,9 @@ fn figure(rt: &HostRuntime, words: &[&str]) -> Result<u64, Trouble> {
             number(events)?,
             number(times)?,
         ),
+        ["sessions", "looks", records, times] => {
+            looks::looks(rt.alloc(), number(records)?, number(times)?)
+        }
         ["cbor", "read"] => cbor::read(rt),
         ["cbor", "write"] => cbor::write(rt),
         ["cbor", "feed", piece] => cbor::feed(rt, size(piece)?),

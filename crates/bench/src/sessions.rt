@@ -93,7 +93,7 @@ pub(crate) fn updates(
 }
 
 /// A book of that many records whose log is full.
-fn full_book(alloc: Global, records: u32) -> Result<Book, Trouble> {
+pub(crate) fn full_book(alloc: Global, records: u32) -> Result<Book, Trouble> {
     let mut book = book_of(alloc, records, KEPT)?;
     alterations(alloc, &mut book, KEPT)?;
     Ok(book)

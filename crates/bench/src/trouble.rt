@@ -26,6 +26,8 @@ pub(crate) enum Trouble {
     Batch,
     /// The book refused what was asked of it.
     Book,
+    /// A session did what it was not meant to do.
+    Session,
     /// Memory ran out.
     Memory,
 }
@@ -38,6 +40,7 @@ the words are none of these:
   bench sessions first RECORDS SIZE
   bench sessions alone RECORDS
   bench sessions update RECORDS EVENTS TIMES
+  bench sessions looks RECORDS TIMES
   bench batches SIZE large|small
   bench cbor read|write
   bench cbor feed SIZE
@@ -54,6 +57,7 @@ impl fmt::Display for Trouble {
             Trouble::Tag => f.write_str("a tag was refused"),
             Trouble::Batch => f.write_str("a batch was refused"),
             Trouble::Book => f.write_str("the book refused an answer or a change"),
+            Trouble::Session => f.write_str("a session wrote, or ended, where it should wait"),
             Trouble::Memory => f.write_str("out of memory"),
         }
     }

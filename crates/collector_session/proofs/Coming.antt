@@ -1,19 +1,19 @@
 -- A step, as what the rules of a collector say to it.
-use Rattle.std.proofs.Common.{◌≡◌, ◌≢◌, false, List, [], ◌∷◌, Option, Some, None, refl, sym, ap, subst}
+use Rattle.std.proofs.Common.{◌≡◌, ◌≢◌, ℕ, false, List, [], ◌∷◌, Option, Some, None, refl, sym, ap, subst}
 use Rattle.std.specs.Prelude.{Result, Ok, Err, is_ok, is_some}
 use Rattle.pb_batch.specs.declared.batch.Batch.{Batch}
 use Rattle.pb_batch.specs.declared.fault.PbFault.{PbFault}
 use Rattle.collector_core.specs.declared.chronicle.Mark.{Mark}
 use Rattle.collector_core.specs.Chronicle.{Chronicle}
 use Rattle.session_talk.specs.Course.{Gives, Breaks}
-use Rattle.session_hear.specs.Step.{Step, Came, Faulty}
+use Rattle.session_hear.specs.Step.{Step, Came, Faulty, Quiet}
 use Rattle.session_hear.specs.Serving.{serve}
 use Rattle.session_hear.proofs.Serving.{one_breaks, one_gives}
 use Rattle.session_rules.specs.declared.end.SessionEnd.{SessionEnd}
 use Rattle.session_rules.specs.declared.end.SessionEnd.TheVariants as final
 use Rattle.session_rules.specs.Clauses.{Talked}
 use Rattle.session_rules.specs.Questions.{at_places}
-use Rattle.session_rules.specs.ServeRules.{Serves, hears, note, react, refuses, steps_unless}
+use Rattle.session_rules.specs.ServeRules.{Serves, hears, idles, note, react, refuses, steps_unless}
 use Rattle.session_rules.proofs.Desking.{talks_as}
 use Rattle.collector_session.specs.declared.end.ServeEnd.{ServeEnd}
 use Rattle.collector_session.specs.Doing.{Did, standing}
@@ -27,6 +27,9 @@ came one batch live = ap (λ (by : Option SessionEnd). steps_unless one.config (
 
 pub faulty : (one : ServeEnd) (fault : PbFault) → is_some one.standing.over ≡ false → react one.config (standing one) (Faulty fault) ≡ refuses (standing one) fault
 faulty one fault live = ap (λ (by : Option SessionEnd). steps_unless one.config (standing one) (Faulty fault) by) (not_over one.standing.over live)
+
+pub quiet : (one : ServeEnd) (turns : ℕ) → one.standing.over ≡ None → react one.config (standing one) (Quiet turns) ≡ idles one.config (standing one) turns
+quiet one turns live = ap (λ (by : Option SessionEnd). steps_unless one.config (standing one) (Quiet turns) by) live
 
 module _ {D : Type 0} (stands : D → Chronicle → Type 0) (went : D → List Mark → D → Type 0) where
   pub step_did : {T E : Type 0} (result : Result T E) (one two : ServeEnd) (first second : D) (step : Step) (talk : Serves) → react one.config (standing one) step ≡ talk → two.config ≡ one.config

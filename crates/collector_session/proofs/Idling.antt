@@ -1,65 +1,40 @@
 -- What a core does at an idle turn, at the end of its link, and as octets are carried.
-use Rattle.std.proofs.Common.{◌≡◌, ℕ, ◌+◌, ◌≤◌, ◌<◌, Bool, cond, List, [], ◌∷◌, ◌++◌, Option, Some, None, length, take, drop, refl, sym, ap, subst, subst₂, ◌∙◌, append_assoc, append-nil, arith, length-append, length-take, take-append-drop}
-use Rattle.std.proofs.lemmas.Bool.{le-leb, lt-leb}
+use Rattle.std.proofs.Common.{◌≡◌, ℕ, ◌+◌, ◌≤◌, true, false, List, [], ◌∷◌, ◌++◌, Option, Some, None, length, take, drop, refl, sym, ap, subst, subst₂, ◌∙◌, append_assoc, append-nil, arith, length-append, length-take, take-append-drop}
 use Rattle.wire_base.specs.Turns.{Turn, Idle, Ended}
-use Rattle.pb_machine.specs.declared.machine.State.{State}
-use Rattle.pb_machine.specs.declared.machine.State.TheVariants.{Init, ServerWorking, ClientWorking, Decided, End}
 use Rattle.collector_core.specs.declared.chronicle.Mark.{Mark}
-use Rattle.collector_core.specs.Chronicle.{Chronicle, extended}
-use Rattle.collector_core.specs.Desks.{entries}
+use Rattle.collector_core.specs.Chronicle.{Chronicle}
 use Rattle.session_talk.specs.Talk.{Done}
 use Rattle.session_talk.specs.Course.{Breaks, Gives}
+use Rattle.session_hear.specs.Hearing.{Hears}
 use Rattle.session_hear.specs.Step.{Cut, Quiet}
 use Rattle.session_hear.proofs.Serving.{one_gives}
 use Rattle.session_rules.specs.declared.end.SessionEnd.{SessionEnd}
 use Rattle.session_rules.specs.declared.end.SessionEnd.TheVariants as final
 use Rattle.session_rules.specs.Numbers.{counted_on}
 use Rattle.session_rules.specs.Questions.{at_places}
-use Rattle.session_rules.specs.ServeRules.{Serves, note, react, rests, session, steps_unless}
+use Rattle.session_rules.specs.ServeRules.{Serves, note, react, session, steps_unless}
 use Rattle.session_rules.specs.Serving.{ends, nothing_noted}
 use Rattle.collector_session.specs.declared.end.ServeEnd.{ServeEnd}
 use Rattle.collector_session.specs.Cores.{Core, Fell, Stands, StandsBy, Stood, Turned, cut_end, hearing, over}
-use Rattle.collector_session.specs.Doing.{standing}
-use Rattle.collector_session.proofs.Coring.{octets_more, session_gives, turned}
-use Rattle.collector_session.proofs.Pieces.{did_one, ended, rests_as}
+use Rattle.collector_session.specs.Doing.{Did, standing}
+use Rattle.collector_session.proofs.Coring.{octets_more, session_gives, turned, turned_lost}
+use Rattle.collector_session.proofs.Pieces.{ended, rests_as}
 
 -- ---- an idle turn
 
--- Without a subscription nothing is looked at.
-rests_done : (end : ServeEnd) (state : State) → rests (standing end) state ≡ Done (standing end)
-rests_done end Init = refl
-rests_done end ServerWorking = refl
-rests_done end ClientWorking = refl
-rests_done end Decided = refl
-rests_done end End = refl
+module _ {D : Type 0} (stands : D → Chronicle → Type 0) (went : D → List Mark → D → Type 0) where
+  -- What the rules say to it was done.
+  pub idle_turned : (old new : D) (before : Core) (last : ServeEnd) → over before ≡ None → Did stands went before.end old (Quiet (before.quiet + 1) ∷ []) last new true
+      → Turned stands went old new before (Idle ∷ []) (record { end = last; feed = before.feed; quiet = before.quiet + 1 })
+  idle_turned old new before last live did =
+      turned stands went old new before (record { end = last; feed = before.feed; quiet = before.quiet + 1 }) (Idle ∷ []) live did.talks did.config did.sent (omega (arith, did.received))
+      (λ none. ap (λ (n : ℕ). Hears before.feed.feeding.octets (before.quiet + 1) n) (sym did.received))
 
-stays_so : (end : ServeEnd) (turns : ℕ) → end.standing.over ≡ None → turns < end.config.idle → react end.config (standing end) (Quiet turns) ≡ Done (standing end)
-stays_so end turns live less =
-    ap (λ (by : Option SessionEnd). steps_unless end.config (standing end) (Quiet turns) by) live
-    ∙ ap (λ (b : Bool). cond b (Done (ends (standing end) (final.IdleOut turns))) (rests (standing end) end.standing.machine.state)) (lt-leb end.config.idle turns less)
-    ∙ rests_done end end.standing.machine.state
-
-idles_out : (end : ServeEnd) (turns : ℕ) → end.standing.over ≡ None → end.config.idle ≤ turns → react end.config (standing end) (Quiet turns) ≡ Done (standing (ended end (final.IdleOut turns)))
-idles_out end turns live most =
-    ap (λ (by : Option SessionEnd). steps_unless end.config (standing end) (Quiet turns) by) live
-    ∙ ap (λ (b : Bool). cond b (Done (ends (standing end) (final.IdleOut turns))) (rests (standing end) end.standing.machine.state)) (le-leb end.config.idle turns most)
-
-module _ {D : Type 0} (stands : D → Chronicle → Type 0) (went : D → List Mark → D → Type 0)
-    (stays : (desk : D) → went desk [] desk) (follows : (one two three : D) (first second : List Mark) → went one first two → went two second three → went one (first ++ second) three)
-    (carries : (old new : D) (marks : List Mark) (chronicle : Chronicle) → went old marks new → stands old chronicle → stands new (extended chronicle (entries marks))) where
-  -- The session goes on.
-  pub idle_on : (desk : D) (before : Core) → over before ≡ None → before.quiet + 1 < before.end.config.idle → Turned stands went desk desk before (Idle ∷ []) (record before { quiet = before.quiet + 1 })
-  idle_on desk before live less =
-      let so = did_one stands went stays follows carries before.end before.end desk (Quiet (before.quiet + 1)) refl refl refl refl (λ own. own) refl (stays_so before.end (before.quiet + 1) live less) in
-      turned stands went desk desk before (record before { quiet = before.quiet + 1 }) (Idle ∷ []) live so.talks refl refl (omega arith) (λ none. refl)
-
-  -- It was the last that is allowed.
-  pub idle_out : (desk : D) (before : Core) → over before ≡ None → before.end.config.idle ≤ before.quiet + 1
-      → Turned stands went desk desk before (Idle ∷ []) (record before { end = ended before.end (final.IdleOut (before.quiet + 1)); quiet = before.quiet + 1 })
-  idle_out desk before live most =
-      let after : Core = record before { end = ended before.end (final.IdleOut (before.quiet + 1)); quiet = before.quiet + 1 } in
-      let so = did_one stands went stays follows carries before.end after.end desk (Quiet (before.quiet + 1)) refl refl refl refl (λ own is. absurd cc) refl (idles_out before.end (before.quiet + 1) live most) in
-      turned stands went desk desk before after (Idle ∷ []) live so.talks refl refl (omega arith) (λ none. absurd cc)
+  -- It was done until memory ran out.
+  pub idle_lost : (old new : D) (before : Core) (last : ServeEnd) → over before ≡ None → Did stands went before.end old (Quiet (before.quiet + 1) ∷ []) last new false
+      → Turned stands went old new before (Idle ∷ []) (record { end = ended last final.Memory; feed = before.feed; quiet = before.quiet + 1 })
+  idle_lost old new before last live did =
+      turned_lost stands went old new before (record { end = ended last final.Memory; feed = before.feed; quiet = before.quiet + 1 }) (Idle ∷ []) live did.talks did.config did.sent (omega (arith, did.received)) refl
 
 -- ---- the end of a link
 

@@ -1,5 +1,9 @@
 pub mod Sizes
 pub mod Answering
+pub mod Asking
+pub mod Nexting
+pub mod Places
+pub mod Renewing
 pub mod Each
 pub mod Judging
 pub mod Telling
@@ -9,6 +13,7 @@ pub mod Coring
 pub mod Results
 pub mod Pieces
 pub mod Idling
+pub mod Looking
 pub mod Coming
 pub mod Replying
 pub mod Beginning

@@ -3,6 +3,7 @@ use Rattle.std.proofs.Common.{All, ◌≡◌, ℕ, ◌+◌, ◌≤◌, ◌<◌, 
 use Rattle.std.specs.List.{AllByRecursion}
 use Rattle.std.proofs.lemmas.List.Sums.{sum_by_push}
 use Rattle.std.proofs.lemmas.List.Elements.{All-append, All-cons, All-nil}
+use Rattle.swima_subs.specs.declared.waiting.Waiting.{Waiting}
 use Rattle.pa_attrs.specs.declared.attr.Attr.{Attr}
 use Rattle.pa_attrs.specs.declared.error.PaError.{PaError}
 use Rattle.pa_attrs.specs.AttrForm.{IsNamed}
@@ -123,6 +124,20 @@ none_grown d next attrs messages room = record {
   messages = messages;
   room = omega (arith, room);
 }
+
+-- The subscriptions of a draft do not matter to its size.
+fits_still : (d : Draft) (subs : List Waiting) (earlier : ℕ) → Fits d → Fits (record d { subs = subs; earlier = earlier })
+fits_still d subs earlier fits = (fits.0, fits.1, record { few = fits.2.few; named = fits.2.named; count = fits.2.count; valid = fits.2.valid; room = fits.2.room; size = fits.2.size })
+
+pub grown_after : (old mid next : Draft) (subs : List Waiting) (earlier : ℕ) → mid ≡ record old { subs = subs; earlier = earlier } → Grown mid next → Grown old next
+grown_after old mid next subs earlier is grown =
+    let so : Grown (record old { subs = subs; earlier = earlier }) next = subst (λ (m : Draft). Grown m next) is grown in
+    record {
+      fits = λ less fits. so.fits less (fits_still old subs earlier fits);
+      few = so.few;
+      messages = so.messages;
+      room = so.room;
+    }
 
 -- ---- a message that is closed
 

@@ -1,7 +1,6 @@
 -- What the calls of a core do, in the words of the calls.
-use Rattle.std.proofs.Common.{◌≡◌, ◌≢◌, ℕ, ◌+◌, ◌-◌, ◌≤◌, ◌<◌, Bool, true, false, List, [], ◌∷◌, ◌++◌, Option, Some, None, inl, inr, length, take, refl, sym, ap, subst, subst₂, ◌∙◌, arith}
+use Rattle.std.proofs.Common.{◌≡◌, ◌≢◌, ℕ, ◌+◌, ◌-◌, ◌≤◌, ◌<◌, Bool, true, false, List, [], ◌∷◌, ◌++◌, Option, Some, None, length, take, refl, sym, ap, subst, subst₂, ◌∙◌, arith}
 use Rattle.std.specs.Prelude.{is_some, min}
-use Rattle.std.proofs.lemmas.Bool.{cases_lt}
 use Rattle.std.proofs.lemmas.List.{take_all, take_min}
 use Rattle.wire_base.specs.Turns.{Idle, turns_of}
 use Rattle.wire_base.specs.Feeding.{More}
@@ -11,8 +10,10 @@ use Rattle.collector_core.specs.declared.chronicle.Mark.{Mark}
 use Rattle.collector_core.specs.Chronicle.{Chronicle, extended}
 use Rattle.collector_core.specs.Desks.{entries}
 use Rattle.session_talk.specs.Course.{Gives}
+use Rattle.session_hear.specs.Step.{Quiet}
 use Rattle.session_hear.specs.Hearing.{Hears, heard_from, heard_octets}
 use Rattle.session_hear.specs.Serving.{serve}
+use Rattle.session_rules.specs.declared.config.ServeConfig.{ServeConfig}
 use Rattle.session_rules.specs.declared.end.SessionEnd.{SessionEnd}
 use Rattle.session_rules.specs.declared.end.SessionEnd.TheVariants as final
 use Rattle.session_rules.specs.Questions.{at_places}
@@ -22,7 +23,7 @@ use Rattle.collector_session.specs.declared.end.ServeEnd.{ServeEnd}
 use Rattle.collector_session.specs.Cores.{Core, IsCore, Turned, hearing, over, used}
 use Rattle.collector_session.specs.Doing.{Did, IsReady, standing}
 use Rattle.collector_session.proofs.Coring.{turned}
-use Rattle.collector_session.proofs.Idling.{idle_on, idle_out}
+use Rattle.collector_session.proofs.Idling.{idle_lost, idle_turned}
 use Rattle.collector_session.proofs.Pieces.{Spends, ended, piece_core, piece_lost, piece_turned, took}
 
 -- What is there is one.
@@ -53,29 +54,23 @@ with_taken end taken = record end { standing = record end.standing { «record» 
 
 -- ---- an idle turn
 
--- The last that is allowed ends the session.
-pub record Rests (before last : ServeEnd) (turns : ℕ) : Type 0 where
-  pub out : before.config.idle ≤ turns → last ≡ ended before (final.IdleOut turns)
-  pub on : turns < before.config.idle → last ≡ before
-
+-- The core after it.
 abbrev pub rested : Core → ServeEnd → ℕ → Core
 rested before last turns = record { end = last; feed = before.feed; quiet = turns }
 
-pub rested_core : (before : Core) (last : ServeEnd) (turns : ℕ) → IsCore before → over before ≡ None → Rests before.end last turns → IsCore (rested before last turns)
-rested_core before last turns core live rests =
-    elim (cases_lt turns before.end.config.idle) [
-      | inl less ↦ subst (λ (e : ServeEnd). IsCore (rested before e turns)) (sym (rests.on less)) (record {
-        server = core.server;
-        torn = core.torn;
-        ready = core.ready;
-        feeding = core.feeding;
-        room = core.room;
-        patient = λ none. less;
-        taken = core.taken;
-        own = core.own;
-      })
-      | inr most ↦ subst (λ (e : ServeEnd). IsCore (rested before e turns)) (sym (rests.out most)) (over_core before.end (final.IdleOut turns) before.feed turns core.server core.torn core.taken (λ is. absurd cc))
-    ]
+pub rested_core : (before : Core) (last : ServeEnd) (turns : ℕ) → IsCore before → over before ≡ None → last.config ≡ before.end.config → last.standing.record.received ≡ before.end.standing.record.received
+    → last.standing.record.taken ≡ before.end.standing.record.taken → (over before ≢ Some final.LinkFault → last.standing.over ≢ Some final.LinkFault)
+    → (last.standing.over ≡ None → IsReady last) → (last.standing.over ≡ None → turns < before.end.config.idle) → IsCore (rested before last turns)
+rested_core before last turns core live config received taken own ready patient = record {
+  server = core.server;
+  torn = core.torn;
+  ready = ready;
+  feeding = λ none. core.feeding live;
+  room = λ none. omega (arith, core.room live, received, ap (λ (c : ServeConfig). c.octets) config);
+  patient = λ none. omega (arith, patient none, ap (λ (c : ServeConfig). c.idle) config);
+  taken = taken ∙ core.taken;
+  own = own core.own;
+}
 
 -- ---- what is used of a piece
 
@@ -98,19 +93,16 @@ module _ {D : Type 0} (stands : D → Chronicle → Type 0) (went : D → List M
       subst (λ (xs : List ℕ). Turned stands went desk desk core (turns_of xs) core) (sym (take_all (core.end.config.octets - core.end.standing.record.received) [] (omega arith))) (none_turned desk core live)
   empty_turned desk core (octet ∷ octets) none live = absurd (omega (arith, none))
 
-  next_turned : (desk : D) (before : Core) (last : ServeEnd) → over before ≡ None → Rests before.end last (before.quiet + 1) → Turned stands went desk desk before (Idle ∷ []) (rested before last (before.quiet + 1))
-  next_turned desk before last live rests =
-      elim (cases_lt (before.quiet + 1) before.end.config.idle) [
-        | inl less ↦
-            subst (λ (e : ServeEnd). Turned stands went desk desk before (Idle ∷ []) (rested before e (before.quiet + 1))) (sym (rests.on less)) (idle_on stands went stays follows carries desk before live less)
-        | inr most ↦
-            subst (λ (e : ServeEnd). Turned stands went desk desk before (Idle ∷ []) (rested before e (before.quiet + 1))) (sym (rests.out most)) (idle_out stands went stays follows carries desk before live most)
-      ]
+  pub rested_turned : (old new : D) (before : Core) (last : ServeEnd) (turns : ℕ) → turns ≡ before.quiet + 1 → over before ≡ None → Did stands went before.end old (Quiet turns ∷ []) last new true
+      → Turned stands went old new before (Idle ∷ []) (rested before last turns)
+  rested_turned old new before last turns is live did =
+      subst (λ (n : ℕ). Did stands went before.end old (Quiet n ∷ []) last new true → Turned stands went old new before (Idle ∷ []) (rested before last n)) (sym is) (λ so. idle_turned stands went old new before last live so) did
 
-  pub rested_turned : (desk : D) (before : Core) (last : ServeEnd) (turns : ℕ) → turns ≡ before.quiet + 1 → over before ≡ None → Rests before.end last turns
-      → Turned stands went desk desk before (Idle ∷ []) (rested before last turns)
-  rested_turned desk before last turns is live rests =
-      subst (λ (n : ℕ). Rests before.end last n → Turned stands went desk desk before (Idle ∷ []) (rested before last n)) (sym is) (λ next. next_turned desk before last live next) rests
+  pub rested_lost : (old new : D) (before : Core) (last : ServeEnd) (turns : ℕ) → turns ≡ before.quiet + 1 → over before ≡ None → Did stands went before.end old (Quiet turns ∷ []) last new false
+      → Turned stands went old new before (Idle ∷ []) (rested before (ended last final.Memory) turns)
+  rested_lost old new before last turns is live did =
+      subst (λ (n : ℕ). Did stands went before.end old (Quiet n ∷ []) last new false → Turned stands went old new before (Idle ∷ []) (rested before (ended last final.Memory) n)) (sym is)
+      (λ so. idle_lost stands went old new before last live so) did
 
   -- ---- a piece
 

@@ -2,6 +2,8 @@ pub mod Standing
 pub mod Sizes
 pub mod Words
 pub mod Answers
+pub mod Renewing
+pub mod Looking
 pub mod Drafting
 pub mod Doing
 pub mod DoingLaws

@@ -9,16 +9,16 @@ use Rattle.collector_session.specs.declared.standing.Standing.{Standing}
 
 -- Before the session.
 abbrev pub not_begun : Standing
-not_begun = record { machine = record { role = Client; state = Init }; numbered = 0; «record» = record { points = []; taken = []; errors = []; reports = 0; sent = 0; received = 0 }; over = None }
+not_begun = record { machine = record { role = Client; state = Init }; subs = []; numbered = 0; «record» = record { points = []; taken = []; errors = []; reports = 0; sent = 0; received = 0 }; over = None }
 
 -- What is noted, without the octets that were given and taken.
 abbrev pub notes_of : SessionRecord → Notes
 notes_of r = record { points = r.points; errors = r.errors; reports = r.reports }
 
--- The standing. No subscription is held.
+-- The standing.
 abbrev pub stand_of : Standing → Stand
-stand_of s = record { machine = s.machine; subs = []; numbered = s.numbered; notes = notes_of s.record; over = s.over }
+stand_of s = record { machine = s.machine; subs = s.subs; numbered = s.numbered; notes = notes_of s.record; over = s.over }
 
 -- The batch that is being written.
 abbrev pub draft_of : Draft → DraftStand
-draft_of d = record { subs = []; earlier = 0; room = d.room; attrs = d.attrs; messages = d.messages; numbered = d.numbered; points = d.points; errors = d.errors }
+draft_of d = record { subs = d.subs; earlier = d.earlier; room = d.room; attrs = d.attrs; messages = d.messages; numbered = d.numbered; points = d.points; errors = d.errors }

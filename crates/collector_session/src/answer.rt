@@ -1,6 +1,6 @@
 //! What a collector answers to a request (RFC 8412, sections 3.3 and 3.8).
 
-ghost use Rattle.std.specs.Prelude.{◌≡◌, ◌≤◌, OnOk, Some, true};
+ghost use Rattle.std.specs.Prelude.{◌≡◌, ◌≤◌, OnOk, Some};
 ghost use Rattle.pa_attrs.specs.declared.error_code.PaErrorCode.TheVariants as code;
 ghost use Rattle.collector_session.specs.Answers.{Answered, IsTold};
 ghost use Rattle.collector_session.specs.Sizes.{Grown, MOST_ROOM};
@@ -15,9 +15,10 @@ use collector_core::{Answer, Desk};
 use pa_attrs::PaErrorCode;
 use std::alloc::Global;
 use swima_request::Request;
+use swima_subs::SubAnswer;
 use wire_base::Memory;
 
-/// Answers a request. A subscription is denied.
+/// Answers a request. One whose subscription is refused is not asked of the desk.
 pub(crate) fn want<D: Desk>(
     alloc: Global,
     desk: &mut D,
@@ -28,24 +29,20 @@ pub(crate) fn want<D: Desk>(
     ensures drafted { Drafted D.stands D.went desk.old desk.new (wants (draft_of draft.old) request.now) (draft_of draft.new) result }
     ensures grown { OnOk result (Grown draft.old draft.new) }
 {
-    if request.subscribe {
-        return deny(alloc, draft, request);
+    let applied = draft.apply(request);
+    match applied {
+        SubAnswer::Taken => ask(alloc, desk, draft, request),
+        SubAnswer::Reused { id } => {
+            draft.put_error(alloc, PaErrorCode::SwimaSubscriptionIdReuseError, id, None)
+        }
+        SubAnswer::Denied { .. } => draft.put_error(
+            alloc,
+            PaErrorCode::SwimaSubscriptionDeniedError,
+            request.id,
+            None,
+        ),
+        SubAnswer::Memory => Err(Memory),
     }
-    ask(alloc, desk, draft, request)
-}
-
-/// Denies the subscription of a request: none is held.
-fn deny(alloc: Global, draft: &mut Draft, request: &Request) -> Result<(), Memory>
-    requires subscribes { request.now.subscribe ≡ true }
-    ensures denied { OnOk result (wants (draft_of draft.old) request.now ≡ Done (draft_of draft.new)) }
-    ensures grown { OnOk result (Grown draft.old draft.new) }
-{
-    draft.put_error(
-        alloc,
-        PaErrorCode::SwimaSubscriptionDeniedError,
-        request.id,
-        None,
-    )
 }
 
 /// Answers a request by what the desk says.
@@ -75,15 +72,27 @@ fn put_answer(
     ensures grown { OnOk result (Grown draft.old draft.new) }
 {
     match reply {
-        Answer::Report(report) => draft.put_report(alloc, report),
-        Answer::TooLarge { max, .. } => put_too_large(alloc, draft, request.id, *max),
+        Answer::Report(report) => {
+            draft.keep_place(request, report);
+            draft.put_report(alloc, report)
+        }
+        Answer::TooLarge { max, .. } => {
+            draft.give_up(request);
+            put_too_large(alloc, draft, request.id, *max)
+        }
         Answer::Memory => Err(Memory),
     }
 }
 
 /// Reports that a report would be too large.
-fn put_too_large(alloc: Global, draft: &mut Draft, id: u32, most: u32) -> Result<(), Memory>
+pub(crate) fn put_too_large(
+    alloc: Global,
+    draft: &mut Draft,
+    id: u32,
+    most: u32,
+) -> Result<(), Memory>
     ensures put { OnOk result (draft_of draft.new ≡ puts_error (draft_of draft.old) code.SwimaResponseTooLargeError id (Some most)) }
+    ensures subs { OnOk result (draft.new.subs ≡ draft.old.subs) }
     ensures grown { OnOk result (Grown draft.old draft.new) }
 {
     draft.put_error(

@@ -1,10 +1,11 @@
 //! The batch that a collector is writing.
 
 ghost use Rattle.std.specs.Prelude.{◌≡◌, ◌≤◌, ◌<◌, ◌∷◌, ◌++◌, [], OnOk, length};
-ghost use Rattle.collector_session.specs.Sizes.{Closed, Fits, Grown};
+ghost use Rattle.collector_session.specs.Answers.{AppliesTo};
+ghost use Rattle.collector_session.specs.Sizes.{Closed, Fits, Grown, MOST_ROOM};
 ghost use Rattle.collector_session.specs.Standing.{draft_of};
 ghost use Rattle.pb_batch.specs.Form.{BATCH_MESSAGES};
-ghost use Rattle.session_rules.specs.Answering.{closed, point_in, puts_error, puts_report, puts_status};
+ghost use Rattle.session_rules.specs.Answering.{closed, earlier_left, gives_up, keeps_place, point_in, puts_error, puts_report, puts_status, reach_of};
 ghost use Rattle.swima_model.specs.Reports.{FitsAttribute};
 ghost use Rattle.swima_model.specs.Size.{report_size};
 
@@ -16,17 +17,17 @@ use std::alloc::Global;
 use std::mem;
 use swima_model::{Point, Report};
 use swima_reports::{report_type, size_of, write_report};
+use swima_request::{Request, SUBSCRIPTION_STATUS_RESPONSE, status_fits, write_status};
+use swima_subs::{SubAnswer, Subs};
 use wire_base::{List, Memory};
-
-/// The attribute type of the requests of the subscriptions (RFC 8412, section 5.2).
-const SUBSCRIPTION_STATUS_RESPONSE: u32 = 19;
-
-/// The value of that attribute where no subscription is held: no flags, and a count of 0.
-const NO_SUBSCRIPTIONS: [u8; 4] = [0, 0, 0, 0];
 
 /// A batch that is being written. What is noted of it is noted once it waits.
 #[derive(Debug, Drop)]
 pub(crate) struct Draft {
+    /// The subscriptions.
+    pub(crate) subs: Subs,
+    /// How many of them are of earlier batches.
+    pub(crate) earlier: usize,
     /// The most octets that the values of further reports may have.
     pub(crate) room: u32,
     /// The attributes that answer the message that is being answered.
@@ -42,17 +43,46 @@ pub(crate) struct Draft {
 }
 
 impl Draft {
-    /// The batch before the first answer. It takes no memory.
-    pub(crate) fn new(alloc: Global, room: u32, numbered: u32) -> Self
-        ensures made { result ≡ record { room = room; attrs = []; messages = []; numbered = numbered; points = []; errors = [] } }
+    /// The batch before the first answer, where these subscriptions are held. It takes no memory.
+    pub(crate) fn new(alloc: Global, subs: Subs, room: u32, numbered: u32) -> Self
+        ensures made { result ≡ record { subs = subs; earlier = length subs; room = room; attrs = []; messages = []; numbered = numbered; points = []; errors = [] } }
     {
+        let earlier = subs.len();
         Draft {
+            subs,
+            earlier,
             room,
             attrs: List::new(alloc),
             messages: List::new(alloc),
             numbered,
             points: List::new(alloc),
             errors: List::new(alloc),
+        }
+    }
+
+    /// Applies a request to the subscriptions (RFC 8412, sections 3.8.1 and 3.8.3).
+    pub(crate) fn apply(&mut self, request: &Request) -> SubAnswer
+        ensures applied { AppliesTo self.old request.now result self.new }
+    {
+        self.earlier = earlier_left(self.earlier, request.clear);
+        self.subs.apply(request)
+    }
+
+    /// A new subscription is fulfilled as far as the report that answers its request.
+    pub(crate) fn keep_place(&mut self, request: &Request, report: &Report)
+        ensures kept { self.new ≡ record self.old { subs = keeps_place request.now (reach_of report.now) self.old.subs } }
+    {
+        if request.subscribe {
+            self.subs.reported(request.id, reach_of(report));
+        }
+    }
+
+    /// A new subscription ends where the report is too large that answers its request.
+    pub(crate) fn give_up(&mut self, request: &Request)
+        ensures ended { self.new ≡ record self.old { subs = gives_up request.now self.old.subs } }
+    {
+        if request.subscribe {
+            self.subs.end(request.id);
         }
     }
 
@@ -65,6 +95,7 @@ impl Draft {
         most: Option<u32>,
     ) -> Result<(), Memory>
         ensures put { OnOk result (draft_of self.new ≡ puts_error (draft_of self.old) code id most) }
+        ensures subs { OnOk result (self.new.subs ≡ self.old.subs) }
         ensures grown { OnOk result (Grown self.old self.new) }
     {
         let error = PaError::swima(alloc, code.number(), id, most)?;
@@ -76,6 +107,7 @@ impl Draft {
         requires fits { FitsAttribute report.now }
         requires room { report_size report.now ≤ self.old.room }
         ensures put { OnOk result (draft_of self.new ≡ puts_report (draft_of self.old) report.now) }
+        ensures subs { OnOk result (self.new.subs ≡ self.old.subs) }
         ensures grown { OnOk result (Grown self.old self.new) }
     {
         let value = write_report(alloc, report)?;
@@ -85,20 +117,21 @@ impl Draft {
         Ok(())
     }
 
-    /// Puts the requests of the subscriptions, of which none is held (RFC 8412, section 5.12).
+    /// Puts the requests of the subscriptions, where they have room (RFC 8412, section 5.12).
     pub(crate) fn put_status(&mut self, alloc: Global) -> Result<(), Memory>
+        requires room { self.old.room ≤ MOST_ROOM }
         ensures put { OnOk result (draft_of self.new ≡ puts_status (draft_of self.old)) }
         ensures grown { OnOk result (Grown self.old self.new) }
     {
-        if self.room < NO_SUBSCRIPTIONS.len() as u32 {
+        let requests = self.subs.status(alloc)?;
+        if !status_fits(&requests, self.room) {
             let most = Some(self.room);
             return self.put_error(alloc, PaErrorCode::SwimaResponseTooLargeError, 0, most);
         }
-        let value = List::from_slice(alloc, &NO_SUBSCRIPTIONS)?;
+        let value = write_status(alloc, &requests)?;
+        self.room -= value.len() as u32;
         self.attrs
-            .push(attribute(SUBSCRIPTION_STATUS_RESPONSE, value))?;
-        self.room -= NO_SUBSCRIPTIONS.len() as u32;
-        Ok(())
+            .push(attribute(SUBSCRIPTION_STATUS_RESPONSE, value))
     }
 
     /// Notes the code of an Error that was heard.
@@ -127,6 +160,13 @@ impl Draft {
     }
 }
 
+/// How many subscriptions of earlier batches are left after a request.
+fn earlier_left(earlier: usize, clear: bool) -> usize
+    ensures left { result ≡ earlier_left earlier clear }
+{
+    if clear { 0 } else { earlier }
+}
+
 /// The point that a report names.
 fn point_of(report: &Report) -> Point
     ensures point { result ≡ point_in report.now }
@@ -134,5 +174,22 @@ fn point_of(report: &Report) -> Point
     match report {
         Report::Inventory { point, .. } => *point,
         Report::Events { point, .. } => *point,
+    }
+}
+
+/// How far a subscription is fulfilled that a report answers.
+pub(crate) fn reach_of(report: &Report) -> Point
+    ensures reach { result ≡ reach_of report.now }
+{
+    match report {
+        Report::Inventory { point, .. } => *point,
+        Report::Events {
+            point,
+            consulted,
+            ..
+        } => Point {
+            epoch: point.epoch,
+            eid: *consulted,
+        },
     }
 }

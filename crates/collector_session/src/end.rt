@@ -1,8 +1,11 @@
 //! A collector as the rules of an end.
 
-ghost use Rattle.std.specs.Prelude.{◌≡◌, ◌≢◌, ◌<◌, ◌≤◌, None, Some};
+ghost use Rattle.std.specs.Prelude.{◌≡◌, ◌≢◌, ◌<◌, ◌∷◌, [], None, OnOk, Some, is_ok};
+ghost use Rattle.collector_session.specs.Doing.{Did, IsReady};
+ghost use Rattle.session_hear.specs.Step.{Quiet};
 ghost use Rattle.session_rules.specs.declared.end.SessionEnd.TheVariants as end;
 
+use crate::look::rest;
 use crate::rules;
 use crate::standing::Standing;
 use collector_core::Desk;
@@ -82,17 +85,31 @@ impl ServeEnd {
         }
     }
 
-    /// Ends the session with the last idle turn that is allowed. No subscription is looked at: none
-    /// is held.
-    pub(crate) fn rest(&mut self, turns: u32)
-        ensures last { self.old.config.idle ≤ turns → self.new ≡ record self.old { standing = record self.old.standing { over = Some (end.IdleOut turns) } } }
-        ensures on { turns < self.old.config.idle → self.new ≡ self.old }
+    /// An idle turn, with that many since the last octet.
+    pub(crate) fn rest<D: Desk>(
+        &mut self,
+        alloc: Global,
+        desk: &mut D,
+        turns: u32,
+    ) -> Result<(), Memory>
+        requires live { self.old.standing.over ≡ None }
+        requires ready { IsReady self.old }
+        ensures did { Did D.stands D.went self.old desk.old (Quiet turns ∷ []) self.new desk.new (is_ok result) }
+        ensures ready { OnOk result (self.new.standing.over ≡ None → IsReady self.new) }
+        ensures patient { OnOk result (self.new.standing.over ≡ None → turns < self.old.config.idle) }
         ensures config { self.new.config ≡ self.old.config }
         ensures received { self.new.standing.record.received ≡ self.old.standing.record.received }
+        ensures taken { self.new.standing.record.taken ≡ self.old.standing.record.taken }
+        ensures own { self.old.standing.over ≢ Some end.LinkFault → self.new.standing.over ≢ Some end.LinkFault }
     {
-        if self.config.idle <= turns {
-            self.standing.over = Some(SessionEnd::IdleOut { turns });
-        }
+        rest(
+            alloc,
+            desk,
+            &self.config,
+            &mut self.standing,
+            &mut self.out,
+            turns,
+        )
     }
 
     /// What is noted of the session.

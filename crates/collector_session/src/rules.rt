@@ -24,6 +24,8 @@ use pb_machine::Machine;
 use session_rules::{ServeConfig, SessionEnd, Verdict};
 use session_words::verdict_of;
 use std::alloc::Global;
+use std::mem;
+use swima_subs::Subs;
 use wire_base::{List, Memory, Octets};
 
 /// A session begins with an empty CDATA.
@@ -151,7 +153,8 @@ fn reply<D: Desk>(
     ensures taken { standing.new.record.taken ≡ standing.old.record.taken }
     ensures own { standing.old.over ≢ Some end.LinkFault → standing.new.over ≢ Some end.LinkFault }
 {
-    let draft = draft_batch(alloc, desk, config, standing.numbered, messages)?;
+    let subs = mem::replace(&mut standing.subs, Subs::new(alloc));
+    let draft = draft_batch(alloc, desk, config, subs, standing.numbered, messages)?;
     write_draft(alloc, standing, out, draft)
 }
 
@@ -174,6 +177,7 @@ fn write_draft(
     ensures own { standing.old.over ≢ Some end.LinkFault → standing.new.over ≢ Some end.LinkFault }
 {
     let Draft {
+        subs,
         messages,
         numbered,
         points,
@@ -181,6 +185,7 @@ fn write_draft(
         ..
     } = draft;
     write(alloc, &mut standing.machine, out, Cdata, messages)?;
+    standing.subs = subs;
     standing.numbered = numbered;
     standing.record.errors.extend(errors.as_slice())?;
     standing.record.points.extend(points.as_slice())?;
@@ -189,7 +194,7 @@ fn write_draft(
 }
 
 /// Writes a batch of the kind, which may be sent.
-fn write(
+pub(crate) fn write(
     alloc: Global,
     machine: &mut Machine,
     out: &mut Octets,

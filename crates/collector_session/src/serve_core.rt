@@ -112,32 +112,33 @@ impl ServeCore {
     }
 
     /// Hears an idle turn.
-    pub fn idle<D: Desk>(&mut self, _alloc: Global, desk: &mut D) -> Turn
-        ensures over { IfSome (over self.old) (λ by. (result ≡ turn.Over by) × (self.new ≡ self.old)) }
+    pub fn idle<D: Desk>(&mut self, alloc: Global, desk: &mut D) -> Turn
+        ensures over { IfSome (over self.old) (λ by. (result ≡ turn.Over by) × (self.new ≡ self.old) × (desk.new ≡ desk.old)) }
         ensures turned { over self.old ≡ None → Turned D.stands D.went desk.old desk.new self.old (Idle ∷ []) self.new }
         ensures turn { result ≡ turn_of (over self.new) }
         ensures less { over self.new ≡ None → weight self.new < weight self.old }
         ensures config { self.new.end.config ≡ self.old.end.config }
-        ensures desk { desk.new ≡ desk.old }
     {
         if let Some(end) = self.end.standing.over {
             return Turn::Over(end);
         }
-        self.rest(desk);
+        self.rest(alloc, desk);
         self.turn()
     }
 
     /// Hears an idle turn in a session that is not over.
-    fn rest<D: Desk>(&mut self, _desk: &mut D)
+    fn rest<D: Desk>(&mut self, alloc: Global, desk: &mut D)
         requires live { over self.old ≡ None }
-        ensures turned { Turned D.stands D.went _desk.old _desk.new self.old (Idle ∷ []) self.new }
+        ensures turned { Turned D.stands D.went desk.old desk.new self.old (Idle ∷ []) self.new }
         ensures less { weight self.new < weight self.old }
         ensures config { self.new.end.config ≡ self.old.end.config }
-        ensures desk { _desk.new ≡ _desk.old }
     {
         let turns = idle_more(self.quiet, self.end.config.idle);
         self.quiet = turns;
-        self.end.rest(turns);
+        match self.end.rest(alloc, desk, turns) {
+            Ok(()) => (),
+            Err(Memory) => self.end.standing.over = Some(SessionEnd::Memory),
+        }
     }
 
     /// Hears that the link has ended.

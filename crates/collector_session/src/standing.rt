@@ -6,12 +6,15 @@ ghost use Rattle.collector_session.specs.Standing.{not_begun};
 use pb_machine::Machine;
 use session_rules::{SessionEnd, SessionRecord};
 use std::alloc::Global;
+use swima_subs::Subs;
 
-/// How a collector stands. It holds no subscription.
+/// How a collector stands.
 #[derive(Debug, Drop)]
 pub(crate) struct Standing {
     /// Its state machine.
     pub(crate) machine: Machine,
+    /// The subscriptions.
+    pub(crate) subs: Subs,
     /// The number of the last PA-TNC message.
     pub(crate) numbered: u32,
     /// What is noted of the session.
@@ -27,6 +30,7 @@ impl Standing {
     {
         Standing {
             machine: Machine::client(),
+            subs: Subs::new(alloc),
             numbered: 0,
             record: SessionRecord::new(alloc),
             over: None,

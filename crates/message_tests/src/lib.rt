@@ -19,4 +19,6 @@ mod request_tests;
 #[cfg(test)]
 mod status_tests;
 #[cfg(test)]
+mod subs_tests;
+#[cfg(test)]
 mod written_tests;

@@ -4,3 +4,5 @@ pub mod Ends
 pub mod AnySession
 pub mod Meaning
 pub mod Wanted
+pub mod Running
+pub mod Placing

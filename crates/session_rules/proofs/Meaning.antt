@@ -7,7 +7,7 @@ use Rattle.session_talk.specs.Course.{Gives}
 use Rattle.session_talk.specs.Given.{given, placed}
 use Rattle.session_talk.proofs.Breaking.{breaks_continue}
 use Rattle.session_talk.proofs.Computed.{given_gives, gives_given}
-use Rattle.session_talk.proofs.Outcomes.{gives_one, breaks_agree}
+use Rattle.session_talk.proofs.Outcomes.{gives_one}
 use Rattle.session_rules.specs.FollowRules.{earliest_of}
 use Rattle.session_rules.specs.FollowRules as following
 use Rattle.session_rules.specs.Meaning.{OneOutcome, LaterEntriesChangeNothing, LaterEntriesChangeNoPart, ServedIsSo, ServedIsASession, ServedPartContinues, FollowedIsSo, FollowedIsASession, FollowedPartContinues, MarkedAsksForAll}

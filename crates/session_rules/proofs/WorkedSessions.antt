@@ -1,9 +1,12 @@
 -- The worked sessions compute.
 use Rattle.std.proofs.Common.{refl}
+use Rattle.std.proofs.lemmas.Bool.{cond-false, le-ltb}
+use Rattle.std.specs.Prelude.{length}
 use Rattle.wire_base.specs.Numbers.{octets_of}
 use Rattle.wire_base.specs.Reading.{several, counted}
 use Rattle.wire_base.specs.Stamp.{is_stamp, digits}
 use Rattle.wire_base.specs.Written.{written as written_fields}
+use Rattle.pb_batch.specs.Form.{BATCH_MESSAGES}
 use Rattle.pb_batch.specs.Front.{front_of, messages_of}
 use Rattle.pb_batch.specs.Written.{written, written_message}
 use Rattle.pa_attrs.specs.Faults.{message_header}
@@ -11,7 +14,8 @@ use Rattle.pa_attrs.specs.MessageReading.{message_of, attributes}
 use Rattle.pa_attrs.specs.ErrorForm.{read_error}
 use Rattle.swima_request.specs.RequestForm.{read_fields, read_request}
 use Rattle.swima_reports.specs.ReportReading.{read_body, read_origin, read_software, read_record, read_event, read_inventory, read_events}
-use Rattle.session_rules.specs.Worked.{InventoryIsServed, InventoryIsAdopted, OtherVersionIsRefused, HeaderIsTorn, DoubledIsAskedThrice, TurnsAreTaken, SubscriptionIsDenied, SubscriptionIsFulfilled, SubscriptionIsFollowed}
+use Rattle.session_rules.specs.Worked.{InventoryIsServed, InventoryIsAdopted, OtherVersionIsRefused, HeaderIsTorn, DoubledIsAskedThrice, TurnsAreTaken, SubscriptionIsFulfilled, SubscriptionIsFollowed}
+use Rattle.session_rules.specs.WorkedSubscriptions.{ClearingIsTaken, SubscriptionIsDenied, SubscriptionIsReused, SubscriptionIsTaken, SubscriptionWaits, SubscriptionsAreListed}
 use Rattle.session_rules.specs.WorkedEnds.{IdleTurnsEnd, LastOctetsEnd, PeerEnds, RequestsAreAnswered, RetriesAreHeard, RetriesCross, TooLargeIsAnswered, ValidatorAnswers, ValidatorEnds, ValidatorHearsErrors, ValidatorRetries, WantedReportsEnd}
 use Rattle.session_rules.specs.WorkedFaults.{FaultsAreRefused, FaultsAreRefusedByValidator, LastMessageIsRefused, FaultsAreAnswered, LastAttributeIsAnswered, CutsAreTorn}
 
@@ -39,9 +43,33 @@ pub turns_are_taken : TurnsAreTaken
 unfolding front_of messages_of written written_message written_fields octets_of several counted message_header message_of attributes read_error read_request read_fields
 turns_are_taken = record { begun_up = refl; begun_down = refl; asked_up = refl; asked_down = refl; answered_up = refl; answered_down = refl }
 
+pub subscription_is_taken : SubscriptionIsTaken
+unfolding front_of messages_of written written_message written_fields octets_of several counted message_header message_of attributes read_error read_request read_fields
+subscription_is_taken = refl
+
 pub subscription_is_denied : SubscriptionIsDenied
 unfolding front_of messages_of written written_message written_fields octets_of several counted message_header message_of attributes read_error read_request read_fields
 subscription_is_denied = refl
+
+pub subscription_is_reused : SubscriptionIsReused
+unfolding front_of messages_of written written_message written_fields octets_of several counted message_header message_of attributes read_error read_request read_fields
+subscription_is_reused = refl
+
+pub clearing_is_taken : ClearingIsTaken
+unfolding front_of messages_of written written_message written_fields octets_of several counted message_header message_of attributes read_error read_request read_fields
+clearing_is_taken = record { full = refl; same = refl; none = refl }
+
+pub subscriptions_are_listed : SubscriptionsAreListed
+unfolding front_of messages_of written written_message written_fields octets_of several counted message_header message_of attributes read_error read_request read_fields
+subscriptions_are_listed = record { listed = refl; large = refl }
+
+pub subscription_waits : SubscriptionWaits
+unfolding front_of messages_of written written_message written_fields octets_of several counted message_header message_of attributes read_error read_request read_fields
+subscription_waits = record {
+  beside = refl;
+  alone = refl;
+  full = λ c d many. cond-false _ _ _ (le-ltb (length d.messages) BATCH_MESSAGES many);
+}
 
 pub subscription_is_fulfilled : SubscriptionIsFulfilled
 unfolding front_of messages_of written written_message written_fields octets_of several counted message_header message_of attributes read_error read_request read_fields

@@ -8,6 +8,10 @@ use Rattle.swima_model.specs.Fulfilling.{fulfilling}
 use Rattle.swima_model.specs.Size.{report_size}
 use Rattle.swima_request.specs.declared.request.Request.{Request}
 use Rattle.swima_request.specs.RequestForm.{read_request}
+use Rattle.swima_subs.specs.declared.sub_answer.SubAnswer.{SubAnswer}
+use Rattle.swima_subs.specs.declared.sub_answer.SubAnswer.TheVariants as sub
+use Rattle.swima_subs.specs.declared.waiting.Waiting.{Waiting}
+use Rattle.swima_subs.specs.Subscriptions.{applied, reported, ended, next_request, status}
 use Rattle.pa_attrs.specs.declared.attr.Attr.{Attr}
 use Rattle.pa_attrs.specs.declared.attr.PlacedAttr.{PlacedAttr}
 use Rattle.pa_attrs.specs.declared.error.PaError.{PaError}
@@ -24,10 +28,9 @@ use Rattle.session_rules.specs.declared.config.ServeConfig.{ServeConfig}
 use Rattle.session_rules.specs.declared.word.CollectorWord.{CollectorWord as Word}
 use Rattle.session_rules.specs.declared.word.CollectorWord.TheVariants.{Wants, AsksStatus, Failure}
 use Rattle.session_rules.specs.Numbers.{next_number}
-use Rattle.swima_request.specs.AttributeTypes.{SWIMA_REQUEST, SUBSCRIPTION_STATUS_RESPONSE}
+use Rattle.swima_request.specs.AttributeTypes.{SWIMA_REQUEST, SUBSCRIPTION_STATUS_REQUEST, SUBSCRIPTION_STATUS_RESPONSE}
 use Rattle.session_rules.specs.Messages.{attribute, error_attribute, report_attribute, pa_message}
 use Rattle.session_rules.specs.Saying.{Said, Says, Refused, says, swima_body}
-use Rattle.session_rules.specs.Subscriptions.{Waiting, SubAnswer, Taken, Reused, Denied, applied, reported, ended, next_request, status}
 use Rattle.swima_request.specs.StatusForm.{written_status, status_octets}
 use Rattle.session_rules.specs.Questions.{Question, Reply, AskAnswer, AskMoved, AskPoint}
 use Rattle.session_rules.specs.Serving.{Stand, Draft, draft}
@@ -39,10 +42,9 @@ Drafting = Talk Question Reply (Unit {0}) Draft
 
 -- ---- what a message says
 
--- The attribute types that a collector supports. While it takes no subscriptions, requests for
--- their status are not among them.
+-- The attribute types that a collector supports.
 abbrev pub SUPPORTED : List ℕ
-SUPPORTED = ERROR ∷ SWIMA_REQUEST ∷ []
+SUPPORTED = ERROR ∷ SWIMA_REQUEST ∷ SUBSCRIPTION_STATUS_REQUEST ∷ []
 
 -- A value that was read, as a word.
 abbrev pub means : {A : Type 0} → (A → Word) → Result A ℕ → Result Word ℕ
@@ -131,10 +133,12 @@ answered d request (answer.TooLarge size most) = puts_error (record d { subs = g
 answered d request answer.Memory = d
 
 -- A request, by what is said of its subscription. One that is refused is not asked of the desk.
+-- What is said is never that memory ran out.
 abbrev pub taken : Draft → Request → SubAnswer → Drafting
-taken d request Taken = Ask (AskAnswer request d.room) (λ reply. Done (answered d request reply))
-taken d request (Reused id) = Done (puts_error d code.SwimaSubscriptionIdReuseError id None)
-taken d request (Denied held) = Done (puts_error d code.SwimaSubscriptionDeniedError request.id None)
+taken d request sub.Taken = Ask (AskAnswer request d.room) (λ reply. Done (answered d request reply))
+taken d request (sub.Reused id) = Done (puts_error d code.SwimaSubscriptionIdReuseError id None)
+taken d request (sub.Denied held) = Done (puts_error d code.SwimaSubscriptionDeniedError request.id None)
+taken d request sub.Memory = Done d
 
 -- Of the subscriptions of earlier batches none is left after a request that clears all.
 abbrev pub earlier_left : ℕ → Bool → ℕ
@@ -167,25 +171,34 @@ answers_message d message = answers_body d (swima_body message)
 
 -- ---- subscriptions of earlier batches (section 3.8.5)
 
--- The desk's answer. What is too large even with all room of a batch ends the subscription, and
--- else it waits for the next batch.
-abbrev pub renewed : ServeConfig → Draft → Request → Answer → Draft
-renewed c d request (answer.Report report) = puts_report (record d { subs = reported d.subs request.id (reach_of report) }) (fulfilling report)
-renewed c d request (answer.TooLarge size most) =
-    if d.room == c.max then puts_error (record d { subs = ended d.subs request.id }) code.SwimaResponseTooLargeError request.id (Some most) else d
-renewed c d request answer.Memory = d
+-- The desk's answer for the subscription of the ID. What is too large even with all room of a batch
+-- ends the subscription, and else it waits for the next batch.
+abbrev pub renewed : ServeConfig → Draft → ℕ → Answer → Draft
+renewed c d id (answer.Report report) = puts_report (record d { subs = reported d.subs id (reach_of report) }) (fulfilling report)
+renewed c d id (answer.TooLarge size most) = if d.room == c.max then puts_error (record d { subs = ended d.subs id }) code.SwimaResponseTooLargeError id (Some most) else d
+renewed c d id answer.Memory = d
 
--- A subscription, by whether anything has changed since the point up to which it was fulfilled.
-abbrev pub renews_if : ServeConfig → Draft → Request → Point → Bool → Drafting
-renews_if c d request place true = Ask AskPoint (λ now. Ask (AskAnswer (next_request request place now) d.room) (λ reply. Done (renewed c d request reply)))
-renews_if c d request place false = Done d
+-- The next request of a subscription, where anything has changed since the point up to which it was
+-- fulfilled.
+abbrev pub Nexting : Type 0
+Nexting = Talk Question Reply (Unit {0}) (Option Request)
 
-abbrev pub renews_from : ServeConfig → Draft → Request → Option Point → Drafting
-renews_from c d request (Some place) = Ask (AskMoved place request.targets) (λ moved. renews_if c d request place moved)
-renews_from c d request None = Done d
+abbrev pub next_if : Request → Point → Bool → Nexting
+next_if request place true = Ask AskPoint (λ now. Done (Some (next_request request place now)))
+next_if request place false = Done None
 
+abbrev pub next_of : Request → Option Point → Nexting
+next_of request (Some place) = Ask (AskMoved place request.targets) (λ moved. next_if request place moved)
+next_of request None = Done None
+
+-- The desk is asked for what answers it.
+abbrev pub renews_by : ServeConfig → Draft → Option Request → Drafting
+renews_by c d (Some request) = Ask (AskAnswer request d.room) (λ reply. Done (renewed c d request.id reply))
+renews_by c d None = Done d
+
+-- A subscription.
 abbrev pub renews_one : ServeConfig → Draft → Waiting → Drafting
-renews_one c d held = renews_from c d held.request held.place
+renews_one c d held = and_then (next_of held.request held.place) (λ next. renews_by c d next)
 
 -- All of them, in one message after the answers. Where the answers are as many messages as a batch
 -- has at most, they wait for the next batch.

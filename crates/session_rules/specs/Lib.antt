@@ -2,7 +2,6 @@ pub mod Numbers
 pub mod Verdict
 pub mod Messages
 pub mod Saying
-pub mod Subscriptions
 pub mod Questions
 pub mod Serving
 pub mod Answering
@@ -15,7 +14,9 @@ pub mod Clauses
 pub mod Vectors
 pub mod Worked
 pub mod WorkedFaults
+pub mod WorkedSubscriptions
 pub mod WorkedEnds
 pub mod Meaning
 pub mod AnySession
 pub mod Wanted
+pub mod SubRun

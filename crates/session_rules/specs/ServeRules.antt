@@ -4,6 +4,7 @@ use Rattle.std.specs.Prelude.{◌==◌, ℕ, Bool, true, false, List, [], ◌∷
 use Rattle.wire_base.specs.Turns.{Turn}
 use Rattle.swima_model.specs.declared.report.Point.{Point}
 use Rattle.swima_request.specs.declared.request.Request.{Request}
+use Rattle.swima_subs.specs.declared.waiting.Waiting.{Waiting}
 use Rattle.pb_batch.specs.declared.batch.Batch.{Batch}
 use Rattle.pb_batch.specs.declared.batch.Message.{Message}
 use Rattle.pb_batch.specs.declared.fault.PbFault.{PbFault}
@@ -23,7 +24,6 @@ use Rattle.session_rules.specs.Messages.{client_batch}
 use Rattle.session_rules.specs.declared.verdict.Verdict.{Verdict}
 use Rattle.session_rules.specs.declared.verdict.Verdict.TheVariants.{PassesOver, Refuses, EndsBy, GoesOn}
 use Rattle.session_rules.specs.Verdict.{verdict}
-use Rattle.session_rules.specs.Subscriptions.{Waiting}
 use Rattle.session_rules.specs.Questions.{Question, Reply, AskMoved}
 use Rattle.session_rules.specs.Serving.{Notes, Stand, Draft, begin, ends, with_errors, with_reports}
 use Rattle.session_rules.specs.Answering.{drafts}
@@ -91,23 +91,32 @@ hears c s batch = judged c (record s { machine = (received s.machine batch.kind)
 
 -- ---- an idle turn
 
+-- A talk about whether something has changed. It writes nothing.
+abbrev pub Looking : Type 0
+Looking = Talk Question Reply (Unit {0}) Bool
+
+-- Whether something has changed since the point up to which a subscription was fulfilled.
+abbrev pub looks_from : Request → Option Point → Looking
+looks_from request None = Done false
+looks_from request (Some place) = Ask (AskMoved place request.targets) (λ moved. Done moved)
+
+-- So of some subscription: the desk is asked of them in order, until one has moved.
+abbrev pub looks_on : Looking → Bool → Looking
+looks_on later true = Done true
+looks_on later false = later
+
+abbrev pub looks : List Waiting → Looking
+looks [] = Done false
+looks (held ∷ subs) = and_then (looks_from held.request held.place) (λ moved. looks_on (looks subs) moved)
+
 -- Where some subscription has moved it writes an empty CRETRY (RFC 8412, section 3.8.5).
-abbrev pub retries_if : Stand → Serves → Bool → Serves
-retries_if s rest true = Write (written (client_batch kinds.Cretry [])) (Done (sends s kinds.Cretry))
-retries_if s rest false = rest
-
-abbrev pub looks_from : Stand → Serves → Request → Option Point → Serves
-looks_from s rest request None = rest
-looks_from s rest request (Some place) = Ask (AskMoved place request.targets) (λ moved. retries_if s rest moved)
-
--- The desk is asked of the subscriptions in order, until one has moved.
-abbrev pub looks : Stand → List Waiting → Serves
-looks s [] = Done s
-looks s (held ∷ subs) = looks_from s (looks s subs) held.request held.place
+abbrev pub retries_if : Stand → Bool → Serves
+retries_if s true = Write (written (client_batch kinds.Cretry [])) (Done (sends s kinds.Cretry))
+retries_if s false = Done s
 
 -- Nothing is looked at in states other than Decided.
 abbrev pub rests : Stand → State → Serves
-rests s Decided = looks s s.subs
+rests s Decided = and_then (quietly (looks s.subs)) (λ moved. retries_if s moved)
 rests s other = Done s
 
 -- The session ends with the last idle turn that is allowed, at which nothing is looked at.

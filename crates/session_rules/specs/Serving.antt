@@ -1,6 +1,7 @@
 -- How a collector stands in a session, and the batch that it is writing.
 use Rattle.std.specs.Prelude.{ℕ, List, [], ◌++◌, Option, Some, None, length}
 use Rattle.swima_model.specs.declared.report.Point.{Point}
+use Rattle.swima_subs.specs.declared.waiting.Waiting.{Waiting}
 use Rattle.pa_attrs.specs.declared.attr.Attr.{Attr}
 use Rattle.pb_batch.specs.declared.batch.Message.{Message}
 use Rattle.pb_batch.specs.declared.kind.BatchKind.TheVariants as kinds
@@ -10,7 +11,6 @@ use Rattle.pb_machine.specs.Table.{Position, sent}
 use Rattle.session_rules.specs.declared.config.ServeConfig.{ServeConfig}
 use Rattle.session_rules.specs.declared.end.SessionEnd.{SessionEnd}
 use Rattle.session_rules.specs.Numbers.{counted_on}
-use Rattle.session_rules.specs.Subscriptions.{Waiting}
 
 -- What is noted of the session: the points of the reports that were written, the codes of the
 -- Errors that were heard, and how many reports were written.

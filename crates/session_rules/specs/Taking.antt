@@ -38,10 +38,9 @@ Drafting = Talk NoQuestion NoReply Notes Draft
 
 -- ---- what a message says
 
--- The attribute types that a validator supports. While it asks for no status of subscriptions, such
--- lists are not among them.
+-- The attribute types that a validator supports.
 abbrev pub SUPPORTED : List ℕ
-SUPPORTED = ERROR ∷ SOFTWARE_IDENTIFIER_INVENTORY ∷ SOFTWARE_IDENTIFIER_EVENTS ∷ SOFTWARE_INVENTORY ∷ SOFTWARE_EVENTS ∷ []
+SUPPORTED = ERROR ∷ SOFTWARE_IDENTIFIER_INVENTORY ∷ SOFTWARE_IDENTIFIER_EVENTS ∷ SOFTWARE_INVENTORY ∷ SOFTWARE_EVENTS ∷ SUBSCRIPTION_STATUS_RESPONSE ∷ []
 
 -- A value that was read, as a word.
 abbrev pub means : {A : Type 0} → (A → Word) → Result A ℕ → Result Word ℕ

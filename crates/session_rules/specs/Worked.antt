@@ -17,16 +17,10 @@ use Rattle.validator_core.specs.Held.{empty_mirror}
 use Rattle.session_rules.specs.declared.config.FollowConfig.{FollowConfig}
 use Rattle.session_rules.specs.declared.config.ServeConfig.{ServeConfig}
 use Rattle.session_rules.specs.declared.end.SessionEnd.TheVariants as end
-use Rattle.session_talk.specs.Given.{given}
-use Rattle.session_hear.specs.Step.{Step}
-use Rattle.session_hear.specs.Hearing.{heard}
-use Rattle.session_hear.specs.Serving.{serve}
-use Rattle.session_rules.specs.Questions.{at_places}
-use Rattle.session_rules.specs.Serving.{Stand, begin, nothing_noted}
-use Rattle.session_rules.specs.ServeRules.{react, note}
+use Rattle.session_rules.specs.Serving.{Stand, begin}
 use Rattle.session_rules.specs.Following.{TakenReport, Stand as FollowStand, begin as begin_following}
 use Rattle.session_rules.specs.Transcripts.{served, followed}
-use Rattle.session_rules.specs.Vectors.{empty_cdata, first_request, second_request, third_request, no_records, result, close, record_twice, other_version, version_refused, torn_header, subscription, denied, empty_sdata, empty_cretry, one_event}
+use Rattle.session_rules.specs.Vectors.{empty_cdata, first_request, second_request, third_request, no_records, result, close, record_twice, other_version, version_refused, torn_header, subscription, empty_sdata, empty_cretry, one_event}
 
 -- A collector without software, in epoch 7.
 abbrev pub no_software : Chronicle
@@ -167,21 +161,7 @@ subscribing = record many_rounds { subscribe = true }
 abbrev pub subscribed : Request
 subscribed = record { clear = false; subscribe = true; kind = Ids; id = 1; earliest = 0; targets = [] }
 
--- A request for one is denied.
-abbrev pub after_denying : Stand
-after_denying = record {
-  machine = record { role = role.Client; state = state.ServerWorking };
-  subs = [];
-  numbered = 1;
-  notes = nothing_noted;
-  over = None;
-}
-
-abbrev pub SubscriptionIsDenied : Type 0
-SubscriptionIsDenied = served no_software serving (turns_of subscription) [] ≡ (empty_cdata ++ denied, after_denying)
-
--- A collector that held one all the same, fulfilled up to the time before the creation, once the
--- validator has decided.
+-- A collector that took it before the creation, once the validator has decided.
 abbrev pub before_creation : Stand
 before_creation = record {
   machine = record { role = role.Client; state = state.Decided };
@@ -191,8 +171,8 @@ before_creation = record {
   over = None;
 }
 
--- At an idle turn after the creation it writes a CRETRY, and then the event, which fulfils the
--- subscription.
+-- The session of a collector that takes the request before the creation, and has an idle turn after
+-- it. At that it writes a CRETRY, and then the event, which fulfils the subscription.
 abbrev pub after_fulfilling : Stand
 after_fulfilling = record {
   machine = record { role = role.Client; state = state.Decided };
@@ -202,12 +182,9 @@ after_fulfilling = record {
   over = None;
 }
 
--- What it hears: an idle turn, and then an SDATA without a request and a RESULT.
-abbrev pub fulfilling_steps : List Step
-fulfilling_steps = (heard true 4294967295 (Idle ∷ turns_of (empty_sdata ++ result))).0
-
 abbrev pub SubscriptionIsFulfilled : Type 0
-SubscriptionIsFulfilled = given (at_places one_software) 1 (serve (react serving) note before_creation fulfilling_steps) [] ≡ (empty_cretry ++ one_event, after_fulfilling)
+SubscriptionIsFulfilled = served one_software serving (turns_of (subscription ++ result) ++ Idle ∷ turns_of (empty_sdata ++ result)) (0 ∷ [])
+    ≡ (empty_cdata ++ (no_records ++ (empty_cretry ++ one_event)), after_fulfilling)
 
 -- The validator adopts the first report and follows the second, and does not ask again.
 abbrev pub after_following : FollowStand

@@ -5,9 +5,11 @@ ghost use Rattle.session_rules.specs.AnySession.{StaysRightInParts, StaysRightIn
 ghost use Rattle.session_rules.specs.Meaning.{FollowedIsASession, FollowedIsSo, FollowedPartContinues, LaterEntriesChangeNoPart, LaterEntriesChangeNothing};
 ghost use Rattle.session_rules.specs.Meaning.{MarkedAsksForAll, OneOutcome, ServedIsASession, ServedIsSo, ServedPartContinues};
 ghost use Rattle.session_rules.specs.Wanted.{RequestsAreWanted};
-ghost use Rattle.session_rules.specs.Worked.{DoubledIsAskedThrice, HeaderIsTorn, InventoryIsAdopted, InventoryIsServed, OtherVersionIsRefused, SubscriptionIsDenied, SubscriptionIsFollowed, SubscriptionIsFulfilled, TurnsAreTaken};
+ghost use Rattle.session_rules.specs.SubRun.{PlacesFollowReports, ReportsGoOn, SuccessiveReports};
+ghost use Rattle.session_rules.specs.Worked.{DoubledIsAskedThrice, HeaderIsTorn, InventoryIsAdopted, InventoryIsServed, OtherVersionIsRefused, SubscriptionIsFollowed, SubscriptionIsFulfilled, TurnsAreTaken};
 ghost use Rattle.session_rules.specs.WorkedEnds.{IdleTurnsEnd, LastOctetsEnd, PeerEnds, RequestsAreAnswered, RetriesAreHeard, RetriesCross, TooLargeIsAnswered};
 ghost use Rattle.session_rules.specs.WorkedEnds.{ValidatorAnswers, ValidatorEnds, ValidatorHearsErrors, ValidatorRetries, WantedReportsEnd};
+ghost use Rattle.session_rules.specs.WorkedSubscriptions.{ClearingIsTaken, SubscriptionIsDenied, SubscriptionIsReused, SubscriptionIsTaken, SubscriptionWaits, SubscriptionsAreListed};
 ghost use Rattle.session_rules.specs.WorkedFaults.{CutsAreTorn, FaultsAreAnswered, FaultsAreRefused, FaultsAreRefusedByValidator, LastAttributeIsAnswered, LastMessageIsRefused};
 
 /// At the same places of a chronicle a collector writes the same octets, and stands the same.
@@ -53,6 +55,22 @@ pub fn followed_is_a_session()
 /// A session of a validator that broke off is the beginning of one that goes to its end.
 pub fn followed_part_continues()
     ensures law { FollowedPartContinues }
+{}
+
+/// A report that is put for a subscription sets its place to what the report consulted, and nothing
+/// else changes a place.
+pub fn places_follow_reports()
+    ensures law { PlacesFollowReports }
+{}
+
+/// A report of events goes on from a place of its epoch with all that match, none skipped or doubled.
+pub fn reports_go_on()
+    ensures law { ReportsGoOn }
+{}
+
+/// Of two successive reports of events in one epoch, the later goes on where the earlier stopped.
+pub fn successive_reports()
+    ensures law { SuccessiveReports }
 {}
 
 /// While the mark of its mirror is set, each request of a validator is for the inventory.
@@ -105,12 +123,38 @@ pub fn turns_are_taken()
     ensures law { TurnsAreTaken }
 {}
 
-/// A collector denies a subscription.
+/// A collector takes a subscription, and answers its request.
+pub fn subscription_is_taken()
+    ensures law { SubscriptionIsTaken }
+{}
+
+/// It denies the 17th.
 pub fn subscription_is_denied()
     ensures law { SubscriptionIsDenied }
 {}
 
-/// A collector that holds a subscription fulfils it after an idle turn.
+/// It refuses a subscription whose ID is held.
+pub fn subscription_is_reused()
+    ensures law { SubscriptionIsReused }
+{}
+
+/// It takes both where the request clears the subscriptions first.
+pub fn clearing_is_taken()
+    ensures law { ClearingIsTaken }
+{}
+
+/// A collector says which subscriptions it holds, or that the answer is too large.
+pub fn subscriptions_are_listed()
+    ensures law { SubscriptionsAreListed }
+{}
+
+/// A subscription waits for the next batch where its report has no room beside others, or where the
+/// answers are as many messages as a batch may have. It ends where its report is too large by itself.
+pub fn subscription_waits()
+    ensures law { SubscriptionWaits }
+{}
+
+/// A collector that took a subscription fulfils it after an idle turn.
 pub fn subscription_is_fulfilled()
     ensures law { SubscriptionIsFulfilled }
 {}

@@ -5,10 +5,6 @@
 //! session is a talk (`session_talk`) that follows from what the end hears (`session_hear`). The
 //! crates above have the calls that make these talks.
 //!
-//! A collector takes no subscription yet: it denies each (`specs/Subscriptions.antt`). Neither end
-//! supports the attributes about their status. The rules that go over the subscriptions that are
-//! held are whole.
-//!
 //! | file | what it holds |
 //! |---|---|
 //! | `config.rt`, `end.rt`, `record.rt` | how a session is configured, ended, and was noted |
@@ -20,16 +16,16 @@
 //! | `Numbers` | the numbers that sessions write and count |
 //! | `Verdict` | what an end does with a batch before it looks into it |
 //! | `Saying`, `Messages` | what a PA-TNC message says, and what is written of one |
-//! | `Subscriptions` | the subscriptions of a session |
 //! | `Questions` | what a collector asks its desk |
 //! | `Serving`, `Answering`, `ServeRules` | the collector: its standing, its answers, its rules |
 //! | `Following`, `Taking`, `FollowRules` | the validator: its standing, what it takes, its rules |
 //! | `Transcripts` | octets, record and end of a session, as functions of its turns |
 //! | `Clauses` | what a call says that goes on with a session |
 //! | `Meaning` | what the transcripts mean: one outcome, whole and broken-off sessions |
+//! | `SubRun` | the run of a subscription's reports, by its place |
 //! | `AnySession` | a mirror that follows an honest collector stays right |
 //! | `Wanted` | each request of a validator asks for what its mirror wants |
-//! | `Vectors`, `Worked`, `WorkedFaults`, `WorkedEnds` | worked sessions |
+//! | `Vectors`, `Worked`, `WorkedFaults`, `WorkedSubscriptions`, `WorkedEnds` | worked sessions |
 //!
 //! Each worked session is an exchange of octets that was written by hand, and computes to what the
 //! rules say. `proofs/Desking.antt` has what proofs of calls need, over any desk.

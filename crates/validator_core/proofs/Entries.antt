@@ -13,6 +13,7 @@ use Rattle.swima_model.proofs.Living.{strict_from, strict_rest}
 use Rattle.swima_model.proofs.Places.{Climbs, climbed, climbs, from_right}
 use Rattle.swima_model.proofs.Rises.{AllFrom}
 use Rattle.validator_core.specs.Keyed.{AreBelow, AreKeyed, Entries, at, kept}
+use Rattle.validator_core.specs.Merged.{Filled}
 
 -- ---- entries from a number on
 
@@ -56,7 +57,7 @@ from_each n (e ∷ es) keyed up h =
           (subst (λ (k : ℕ). AllFrom (suc k) (ids (values_of es))) (sym own) (strict_from e.1.id (ids (values_of es)) up)),
     )
 
-from_zero : (ns : List ℕ) → AllFrom 0 ns
+pub from_zero : (ns : List ℕ) → AllFrom 0 ns
 from_zero [] = tt
 from_zero (n ∷ ns) = (omega arith, from_zero ns)
 
@@ -181,12 +182,15 @@ put_last_is r (e ∷ es) below =
 pub values_put : (r : Record) (es : Entries) → AreBelow r.id es → values_of (insert_entry eqb es r.id r) ≡ values_of es ++ r ∷ []
 values_put r es below = ap (λ (l : Entries). values_of l) (put_last_is r es below) ∙ map-append (λ (e : ℕ × Record). e.1) es ((r.id, r) ∷ [])
 
--- The next of records that rise is put after those that are there.
-pub record Filled (records : List Record) (made : Entries) (rest : List Record) (spare : ℕ) : Type 0 where
-  pub keyed : AreKeyed made
-  pub all : values_of made ++ rest ≡ records
-  pub room : length rest ≤ spare
+-- None of the records is put in yet.
+pub filled_none : (all : List Record) (made : Entries) (rest : List Record) (spare : ℕ) → made ≡ [] → rest ≡ all → length rest ≤ spare → Filled all made rest spare
+filled_none all made rest spare none same room = record {
+  keyed = subst AreKeyed (sym none) (keyed_from 0 [] tt);
+  all = ap (λ (l : Entries). values_of l ++ rest) none ∙ same;
+  room = room;
+}
 
+-- The next of records that rise is put after those that are there.
 pub filled_one : (all : List Record) (made after : Entries) (r : Record) (rest : List Record) (spare left : ℕ) → IsStrictlyIncreasing (ids all)
     → Filled all made (r ∷ rest) spare → after ≡ insert_entry eqb made r.id r → spare ≤ left + 1 → Filled all after rest left
 filled_one all made after r rest spare left up h put used =

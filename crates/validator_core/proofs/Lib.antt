@@ -6,6 +6,7 @@ pub mod Growing
 pub mod InPlace
 pub mod Judging
 pub mod Mentioning
+pub mod Merging
 pub mod Misfits
 pub mod Numbered
 pub mod Righting

@@ -8,6 +8,7 @@ pub mod Judge
 pub mod Kept
 pub mod Keyed
 pub mod Mentions
+pub mod Merged
 pub mod Right
 pub mod Want
 pub mod Weighed

@@ -1,18 +1,20 @@
 //! Records that are put in order anew, after events of some that fall among the others.
 
-ghost use Rattle.std.specs.Prelude.{◌≡◌, ◌≤◌, ◌+◌, ◌∷◌, List, IfOk, OnOk, length};
-ghost use Rattle.std.specs.List.Sorted.{IsNonDecreasingBy, IsPermutation, IsStrictlyIncreasing};
-ghost use Rattle.std.specs.Vec.{vec_capacity, vec_len};
-ghost use Rattle.indexmap.specs.IndexMap.{index_map_len, values};
+ghost use Rattle.std.specs.Prelude.{◌≡◌, ◌≤◌, ◌+◌, ◌∷◌, [], false, List, IfOk, OnOk, reverse};
+ghost use Rattle.std.specs.List.Sorted.{IsStrictlyIncreasing};
+ghost use Rattle.std.specs.Vec.{vec_len};
+ghost use Rattle.indexmap.specs.IndexMap.{index_map_len, spare, values};
 ghost use Rattle.swima_model.specs.declared.event.Event.{Event as EventValue};
 ghost use Rattle.swima_model.specs.declared.record.Record.{Record as RecordValue};
 ghost use Rattle.swima_model.specs.InOrder.{ids};
 ghost use Rattle.swima_model.specs.Live.{live};
 ghost use Rattle.validator_core.specs.Anew.{HasRoom};
+ghost use Rattle.validator_core.specs.Gone.{NoneDeletes};
 ghost use Rattle.validator_core.specs.Keyed.{AreKeyed};
 ghost use Rattle.validator_core.specs.Mentions.{AreOf};
 
-use crate::keyed::{Keyed, fill, move_to};
+use crate::keyed::Keyed;
+use crate::merge::merge;
 use indexmap::IndexMap;
 use std::alloc::Global;
 use std::collections::BTreeSet;
@@ -20,49 +22,40 @@ use std::mem;
 use swima_model::{Action, Event, Record};
 use wire_base::Memory;
 
-/// What events say of the records that they mention, and memory to put them among others.
+/// What events say of the records that they mention, and a map that has room for these and others.
 #[derive(Drop)]
 pub(crate) struct Anew {
-    mentions: Mentions,
-    items: Vec<Record>,
+    /// What is to be held of each record that is mentioned, the last in order of identifier first.
+    given: Vec<Record>,
     empty: Keyed,
 }
 
 impl Anew {
     /// All memory that it takes to put what events say among `records`.
     pub(crate) fn new(records: &Keyed, events: Vec<Event>) -> Result<Self, Memory>
-        ensures mentions { IfOk result (λ made. AreOf events.items made.mentions) }
+        ensures given { IfOk result (λ made. reverse made.given.items ≡ live [] events.items) }
         ensures room { IfOk result (λ made. HasRoom (index_map_len records.now) made) }
     {
         let alloc = *records.allocator();
         let mentions = Mentions::from_events(alloc, events)?;
-        let count = records.len() + mentions.last.len();
-        let items = Vec::with_capacity(alloc, count)?;
-        let empty = IndexMap::with_capacity(alloc, count)?;
-        Ok(Anew {
-            mentions,
-            items,
-            empty,
-        })
+        let given = mentions.into_given();
+        let empty = IndexMap::with_capacity(alloc, records.len() + given.len())?;
+        Ok(Anew { given, empty })
     }
 
-    /// Puts what the events say in place of the records that they mention. It takes no memory.
+    /// Puts what the events say in place of the records that they mention, where none deletes. It
+    /// takes no memory.
     pub(crate) fn put(self, records: &mut Keyed)
         requires keyed { AreKeyed records.old.entries }
         requires room { HasRoom (index_map_len records.old) self }
-        requires mentions { (events : List EventValue) × AreOf events self.mentions }
+        requires given { (events : List EventValue) × NoneDeletes events × (reverse self.given.items ≡ live [] events) }
         ensures keyed { AreKeyed records.new.entries }
-        ensures live { (events : List EventValue) → AreOf events self.mentions
+        ensures live { (events : List EventValue) → NoneDeletes events → reverse self.given.items ≡ live [] events
             → values records.new ≡ live (values records.old) events }
     {
-        let Anew {
-            mentions,
-            mut items,
-            empty,
-        } = self;
-        move_to(mem::replace(records, empty), &mut items);
-        mentions.put_into(&mut items);
-        fill(records, items);
+        let Anew { given, empty } = self;
+        let held = mem::replace(records, empty);
+        merge(records, held, given);
     }
 }
 
@@ -104,29 +97,14 @@ impl Mentions {
         Ok(())
     }
 
-    /// Puts what the events say in place of the records that they mention, where there is room for
-    /// all. It takes no memory.
-    fn put_into(self, records: &mut Vec<Record>)
-        requires room { vec_len records.old + vec_len self.last ≤ vec_capacity records.old }
-        ensures live { (events : List EventValue) → AreOf events self → IsStrictlyIncreasing (ids records.old.items)
-            → records.new.items ≡ live records.old.items events }
-        ensures few { length records.new.items ≤ length records.old.items + length self.last.items }
+    /// What is to be held of each record that is mentioned, the last in order of identifier first.
+    /// It takes no memory.
+    fn into_given(self) -> Vec<Record>
+        ensures given { (events : List EventValue) → AreOf events self → reverse result.items ≡ live [] events }
     {
-        let Mentions { ids, mut last } = self;
-        records.retain(|record| !ids.contains(&record.id));
-        records.append(&mut last).unwrap();
-        put_in_order(records);
-    }
-}
-
-/// Puts records in order of identifier. A sort that leaves runs in order as they are wants memory;
-/// where there is none, one that takes no memory does the same.
-fn put_in_order(records: &mut Vec<Record>)
-    ensures permutation { IsPermutation records.old.items records.new.items }
-    ensures rising { IsNonDecreasingBy (λ (r : RecordValue). r.id) records.new.items }
-{
-    let sorted = records.sort_by_key(|record| record.id);
-    if sorted.is_err() {
-        records.sort_unstable_by_key(|record| record.id);
+        let mut given = self.last;
+        given.sort_unstable_by_key(|record| record.id);
+        given.reverse();
+        given
     }
 }

@@ -1,14 +1,15 @@
 //! Records by identifier, in order of identifier: a hash map that keeps the order in which records
 //! were put in.
 
-ghost use Rattle.std.specs.Prelude.{◌≡◌, ◌≤◌, ◌+◌, ◌++◌, [], IfOk, length};
+ghost use Rattle.std.specs.Prelude.{◌≡◌, ◌≤◌, ◌++◌, List, IfOk};
 ghost use Rattle.std.specs.BTreeSet.{contains};
 ghost use Rattle.std.specs.List.Sorted.{IsStrictlyIncreasing};
 ghost use Rattle.std.specs.Ordering.{nat_cmp};
-ghost use Rattle.std.specs.Vec.{vec_capacity, vec_len};
-ghost use Rattle.indexmap.specs.IndexMap.{index_map_len, spare, values};
+ghost use Rattle.indexmap.specs.IndexMap.{spare, values};
+ghost use Rattle.swima_model.specs.declared.record.Record.{Record as RecordValue};
 ghost use Rattle.swima_model.specs.InOrder.{ids};
 ghost use Rattle.validator_core.specs.Keyed.{AreKeyed, kept};
+ghost use Rattle.validator_core.specs.Merged.{Filled};
 
 use indexmap::IndexMap;
 use std::alloc::Global;
@@ -30,27 +31,15 @@ pub(crate) fn keyed(alloc: Global, records: Records) -> Result<Keyed, Memory>
     Ok(made)
 }
 
-/// Puts records into a map without any, which has room for them. It takes no memory.
-pub(crate) fn fill(empty: &mut Keyed, records: Vec<Record>)
-    requires empty { empty.old.entries ≡ [] }
-    requires room { length records.items ≤ spare empty.old }
-    requires rising { IsStrictlyIncreasing (ids records.items) }
-    ensures keyed { AreKeyed empty.new.entries }
-    ensures records { values empty.new ≡ records.items }
+/// Puts the last of all records in order after the others, where there is room for them. It takes no
+/// memory.
+pub(crate) fn fill(records: &mut Keyed, last: Vec<Record>)
+    requires fits { (all : List RecordValue) × IsStrictlyIncreasing (ids all) × Filled all records.old.entries last.items (spare records.old) }
+    ensures keyed { AreKeyed records.new.entries }
+    ensures records { values records.new ≡ values records.old ++ last.items }
 {
-    for added in records {
-        empty.insert(added.id, added).unwrap();
-    }
-}
-
-/// Moves the records to the end of a list that has room for them. It takes no memory.
-pub(crate) fn move_to(records: Keyed, items: &mut Vec<Record>)
-    requires room { vec_len items.old + index_map_len records ≤ vec_capacity items.old }
-    ensures moved { items.new.items ≡ items.old.items ++ values records }
-    ensures room { vec_capacity items.old ≤ vec_capacity items.new }
-{
-    for moved in records.into_values() {
-        items.push(moved).unwrap();
+    for added in last {
+        records.insert(added.id, added).unwrap();
     }
 }
 

@@ -20,7 +20,8 @@
 //! | `keyed.rt` | the records by identifier, a hash map in order of identifier |
 //! | `follow.rt` | the records that are live after some events |
 //! | `gone.rt` | the records that are gone after some events |
-//! | `in_place.rt`, `anew.rt` | what is put in place, and what is put in order anew |
+//! | `in_place.rt`, `anew.rt` | what is put in place, and what is put among others, into a new map |
+//! | `merge.rt` | records of two lists in order of identifier, put into one map |
 //! | `lent_or_owned.rt` | lists of a report that is lent or given up |
 //! | `laws.rt` | what the definitions mean, proved |
 #![tactic(auto)]
@@ -35,6 +36,7 @@ mod keyed;
 pub mod laws;
 mod lent_or_owned;
 mod limits;
+mod merge;
 mod mirror;
 mod misfit;
 mod order;

@@ -1,16 +1,18 @@
 //! Records in order of their identifiers.
 
-ghost use Rattle.std.specs.Prelude.{◌≡◌, IfOk};
-ghost use Rattle.swima_model.specs.InOrder.{in_order};
+ghost use Rattle.std.specs.Prelude.{◌≡◌, None};
+ghost use Rattle.swima_model.specs.Doubled.{doubled};
+ghost use Rattle.swima_model.specs.InOrder.{ids, in_order};
 
 use swima_model::Records;
-use wire_base::{List, Memory};
+use wire_base::List;
 
-/// The records in order of identifier.
-pub(crate) fn in_order(records: Records) -> Result<Records, Memory>
-    ensures order { IfOk result (λ made. made ≡ in_order records) }
+/// The records in order of identifier, of which no two have the same. It takes no memory.
+pub(crate) fn in_order(records: Records) -> Records
+    requires distinct { doubled (ids records) ≡ None }
+    ensures order { result ≡ in_order records }
 {
     let mut items = records.into_vec();
-    items.sort_by_key(|record| record.id)?;
-    Ok(List::from_vec(items))
+    items.sort_unstable_by_key(|record| record.id);
+    List::from_vec(items)
 }

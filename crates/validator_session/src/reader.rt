@@ -1,7 +1,7 @@
 //! What the attributes of a message say to a validator.
 
 ghost use Rattle.std.specs.Prelude.{◌≡◌, ◌+◌, ◌<◌, ◌^◌, length};
-ghost use Rattle.session_rules.specs.Taking.{failure_at, report_at};
+ghost use Rattle.session_rules.specs.Taking.{failure_at, list_at, report_at};
 ghost use Rattle.swima_reports.specs.ReportType.{IsReportType};
 ghost use Rattle.wire_base.specs.Reading.{Gives};
 
@@ -13,9 +13,10 @@ use swima_reports::{
     SOFTWARE_EVENTS, SOFTWARE_IDENTIFIER_EVENTS, SOFTWARE_IDENTIFIER_INVENTORY, SOFTWARE_INVENTORY,
     read_report,
 };
+use swima_request::{SUBSCRIPTION_STATUS_RESPONSE, read_status};
 use wire_base::FieldRefused;
 
-/// Reads reports and Errors.
+/// Reads reports, lists of subscriptions, and Errors.
 #[derive(Drop)]
 pub(crate) struct ValidatorReader;
 
@@ -35,6 +36,7 @@ impl WordReader for ValidatorReader {
             SOFTWARE_IDENTIFIER_EVENTS,
             SOFTWARE_INVENTORY,
             SOFTWARE_EVENTS,
+            SUBSCRIPTION_STATUS_RESPONSE,
         ]
     }
 
@@ -43,6 +45,8 @@ impl WordReader for ValidatorReader {
         let value = placed.attr.value.as_slice();
         if kind == ERROR {
             failure(alloc, value, placed.at)
+        } else if kind == SUBSCRIPTION_STATUS_RESPONSE {
+            list(alloc, value, placed.at)
         } else {
             report(alloc, kind, value, placed.at)
         }
@@ -56,6 +60,14 @@ fn failure(alloc: Global, value: &[u8], at: u32) -> Result<ValidatorWord, FieldR
 {
     let error = read_error(alloc, value, at)?;
     Ok(ValidatorWord::Failure(error.code))
+}
+
+/// The requests of the subscriptions (RFC 8412, section 5.12).
+fn list(alloc: Global, value: &[u8], at: u32) -> Result<ValidatorWord, FieldRefused>
+    requires places { at + length value.now < 2 ^ 32 }
+    ensures word { Gives (λ word. word) result (list_at at value.now) }
+{
+    Ok(ValidatorWord::Lists(read_status(alloc, value, at)?))
 }
 
 /// A report (RFC 8412, sections 5.7 to 5.10).

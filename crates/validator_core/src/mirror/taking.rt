@@ -80,7 +80,7 @@ impl Mirror {
                 octets,
             });
         }
-        let ordered = in_order(records.into_list()?)?;
+        let ordered = in_order(records.into_list()?);
         self.records = keyed(alloc, ordered)?;
         self.octets = octets;
         self.point = Some(point);

@@ -1,83 +1,40 @@
-use Rattle.std.proofs.Common.{rules, ◌<◌, ◌≤◌, List, [], length, ap, arith, subst, sym}
-use Rattle.std.specs.Prelude.{IfSome, Ok}
-use Rattle.pb_batch.specs.declared.batch.Message.{Message}
+use Rattle.std.proofs.Common.{ap, arith, subst}
 use Rattle.session_talk.specs.Talk.{each}
-use Rattle.session_rules.specs.Answering.{answers_message, renews}
-use Rattle.session_rules.specs.Saying.{swima_body}
-use Rattle.session_rules.specs.Serving.{Draft as Stand}
-use Rattle.session_rules.proofs.Desking.{drafted_done, drafted_then}
+use Rattle.session_rules.specs.Answering.{answers_message}
 use Rattle.collector_session.specs.declared.draft.Draft.{Draft}
-use Rattle.collector_session.specs.Drafting.{first_draft}
 use Rattle.collector_session.specs.Standing.{draft_of}
-use Rattle.collector_session.proofs.Answering.{renews_none}
-use Rattle.collector_session.proofs.Bodies.{bodies_fit}
-use Rattle.collector_session.proofs.Each.{Held, Lost, all_held, next_held, next_lost, none_held}
-use Rattle.collector_session.proofs.Replying.{drafted_lost}
+use Rattle.collector_session.proofs.Each.{Held, Lost}
+use Rattle.collector_session.proofs.Replying.{drafted_lost, drafted_whole, renewed_lost}
 use Rattle.collector_session.proofs.Sizes.{first_fits}
 use Rattle.collector_session.proofs.batch.draft_batch.Goals as goal
 
-pub loop-message-init : goal.loop-message-init
-loop-message-init g c =
+pub answer_all-requires : goal.answer_all-requires
+answer_all-requires g c =
     let made = c.new-draft.ensures.made in
     record {
-      held = subst (λ (d : Draft). Held g.D.Desk.stands g.D.Desk.went c.args.desk.now c.args.desk.now (each answers_message (first_draft c.args.config.now c.args.numbered) []) (draft_of d)) (sym made)
-          (none_held g.D.Desk.stands g.D.Desk.went g.met.D.Desk.stays g.met.D.Desk.follows g.met.D.Desk.carries answers_message c.args.desk.now (first_draft c.args.config.now c.args.numbered) c.as_slice-message-items.result.now);
+      batch = c.requires.batch;
       fits = first_fits c.new-draft.result (omega (arith, ap (λ (d : Draft). d.room) made, c.requires.max)) (ap (λ (d : Draft). d.attrs) made) (ap (λ (d : Draft). d.messages) made);
+      empty = ap (λ (d : Draft). d.messages) made;
       none = ap (λ (d : Draft). d.attrs) made;
-      few = omega (arith, ap (λ (d : Draft). length d.messages) made);
     }
 
-pub answer_message-requires : goal.answer_message-requires
-answer_message-requires g c =
-    let items = c.as_slice-message-items.result.now in
-    let i = c.loop-message.message-index in
-    let less : i < length items = search rules in
-    let same = c.as_slice-message-items.ensures.items in
-    let at = c.loop-message.invariant in
-    record {
-      body = subst (λ (m : Message). IfSome (swima_body m) (λ body. length body ≤ 16777216)) (sym c.message-item.is) (bodies_fit items i c.message-item.result less (rw same c.requires.batch.short));
-      none = at.none;
-      fits = at.fits;
-      count = omega (arith, at.few, less, ap (λ (ms : List Message). length ms) same, c.requires.batch.few);
-    }
+pub returns-in_err-answer_all-clause-drafted : goal.returns-in_err-answer_all-clause-drafted
+returns-in_err-answer_all-clause-drafted g c =
+    drafted_lost g.D.Desk.stands g.D.Desk.went c.args.desk.now c.answer_all.new.desk c.args.config.now c.args.subs c.args.numbered c.args.messages.now c.from_residual.result c.from_residual.ensures.0
+    (subst (λ (d : Draft). Lost g.D.Desk.stands g.D.Desk.went c.args.desk.now c.answer_all.new.desk (each answers_message (draft_of d) c.args.messages.now)) c.new-draft.ensures.made c.in_err-answer_all.ensures.drafted)
 
-pub loop-message-preserved : goal.loop-message-preserved
-loop-message-preserved g c =
-    let items = c.as_slice-message-items.result.now in
-    let i = c.loop-message.message-index in
-    let less : i < length items = search rules in
-    let small = c.in_ok-answer_message.ensures.small in
-    record {
-      held = next_held g.D.Desk.stands g.D.Desk.went g.met.D.Desk.stays g.met.D.Desk.follows g.met.D.Desk.carries answers_message c.args.desk.now c.loop-message.desk c.answer_message.new.desk (first_draft c.args.config.now c.args.numbered)
-          (draft_of c.loop-message.draft) (draft_of c.answer_message.new.draft) items i c.message-item.result less c.loop-message.invariant.held
-          (subst (λ (m : Message). Held g.D.Desk.stands g.D.Desk.went c.loop-message.desk c.answer_message.new.desk (answers_message (draft_of c.loop-message.draft) m) (draft_of c.answer_message.new.draft)) c.message-item.is
-          c.in_ok-answer_message.ensures.drafted);
-      fits = small.fits;
-      none = small.none;
-      few = omega (arith, small.count, c.loop-message.invariant.few);
-    }
-
-pub returns-in_err-answer_message-clause-drafted : goal.returns-in_err-answer_message-clause-drafted
-returns-in_err-answer_message-clause-drafted g c =
-    let items = c.as_slice-message-items.result.now in
-    let i = c.loop-message.message-index in
-    let less : i < length items = search rules in
-    drafted_lost g.D.Desk.stands g.D.Desk.went c.args.desk.now c.answer_message.new.desk c.args.config.now c.args.numbered c.args.messages.now c.from_residual.result c.from_residual.ensures.0
-    (subst (λ (xs : List Message). Lost g.D.Desk.stands g.D.Desk.went c.args.desk.now c.answer_message.new.desk (each answers_message (first_draft c.args.config.now c.args.numbered) xs)) c.as_slice-message-items.ensures.items
-    (next_lost g.D.Desk.stands g.D.Desk.went g.met.D.Desk.stays g.met.D.Desk.follows g.met.D.Desk.carries answers_message c.args.desk.now c.loop-message.desk c.answer_message.new.desk (first_draft c.args.config.now c.args.numbered)
-    (draft_of c.loop-message.draft) (draft_of c.answer_message.new.draft) items i c.message-item.result less c.loop-message.invariant.held
-    (subst (λ (m : Message). Lost g.D.Desk.stands g.D.Desk.went c.loop-message.desk c.answer_message.new.desk (answers_message (draft_of c.loop-message.draft) m)) c.message-item.is c.in_err-answer_message.ensures.drafted)))
+pub returns-in_err-renew-clause-drafted : goal.returns-in_err-renew-clause-drafted
+returns-in_err-renew-clause-drafted g c =
+    renewed_lost g.D.Desk.stands g.D.Desk.went g.met.D.Desk.stays g.met.D.Desk.follows g.met.D.Desk.carries c.args.desk.now c.answer_all.new.desk c.renew.new.desk c.args.config.now c.args.subs c.args.numbered c.args.messages.now
+    (draft_of c.answer_all.new.draft) c.from_residual-in_err-renew.result c.from_residual-in_err-renew.ensures.0
+    (subst (λ (d : Draft). Held g.D.Desk.stands g.D.Desk.went c.args.desk.now c.answer_all.new.desk (each answers_message (draft_of d) c.args.messages.now) (draft_of c.answer_all.new.draft)) c.new-draft.ensures.made
+    c.in_ok-answer_all.ensures.drafted)
+    c.in_err-renew.ensures.drafted
 
 pub returns-clause-drafted : goal.returns-clause-drafted
 returns-clause-drafted g c =
-    let items = c.as_slice-message-items.result.now in
-    let i = c.loop-message.message-index in
-    let all : length items ≤ i = search rules in
-    let first : Stand = first_draft c.args.config.now c.args.numbered in
-    let last : Stand = draft_of c.loop-message.draft in
-    drafted_then g.D.Desk.stands g.D.Desk.went g.met.D.Desk.stays g.met.D.Desk.follows g.met.D.Desk.carries {T = Unit {0}} {E = Unit {0}} c.args.desk.now c.loop-message.desk c.loop-message.desk (each answers_message first c.args.messages.now)
-    (λ (d : Stand). renews c.args.config.now d) last last (Ok tt)
-    (subst (λ (xs : List Message). Held g.D.Desk.stands g.D.Desk.went c.args.desk.now c.loop-message.desk (each answers_message first xs) last) c.as_slice-message-items.ensures.items
-    (all_held g.D.Desk.stands g.D.Desk.went g.met.D.Desk.stays g.met.D.Desk.follows g.met.D.Desk.carries answers_message c.args.desk.now c.loop-message.desk first last items i all c.loop-message.invariant.held))
-    (drafted_done g.D.Desk.stands g.D.Desk.went g.met.D.Desk.stays g.met.D.Desk.follows g.met.D.Desk.carries {T = Unit {0}} {E = Unit {0}} c.loop-message.desk (renews c.args.config.now last) last (Ok tt)
-    (renews_none c.args.config.now c.loop-message.draft c.loop-message.invariant.none))
+    drafted_whole g.D.Desk.stands g.D.Desk.went g.met.D.Desk.stays g.met.D.Desk.follows g.met.D.Desk.carries c.args.desk.now c.answer_all.new.desk c.renew.new.desk c.args.config.now c.args.subs c.args.numbered c.args.messages.now
+    (draft_of c.answer_all.new.draft) (draft_of c.renew.new.draft)
+    (subst (λ (d : Draft). Held g.D.Desk.stands g.D.Desk.went c.args.desk.now c.answer_all.new.desk (each answers_message (draft_of d) c.args.messages.now) (draft_of c.answer_all.new.draft)) c.new-draft.ensures.made
+    c.in_ok-answer_all.ensures.drafted)
+    c.in_ok-renew.ensures.drafted

@@ -44,13 +44,7 @@ put-requires-clause-room c =
     let room = c.in_ok-anew-in-None.ensures.room in
     let shorter = kept_shorter (contains nat_cmp c.args.gone.now) c.args.records.now.entries in
     let is = ap (λ (es : Entries). length es) c.drop_gone-in-None.ensures.kept in
-    record {
-      no_items = room.no_items;
-      none = room.none;
-      empty = room.empty;
-      items = omega (arith, room.items, shorter, is);
-      spare = omega (arith, room.spare, shorter, is);
-    }
+    record { empty = room.empty; spare = omega (arith, room.spare, shorter, is) }
 
-pub put-requires-clause-mentions : goal.put-requires-clause-mentions
-put-requires-clause-mentions c = (c.args.events.items, c.in_ok-anew-in-None.ensures.mentions)
+pub put-requires-clause-given : goal.put-requires-clause-given
+put-requires-clause-given c = (c.args.events.items, c.requires.none_deletes, c.in_ok-anew-in-None.ensures.given)

@@ -1,14 +1,25 @@
--- A stable sort of copies by identifier is `in_order`.
-use Rattle.std.proofs.Common.{◌∙◌, ap, rules}
-use Rattle.std.proofs.lemmas.List.Sorted.{IsNonDecreasingBy-from_sort_by_key, answers_always}
+-- Where no two have the same identifier, each sort by identifier gives `in_order`.
+use Rattle.std.proofs.Common.{◌∙◌, List, ap, rules}
+use Rattle.std.specs.List.Sorted.{IsPermutation, IsStrictlyIncreasing}
+use Rattle.std.proofs.lemmas.List.Sorted.{IsNonDecreasingBy-from_sort_by_key, IsPermutation-sym, IsPermutation-trans}
 use Rattle.swima_model.specs.declared.record.Record.{Record}
-use Rattle.swima_model.specs.InOrder.{in_order}
-use Rattle.swima_model.proofs.Placing.{sorted_is_in_order}
+use Rattle.swima_model.specs.Doubled.{doubled}
+use Rattle.swima_model.specs.InOrder.{ids, in_order}
+use Rattle.swima_model.proofs.Placing.{in_order_permutation, in_order_rising_permutation}
+use Rattle.swima_model.proofs.Rises.{rises_by}
+use Rattle.validator_core.proofs.Mentioning.{same_in_order}
 use Rattle.validator_core.proofs.order.in_order.Goals as goal
 
 pub returns : goal.returns
 returns c =
-    let up = IsNonDecreasingBy-from_sort_by_key (λ (r : Record). r.id) _ c.in_ok-sort_by_key.ensures.sorted (λ a r q k. search rules) in
-    let stable = c.in_ok-sort_by_key.ensures.stable (λ (r : Record). r.id) (answers_always _ _ _ (λ f a r g h. search rules)) in
+    let given = c.into_vec-items.result.items in
+    let made = c.sort_unstable_by_key.new.self.items in
     let copied = c.into_vec-items.ensures.items in
-    record { order = c.from_vec.ensures.items ∙ sorted_is_in_order c.into_vec-items.result.items c.sort_by_key.new.self.items up stable ∙ ap in_order copied }
+    let up = IsNonDecreasingBy-from_sort_by_key (λ (r : Record). r.id) _ c.sort_unstable_by_key.ensures.sorted (λ a r q k. search rules) in
+    let strict : IsStrictlyIncreasing (ids (in_order given)) =
+    (in_order_rising_permutation given).strict (ap (λ (rs : List Record). doubled (ids rs)) copied ∙ c.requires.distinct) in
+    let moved : IsPermutation (in_order given) made =
+    IsPermutation-trans (in_order given) given made (IsPermutation-sym given (in_order given) (in_order_permutation given)) c.sort_unstable_by_key.ensures.permutation in
+    record {
+      order = c.from_vec.ensures.items ∙ same_in_order (in_order given) made moved strict (rises_by (λ (r : Record). r.id) _ up) ∙ ap in_order copied;
+    }

@@ -1,11 +1,13 @@
-use Rattle.std.proofs.Common.{[], ◌∷◌, ◌++◌, ◌∙◌, ap, arith}
-use Rattle.std.specs.Prelude.{ℕ, List}
+use Rattle.std.proofs.Common.{◌-◌, [], ◌∷◌, ◌++◌, ◌∙◌, ap, arith, refl, sym}
+use Rattle.std.proofs.lemmas.Bool.{leb-true}
 use Rattle.pa_attrs.specs.declared.attr.Attr.{Attr}
-use Rattle.session_rules.specs.Messages.{attribute}
-use Rattle.collector_session.proofs.Answering.{status_put}
+use Rattle.collector_session.proofs.Results.{on_ok}
+use Rattle.collector_session.proofs.Sizes.{sized_grown}
 use Rattle.collector_session.proofs.draft.Draft.put_status.Goals as goal
 
-pub returns-clause-put : goal.returns-clause-put
-returns-clause-put c =
-    status_put c.args.self.now c.push.new.self (omega (arith, c.if-self.false))
-    (c.in_ok-push.ensures.appended ∙ ap (λ (a : Attr). c.args.self.now.attrs ++ a ∷ []) (c.attribute.ensures.attribute ∙ ap (λ (value : List ℕ). attribute 19 value) c.in_ok-value.ensures.items))
+pub returns-clause-grown : goal.returns-clause-grown
+returns-clause-grown c =
+    on_ok c.push.result
+    (λ put. sized_grown c.args.self.now (record c.args.self.now { room = c.args.self.now.room - c.len.result; attrs = c.push.new.self }) 19 c.in_ok-value.value (omega arith)
+    (put ∙ ap (λ (a : Attr). c.args.self.now.attrs ++ a ∷ []) c.attribute.ensures.attribute) refl
+    (omega (arith, c.len.ensures.len, c.in_ok-value.ensures.size, leb-true _ _ (sym c.status_fits.ensures.fits ∙ c.if-not-status_fits.false)))) c.push.ensures.appended
