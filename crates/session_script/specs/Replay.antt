@@ -170,7 +170,7 @@ Plays (suc left) number goes_on p octets answer = PlaysFirst (Plays left (number
 
 -- The first line opens an empty inventory and an empty mirror.
 abbrev pub opened_by : Header → Playing
-opened_by h = record { world = begun h.max (record { start = record { epoch = h.epoch; cap = h.cap; contents = [] }; entries = [] }) h.kind; changes = 0 }
+opened_by h = record { world = begun (record { max = h.max; subscribe = h.subscribe }) (record { start = record { epoch = h.epoch; cap = h.cap; contents = [] }; entries = [] }) h.kind; changes = 0 }
 
 abbrev pub Begins : Bool → List ℕ → Option Header → Answer → Type 0
 Begins goes_on after None answer = answer ≡ bad 1
