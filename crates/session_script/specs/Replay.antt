@@ -71,8 +71,11 @@ octets_text [] = codes "-"
 octets_text (octet ∷ octets) = encode_lower (octet ∷ octets)
 
 -- What waits for the validator, and for the collector, where a session is open.
+abbrev pub waits_line : List ℕ → List ℕ → List ℕ
+waits_line way octets = text_line (codes "waits" ∷ way ∷ octets_text octets ∷ [])
+
 abbrev pub waits_text : List ℕ → List ℕ → List ℕ
-waits_text up down = text_line (codes "waits" ∷ codes "up" ∷ octets_text up ∷ []) ++ text_line (codes "waits" ∷ codes "down" ∷ octets_text down ∷ [])
+waits_text up down = waits_line (codes "up") up ++ waits_line (codes "down") down
 
 -- ---- a line
 
