@@ -8,7 +8,7 @@
 //! - `begins` of `World::new`: it stands for the world of each chronicle that the book stands for.
 //! - `does` of `enter`, `open`, `cut`, `up`, `down`, `round`, `run`, `idle` and `again`: for each
 //!   world that it stood for, it stands for what the line makes of it, and what is told is told.
-//! - `waits` of `waiting_up` and `waiting_down`, `open` of `is_open`, and `mirror`: what waits,
+//! - `waits` of `waiting_up` and `waiting_down`, `session` of `is_open`, and `mirror`: what waits,
 //!   whether a session is open, and what is held.
 //! - `noted` of `run_noting`: the octets that a run carries to the validator.
 //!

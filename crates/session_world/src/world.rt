@@ -69,7 +69,7 @@ impl World {
 
     /// Whether a session is open.
     pub fn is_open(&self) -> bool
-        ensures open { (w : WorldValue) → StandsFor self.now w → result ≡ is_open w }
+        ensures session { (w : WorldValue) → StandsFor self.now w → result ≡ is_open w }
     {
         match &self.joined {
             None => false,
