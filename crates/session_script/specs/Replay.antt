@@ -71,8 +71,11 @@ octets_text [] = codes "-"
 octets_text (octet ∷ octets) = encode_lower (octet ∷ octets)
 
 -- What waits for the validator, and for the collector, where a session is open.
+abbrev pub waits_line : List ℕ → List ℕ → List ℕ
+waits_line way octets = text_line (codes "waits" ∷ way ∷ octets_text octets ∷ [])
+
 abbrev pub waits_text : List ℕ → List ℕ → List ℕ
-waits_text up down = text_line (codes "waits" ∷ codes "up" ∷ octets_text up ∷ []) ++ text_line (codes "waits" ∷ codes "down" ∷ octets_text down ∷ [])
+waits_text up down = waits_line (codes "up") up ++ waits_line (codes "down") down
 
 -- ---- a line
 
@@ -170,7 +173,7 @@ Plays (suc left) number goes_on p octets answer = PlaysFirst (Plays left (number
 
 -- The first line opens an empty inventory and an empty mirror.
 abbrev pub opened_by : Header → Playing
-opened_by h = record { world = begun h.max (record { start = record { epoch = h.epoch; cap = h.cap; contents = [] }; entries = [] }) h.kind; changes = 0 }
+opened_by h = record { world = begun (record { max = h.max; subscribe = h.subscribe }) (record { start = record { epoch = h.epoch; cap = h.cap; contents = [] }; entries = [] }) h.kind; changes = 0 }
 
 abbrev pub Begins : Bool → List ℕ → Option Header → Answer → Type 0
 Begins goes_on after None answer = answer ≡ bad 1

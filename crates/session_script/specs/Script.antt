@@ -1,5 +1,5 @@
 -- The lines of a script of both ends of sessions: which words they have.
-use Rattle.std.specs.Prelude.{◌≡◌, ◌==◌, ◌&&◌, ◌<◌, ◌≤◌, ◌+◌, ◌^◌, ℕ, zero, suc, Bool, List, [], ◌∷◌, Option, Some, None, Result, Ok, Err, length, take, drop, codes, nat_le, option_map, if◌then◌else◌}
+use Rattle.std.specs.Prelude.{◌≡◌, ◌==◌, ◌&&◌, ◌<◌, ◌≤◌, ◌+◌, ◌^◌, ℕ, zero, suc, Bool, true, false, List, [], ◌∷◌, Option, Some, None, Result, Ok, Err, length, take, drop, codes, nat_le, option_map, if◌then◌else◌}
 use Rattle.std.specs.List.{position}
 use Rattle.std.specs.Fmt.{decimal}
 use Rattle.std.specs.Str.{bytes_eq}
@@ -68,19 +68,22 @@ at_most most (Some octets) = if nat_le (length octets) most then Some octets els
 abbrev pub kind_of : List ℕ → Option Kind
 kind_of word = if bytes_eq word (codes "ids") then Some Ids else (if bytes_eq word (codes "full") then Some Full else None)
 
-abbrev pub header_by : Option ℕ → Option ℕ → Option ℕ → Option Kind → Option Header
-header_by (Some epoch) (Some cap) (Some max) (Some kind) = Some (record { epoch = epoch; cap = cap; max = max; kind = kind })
-header_by epoch cap max kind = None
+abbrev pub answer_of : List ℕ → Option Bool
+answer_of word = if bytes_eq word (codes "yes") then Some true else (if bytes_eq word (codes "no") then Some false else None)
 
-abbrev pub named : List ℕ → List ℕ → Option Header → Option Header
-named name subscribe header = if bytes_eq name (codes "replay") && bytes_eq subscribe (codes "no") then header else None
+abbrev pub header_by : Option ℕ → Option ℕ → Option ℕ → Option Kind → Option Bool → Option Header
+header_by (Some epoch) (Some cap) (Some max) (Some kind) (Some subscribe) = Some (record { epoch = epoch; cap = cap; max = max; kind = kind; subscribe = subscribe })
+header_by epoch cap max kind subscribe = None
+
+abbrev pub named : List ℕ → Option Header → Option Header
+named name header = if bytes_eq name (codes "replay") then header else None
 
 -- The words are `replay`, the epoch of the inventory, how many events it keeps, the most octets of
--- the reports in a batch, the kind of the mirror, and `no`: there are no subscriptions yet.
+-- the reports in a batch, the kind of the mirror, and whether the validator subscribes.
 abbrev pub HeaderIs : List (List ℕ) → Option Header → Type 0
 HeaderIs (name ∷ epoch ∷ cap ∷ max ∷ kind ∷ subscribe ∷ []) header =
     (e : Option ℕ) × IsNumberWithin 1 4294967295 epoch e × ((c : Option ℕ) × IsNumberWithin 1 4096 cap c × ((m : Option ℕ) × IsNumberWithin 64 16000000 max m
-    × (header ≡ named name subscribe (header_by e c m (kind_of kind)))))
+    × (header ≡ named name (header_by e c m (kind_of kind) (answer_of subscribe)))))
 HeaderIs words header = header ≡ None
 
 -- The numbers of a first line are within their bounds.

@@ -1,7 +1,7 @@
 //! The first line of a script.
 
 ghost use Rattle.std.specs.Prelude.{◌≡◌, IfOk, IfSome, map};
-ghost use Rattle.session_script.specs.Script.{IsHeader, HeaderIs, header_by, kind_of, named, words_of};
+ghost use Rattle.session_script.specs.Script.{IsHeader, HeaderIs, answer_of, header_by, kind_of, named, words_of};
 
 use crate::words::{is_word, number_within, words_of};
 use std::alloc::Global;
@@ -9,7 +9,7 @@ use swima_model::Kind;
 use wire_base::Memory;
 
 /// What the first line says: the epoch of the inventory and how many events it keeps, the most
-/// octets of the reports in a batch, and the kind of the mirror.
+/// octets of the reports in a batch, the kind of the mirror, and whether the validator subscribes.
 #[derive(Clone, Copy, Debug, PartialEq, Eq)]
 pub struct Header {
     /// The epoch, at least 1.
@@ -20,6 +20,8 @@ pub struct Header {
     pub max: u32,
     /// The kind.
     pub kind: Kind,
+    /// Whether the validator subscribes.
+    pub subscribe: bool,
 }
 
 /// The first line of a script, if it is one.
@@ -31,7 +33,7 @@ pub fn read_header(alloc: Global, line: &[u8]) -> Result<Option<Header>, Memory>
     Ok(header_of(words.as_slice()))
 }
 
-/// What the words say. Subscriptions are not there yet.
+/// What the words say.
 fn header_of(words: &[&[u8]]) -> Option<Header>
     ensures header { HeaderIs (map (λ word. word.now) words.now) result }
     ensures bounds { IfSome result IsHeader }
@@ -41,20 +43,18 @@ fn header_of(words: &[&[u8]]) -> Option<Header>
             let epoch = number_within(epoch, 1, 4_294_967_295);
             let cap = number_within(cap, 1, 4096);
             let max = number_within(max, 64, 16_000_000);
-            named(name, subscribe, header_by(epoch, cap, max, kind_of(kind)))
+            let subscribe = answer_of(subscribe);
+            named(name, header_by(epoch, cap, max, kind_of(kind), subscribe))
         }
         _ => None,
     }
 }
 
-/// What the numbers and the kind say, where the other two words are `replay` and `no`.
-fn named(name: &[u8], subscribe: &[u8], header: Option<Header>) -> Option<Header>
-    ensures named { result ≡ named name.now subscribe.now header }
+/// What the other words say, where the first is `replay`.
+fn named(name: &[u8], header: Option<Header>) -> Option<Header>
+    ensures named { result ≡ named name.now header }
 {
-    if !is_word(name, "replay") {
-        return None;
-    }
-    if is_word(subscribe, "no") { header } else { None }
+    if is_word(name, "replay") { header } else { None }
 }
 
 /// All of them, where all are there.
@@ -63,15 +63,17 @@ fn header_by(
     cap: Option<u32>,
     max: Option<u32>,
     kind: Option<Kind>,
+    subscribe: Option<bool>,
 ) -> Option<Header>
-    ensures header { result ≡ header_by epoch cap max kind }
+    ensures header { result ≡ header_by epoch cap max kind subscribe }
 {
-    match (epoch, cap, max, kind) {
-        (Some(epoch), Some(cap), Some(max), Some(kind)) => Some(Header {
+    match (epoch, cap, max, kind, subscribe) {
+        (Some(epoch), Some(cap), Some(max), Some(kind), Some(subscribe)) => Some(Header {
             epoch,
             cap,
             max,
             kind,
+            subscribe,
         }),
         _ => None,
     }
@@ -84,6 +86,18 @@ fn kind_of(word: &[u8]) -> Option<Kind>
         Some(Kind::Ids)
     } else if is_word(word, "full") {
         Some(Kind::Full)
+    } else {
+        None
+    }
+}
+
+fn answer_of(word: &[u8]) -> Option<bool>
+    ensures answer { result ≡ answer_of word.now }
+{
+    if is_word(word, "yes") {
+        Some(true)
+    } else if is_word(word, "no") {
+        Some(false)
     } else {
         None
     }

@@ -14,7 +14,7 @@ use crate::line::Line;
 use crate::texts::{told_text, waits_text};
 use collector_core::{Book, Edit};
 use command_text::mirror_text;
-use session_world::{Tellings, World};
+use session_world::{Tellings, Terms, World};
 use std::alloc::Global;
 use swima_model::Content;
 use wire_base::{List, Memory, Octets, stamp_text};
@@ -33,9 +33,13 @@ impl Playing {
         ensures opened { IfOk result (λ made. StandsFor made (opened_by header)) }
         ensures changes { IfOk result (λ made. made.changes ≡ 0) }
     {
+        let terms = Terms {
+            max: header.max,
+            subscribe: header.subscribe,
+        };
         match Book::new(alloc, header.epoch, header.cap as usize, &[]) {
             Ok(book) => Ok(Playing {
-                world: World::new(alloc, header.max, book, header.kind),
+                world: World::new(alloc, terms, book, header.kind),
                 changes: 0,
             }),
             Err(_) => Err(Memory),

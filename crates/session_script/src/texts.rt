@@ -1,9 +1,9 @@
 //! The lines that `replay` prints.
 
-ghost use Rattle.std.specs.Prelude.{◌≡◌, ◌∷◌, ◌++◌, [], IfOk, OnOk};
+ghost use Rattle.std.specs.Prelude.{◌≡◌, ◌∷◌, [], IfOk, string_bytes};
 ghost use Rattle.std.specs.Fmt.{decimal};
 ghost use Rattle.std.specs.List.{flat_map};
-ghost use Rattle.session_script.specs.Replay.{end_words, octets_text, telling_line, waits_text};
+ghost use Rattle.session_script.specs.Replay.{end_words, octets_text, telling_line, waits_line, waits_text};
 ghost use Rattle.command_text.specs.Text.{line};
 ghost use Rattle.session_world.specs.declared.telling.Telling.TheVariants as telling;
 
@@ -107,26 +107,25 @@ fn word(alloc: Global, who: &str, how: &str) -> Result<Octets, Memory>
 pub fn waits_text(alloc: Global, up: &[u8], down: &[u8]) -> Result<Octets, Memory>
     ensures text { IfOk result (λ made. made ≡ waits_text up.now down.now) }
 {
-    let mut out = List::new(alloc);
-    out.extend(b"waits up ")?;
-    put_octets(&mut out, up)?;
-    out.extend(b"\nwaits down ")?;
-    put_octets(&mut out, down)?;
-    out.push(b'\n')?;
+    let mut out = waits_line(alloc, "up", up)?;
+    let second = waits_line(alloc, "down", down)?;
+    out.extend(second.as_slice())?;
     Ok(out)
 }
 
-/// Puts octets as two hexadecimal digits each, or a dash where there are none.
-fn put_octets(out: &mut Octets, octets: &[u8]) -> Result<(), Memory>
-    ensures appended { OnOk result (out.new ≡ out.old ++ octets_text octets.now) }
+fn waits_line(alloc: Global, way: &str, octets: &[u8]) -> Result<Octets, Memory>
+    ensures line { IfOk result (λ made. made ≡ waits_line way.now octets.now) }
+{
+    let digits = digits_of(alloc, octets)?;
+    Ok(from_string(format!(in alloc; "waits {way} {digits}\n")?))
+}
+
+/// Octets as two hexadecimal digits each, or a dash where there are none.
+fn digits_of(alloc: Global, octets: &[u8]) -> Result<String, Memory>
+    ensures digits { IfOk result (λ made. string_bytes made ≡ octets_text octets.now) }
 {
     if octets.is_empty() {
-        return out.push(b'-');
+        return Ok(format!(in alloc; "-")?);
     }
-    for octet in octets {
-        let mut digits = [0u8; 2];
-        hex::encode_to_slice([*octet], &mut digits).unwrap();
-        out.extend(&digits)?;
-    }
-    Ok(())
+    Ok(hex::encode(alloc, octets)?)
 }

@@ -21,6 +21,7 @@ use Rattle.session_rules.specs.Serving.{Stand}
 use Rattle.session_rules.specs.Transcripts.{Serves, served, served_places, serve_end}
 use Rattle.session_rules.proofs.Meaning.{served_is_so}
 use Rattle.validator_session.specs.Core.{Stood as FollowStood, over_of}
+use Rattle.session_world.specs.declared.terms.Terms.{Terms}
 use Rattle.session_world.specs.declared.joined.Joined.{Joined as JoinedView}
 use Rattle.session_world.specs.declared.telling.Telling.{Telling}
 use Rattle.session_world.specs.declared.telling.Telling.TheVariants.{CollectorEnds}
@@ -95,29 +96,29 @@ drop_front [] ys = refl
 drop_front (x ∷ xs) ys = drop_front xs ys
 
 -- How the collector of a session stands.
-pub serving_is : (max : ℕ) (chronicle : Chronicle) (mirror : Held) (view : JoinedView) (j : Joined) → JoinedStands max chronicle mirror view j
-    → served chronicle (serve_config max) j.down j.places ≡ (j.carried_up ++ view.serve.end.out, stand_of view.serve.end.standing)
-serving_is max chronicle mirror view j stands =
-    served_is_so chronicle (serve_config max) j.down j.places (j.carried_up ++ view.serve.end.out) (stand_of view.serve.end.standing)
-    (serves_so (serve_config max) chronicle j.places j.down j.carried_up view.serve stands.serve_config stands.serve)
+pub serving_is : (terms : Terms) (chronicle : Chronicle) (mirror : Held) (view : JoinedView) (j : Joined) → JoinedStands terms chronicle mirror view j
+    → served chronicle (serve_config terms) j.down j.places ≡ (j.carried_up ++ view.serve.end.out, stand_of view.serve.end.standing)
+serving_is terms chronicle mirror view j stands =
+    served_is_so chronicle (serve_config terms) j.down j.places (j.carried_up ++ view.serve.end.out) (stand_of view.serve.end.standing)
+    (serves_so (serve_config terms) chronicle j.places j.down j.carried_up view.serve stands.serve_config stands.serve)
 
 -- ---- turns of the collector
 
-abbrev pub world_of : ℕ → Chronicle → Held → Joined → World
-world_of max chronicle mirror j = record { max = max; chronicle = chronicle; mirror = mirror; joined = Some j }
+abbrev pub world_of : Terms → Chronicle → Held → Joined → World
+world_of terms chronicle mirror j = record { terms = terms; chronicle = chronicle; mirror = mirror; joined = Some j }
 
-pub collector_is : (max : ℕ) (chronicle : Chronicle) (mirror : Held) (view : JoinedView) (j : Joined) → JoinedStands max chronicle mirror view j
-    → collector_end (world_of max chronicle mirror j) j ≡ view.collector
-collector_is max chronicle mirror view j stands = ap (λ (s : List ℕ × Stand). serve_end s) (serving_is max chronicle mirror view j stands) ∙ sym stands.collector
+pub collector_is : (terms : Terms) (chronicle : Chronicle) (mirror : Held) (view : JoinedView) (j : Joined) → JoinedStands terms chronicle mirror view j
+    → collector_end (world_of terms chronicle mirror j) j ≡ view.collector
+collector_is terms chronicle mirror view j stands = ap (λ (s : List ℕ × Stand). serve_end s) (serving_is terms chronicle mirror view j stands) ∙ sym stands.collector
 
 -- A collector that is over hears nothing.
-pub serves_over : (m max : ℕ) (chronicle : Chronicle) (mir mirror : Held) (view : JoinedView) (j : Joined) (book : BookView) (by : SessionEnd) (more : List Turn) (piece : List ℕ) (told : List Telling)
-    → StandsFor (joined_view m book mir view) (world_of max chronicle mirror j) → view.collector ≡ Some by
-    → StandsFor (joined_view m book mir view) (serves (world_of max chronicle mirror j) j more piece).0 × (told ≡ told ++ (serves (world_of max chronicle mirror j) j more piece).1)
-serves_over m max chronicle mir mirror view j book by more piece told stands over =
-    subst (λ (o : Option SessionEnd). StandsFor (joined_view m book mir view) (serves_by o (world_of max chronicle mirror j) j more piece).0
-    × (told ≡ told ++ (serves_by o (world_of max chronicle mirror j) j more piece).1))
-    (sym (collector_is max chronicle mirror view j stands.joined ∙ over)) (stands, sym (append-nil told))
+pub serves_over : (m terms : Terms) (chronicle : Chronicle) (mir mirror : Held) (view : JoinedView) (j : Joined) (book : BookView) (by : SessionEnd) (more : List Turn) (piece : List ℕ) (told : List Telling)
+    → StandsFor (joined_view m book mir view) (world_of terms chronicle mirror j) → view.collector ≡ Some by
+    → StandsFor (joined_view m book mir view) (serves (world_of terms chronicle mirror j) j more piece).0 × (told ≡ told ++ (serves (world_of terms chronicle mirror j) j more piece).1)
+serves_over m terms chronicle mir mirror view j book by more piece told stands over =
+    subst (λ (o : Option SessionEnd). StandsFor (joined_view m book mir view) (serves_by o (world_of terms chronicle mirror j) j more piece).0
+    × (told ≡ told ++ (serves_by o (world_of terms chronicle mirror j) j more piece).1))
+    (sym (collector_is terms chronicle mirror view j stands.joined ∙ over)) (stands, sym (append-nil told))
 
 -- One that is not hears the turns, which carry a piece of what the validator wrote.
 pub record Heard (view next : JoinedView) (old new : BookView) (more : List Turn) : Type 0 where
@@ -129,20 +130,20 @@ pub record Heard (view next : JoinedView) (old new : BookView) (more : List Turn
   pub over : over_of next.follow ≡ over_of view.follow
   pub same : next.validator ≡ view.validator
 
-pub serves_live : (m max : ℕ) (chronicle : Chronicle) (mir mirror : Held) (view next : JoinedView) (j : Joined) (old new : BookView) (more : List Turn) (piece : List ℕ) (told told_after : List Telling)
-    → StandsFor (joined_view m old mir view) (world_of max chronicle mirror j) → view.collector ≡ None → Heard view next old new more
+pub serves_live : (m terms : Terms) (chronicle : Chronicle) (mir mirror : Held) (view next : JoinedView) (j : Joined) (old new : BookView) (more : List Turn) (piece : List ℕ) (told told_after : List Telling)
+    → StandsFor (joined_view m old mir view) (world_of terms chronicle mirror j) → view.collector ≡ None → Heard view next old new more
     → FollowStood view.follow.end.config j.opened j.up (j.carried_down ++ piece) next.follow mirror → told_after ≡ told ++ ends CollectorEnds next.collector
-    → StandsFor (joined_view m new mir next) (serves (world_of max chronicle mirror j) j more piece).0 × (told_after ≡ told ++ (serves (world_of max chronicle mirror j) j more piece).1)
-serves_live m max chronicle mir mirror view next j old new more piece told told_after stands live heard follow says =
-    let w : World = world_of max chronicle mirror j in
+    → StandsFor (joined_view m new mir next) (serves (world_of terms chronicle mirror j) j more piece).0 × (told_after ≡ told ++ (serves (world_of terms chronicle mirror j) j more piece).1)
+serves_live m terms chronicle mir mirror view next j old new more piece told told_after stands live heard follow says =
+    let w : World = world_of terms chronicle mirror j in
     let s = stands.joined in
     let now = turned_now old new view.serve next.serve more chronicle j.places j.down j.carried_up (heard.turned (sym s.collector ∙ live)) stands.book s.serve (λ is. heard.well (heard.collector ∙ is)) in
-    let config : next.serve.end.config ≡ serve_config max = heard.config ∙ s.serve_config in
-    let session = serves_so (serve_config max) chronicle (j.places ++ now.later) (j.down ++ more) j.carried_up next.serve config now.stood in
-    let places : served_places chronicle (serve_config max) (j.down ++ more) j.places ≡ j.places ++ now.later =
-    placed_now (at_places chronicle) (length chronicle.entries) (rules.session (serve_config max) (j.down ++ more)) j.places now.later (j.carried_up ++ next.serve.end.out) (stand_of next.serve.end.standing) now.are session in
+    let config : next.serve.end.config ≡ serve_config terms = heard.config ∙ s.serve_config in
+    let session = serves_so (serve_config terms) chronicle (j.places ++ now.later) (j.down ++ more) j.carried_up next.serve config now.stood in
+    let places : served_places chronicle (serve_config terms) (j.down ++ more) j.places ≡ j.places ++ now.later =
+    placed_now (at_places chronicle) (length chronicle.entries) (rules.session (serve_config terms) (j.down ++ more)) j.places now.later (j.carried_up ++ next.serve.end.out) (stand_of next.serve.end.standing) now.are session in
     let later : Joined = served_on w j more piece in
-    let joined : JoinedStands max chronicle mirror next later = record {
+    let joined : JoinedStands terms chronicle mirror next later = record {
       serve = subst (λ (ps : List ℕ). Stood chronicle ps (j.down ++ more) j.carried_up next.serve) (sym places) now.stood;
       serve_config = config;
       collector = heard.collector;
@@ -151,23 +152,23 @@ serves_live m max chronicle mir mirror view next j old new more piece told told_
       follow_config = heard.follow_config ∙ s.follow_config;
       validator = heard.same ∙ s.validator ∙ sym heard.over;
     } in
-    let ended : collector_end w later ≡ next.collector = collector_is max chronicle mirror next later joined in
+    let ended : collector_end w later ≡ next.collector = collector_is terms chronicle mirror next later joined in
     subst (λ (o : Option SessionEnd). StandsFor (joined_view m new mir next) (serves_by o w j more piece).0 × (told_after ≡ told ++ (serves_by o w j more piece).1))
-    (sym (collector_is max chronicle mirror view j s ∙ live)) (
-      record { max = stands.max; book = now.book; mirror = stands.mirror; joined = joined },
+    (sym (collector_is terms chronicle mirror view j s ∙ live)) (
+      record { terms = stands.terms; book = now.book; mirror = stands.mirror; joined = joined },
       says ∙ ap (λ (o : Option SessionEnd). told ++ ends CollectorEnds o) (sym ended),
     )
 
 -- ---- pieces
 
 -- What waits for the collector.
-pub down_is : (max : ℕ) (chronicle : Chronicle) (mirror : Held) (view : JoinedView) (j : Joined) → JoinedStands max chronicle mirror view j
-    → (following j).0 ≡ j.carried_down ++ view.follow.end.out → down_waits (world_of max chronicle mirror j) j ≡ unless_over view.collector view.follow.end.out
-down_is max chronicle mirror view j stands wrote =
-    ap (λ (o : Option SessionEnd). unless_over o (drop (length j.carried_down) (following j).0)) (collector_is max chronicle mirror view j stands)
+pub down_is : (terms : Terms) (chronicle : Chronicle) (mirror : Held) (view : JoinedView) (j : Joined) → JoinedStands terms chronicle mirror view j
+    → (following j).0 ≡ j.carried_down ++ view.follow.end.out → down_waits (world_of terms chronicle mirror j) j ≡ unless_over view.collector view.follow.end.out
+down_is terms chronicle mirror view j stands wrote =
+    ap (λ (o : Option SessionEnd). unless_over o (drop (length j.carried_down) (following j).0)) (collector_is terms chronicle mirror view j stands)
     ∙ ap (λ (os : List ℕ). unless_over view.collector os) (ap (λ (os : List ℕ). drop (length j.carried_down) os) wrote ∙ drop_front j.carried_down view.follow.end.out)
 
-pub up_is : (max : ℕ) (chronicle : Chronicle) (mirror : Held) (view : JoinedView) (j : Joined) → JoinedStands max chronicle mirror view j
-    → drop (length j.carried_up) (serving (world_of max chronicle mirror j) j).0 ≡ view.serve.end.out
-up_is max chronicle mirror view j stands =
-    ap (λ (s : List ℕ × Stand). drop (length j.carried_up) s.0) (serving_is max chronicle mirror view j stands) ∙ drop_front j.carried_up view.serve.end.out
+pub up_is : (terms : Terms) (chronicle : Chronicle) (mirror : Held) (view : JoinedView) (j : Joined) → JoinedStands terms chronicle mirror view j
+    → drop (length j.carried_up) (serving (world_of terms chronicle mirror j) j).0 ≡ view.serve.end.out
+up_is terms chronicle mirror view j stands =
+    ap (λ (s : List ℕ × Stand). drop (length j.carried_up) s.0) (serving_is terms chronicle mirror view j stands) ∙ drop_front j.carried_up view.serve.end.out

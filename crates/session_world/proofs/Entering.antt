@@ -19,6 +19,7 @@ use Rattle.collector_session.specs.Cores.{Core, Stood}
 use Rattle.collector_session.specs.Standing.{stand_of}
 use Rattle.session_rules.specs.ServeRules.{session}
 use Rattle.session_rules.proofs.Desking.{gives_longer}
+use Rattle.session_world.specs.declared.terms.Terms.{Terms}
 use Rattle.session_world.specs.declared.joined.Joined.{Joined as JoinedView}
 use Rattle.session_world.specs.declared.telling.Telling.{Telling}
 use Rattle.session_world.specs.declared.telling.Telling.TheVariants.{Refused}
@@ -37,11 +38,11 @@ longer_stood chronicle more places turns carried core stood = record {
   received = stood.received;
 }
 
-longer_joined : (max : ℕ) (chronicle : Chronicle) (more : List Entry) (mirror : Held) (view : Option JoinedView) (joined : Option Joined) → JoinedBy max chronicle mirror view joined → JoinedBy max (extended chronicle more) mirror view joined
-longer_joined max chronicle more mirror None None by = tt
-longer_joined max chronicle more mirror None (Some j) by = absurd by
-longer_joined max chronicle more mirror (Some view) None by = absurd by
-longer_joined max chronicle more mirror (Some view) (Some j) by = record {
+longer_joined : (terms : Terms) (chronicle : Chronicle) (more : List Entry) (mirror : Held) (view : Option JoinedView) (joined : Option Joined) → JoinedBy terms chronicle mirror view joined → JoinedBy terms (extended chronicle more) mirror view joined
+longer_joined terms chronicle more mirror None None by = tt
+longer_joined terms chronicle more mirror None (Some j) by = absurd by
+longer_joined terms chronicle more mirror (Some view) None by = absurd by
+longer_joined terms chronicle more mirror (Some view) (Some j) by = record {
   serve = longer_stood chronicle more j.places j.down j.carried_up view.serve by.serve;
   serve_config = by.serve_config;
   collector = by.collector;
@@ -84,10 +85,10 @@ entered change view new value told apply w stands =
     subst (λ (o : Option BookError). StandsFor (record view { book = new }) (enters_by change w o).0 × (told ≡ told ++ (enters_by change w o).1)) (sym done.0) (
       subst (λ (e : Entry). StandsFor (record view { book = new }) (record w { chronicle = extended w.chronicle (e ∷ []) })) (sym same)
           (record {
-            max = stands.max;
+            terms = stands.terms;
             book = done.1.2;
             mirror = stands.mirror;
-            joined = longer_joined w.max w.chronicle (made ∷ []) w.mirror view.joined w.joined stands.joined;
+            joined = longer_joined w.terms w.chronicle (made ∷ []) w.mirror view.joined w.joined stands.joined;
           }),
       sym (append-nil told),
     )
@@ -98,18 +99,18 @@ pub not_entered : (T : Type 0) (change : Edit) (view : WorldView) (new : BookVie
 not_entered T change view new error told told_after other apply says w stands =
     let done = refusal_is T (Makes change (state_of w.chronicle)) (edit_refusal change (state_of w.chronicle)) w.chronicle error new other (apply w.chronicle stands.book) in
     subst (λ (o : Option BookError). StandsFor (record view { book = new }) (enters_by change w o).0 × (told_after ≡ told ++ (enters_by change w o).1)) (sym done.0)
-    (record { max = stands.max; book = done.1; mirror = stands.mirror; joined = stands.joined }, says)
+    (record { terms = stands.terms; book = done.1; mirror = stands.mirror; joined = stands.joined }, says)
 
 -- ---- the start and the end of a session
 
-pub opened_does : (view : WorldView) (made : JoinedView) → ((chronicle : Chronicle) (mirror : Held) → JoinedStands view.max chronicle mirror made (opened mirror)) → Does opens view [] (record view { joined = Some made }) []
+pub opened_does : (view : WorldView) (made : JoinedView) → ((chronicle : Chronicle) (mirror : Held) → JoinedStands view.terms chronicle mirror made (opened view.terms.subscribe mirror)) → Does opens view [] (record view { joined = Some made }) []
 opened_does view made stands w so = (
-  record { max = so.max; book = so.book; mirror = so.mirror; joined = subst (λ (m : ℕ). JoinedStands m w.chronicle w.mirror made (opened w.mirror)) so.max (stands w.chronicle w.mirror) },
+  record { terms = so.terms; book = so.book; mirror = so.mirror; joined = subst (λ (m : Terms). JoinedStands m w.chronicle w.mirror made (opened m.subscribe w.mirror)) so.terms (stands w.chronicle w.mirror) },
   refl,
 )
 
 pub cut_does : (view : WorldView) → Does cuts view [] (record view { joined = None }) []
-cut_does view w so = (record { max = so.max; book = so.book; mirror = so.mirror; joined = tt }, refl)
+cut_does view w so = (record { terms = so.terms; book = so.book; mirror = so.mirror; joined = tt }, refl)
 
 -- A change, by what came of it.
 pub enters_does : (T : Type 0) (change : Edit) (view : WorldView) (new : BookView) (done : Result T BookError) (told told_after : List Telling)

@@ -18,6 +18,7 @@ use Rattle.validator_session.specs.declared.inner.Inner.{Inner as Core}
 use Rattle.validator_session.specs.declared.notes.TakenReport.{TakenReport as TakenValue}
 use Rattle.validator_session.specs.Core.{Fell, Stood, Turned, over_of}
 use Rattle.validator_session.specs.Standing.{report_of, stand_of}
+use Rattle.session_world.specs.declared.terms.Terms.{Terms}
 use Rattle.session_world.specs.declared.joined.Joined.{Joined as JoinedView}
 use Rattle.session_world.specs.declared.telling.Telling.{Telling}
 use Rattle.session_world.specs.declared.telling.Telling.TheVariants.{ValidatorEnds}
@@ -29,13 +30,13 @@ use Rattle.session_world.proofs.Collecting.{world_of}
 
 -- ---- how the validator of a session stands
 
-pub following_is : (max : ℕ) (chronicle : Chronicle) (mirror : Held) (view : JoinedView) (j : Joined) → JoinedStands max chronicle mirror view j
+pub following_is : (terms : Terms) (chronicle : Chronicle) (mirror : Held) (view : JoinedView) (j : Joined) → JoinedStands terms chronicle mirror view j
     → following j ≡ (j.carried_down ++ view.follow.end.out, stand_of view.follow.end.standing mirror)
-following_is max chronicle mirror view j stands =
-    followed_is_so j.opened follow_config j.up (j.carried_down ++ view.follow.end.out) (stand_of view.follow.end.standing mirror) (stands.follow.gives nobody)
+following_is terms chronicle mirror view j stands =
+    followed_is_so j.opened (follow_config j.subscribe) j.up (j.carried_down ++ view.follow.end.out) (stand_of view.follow.end.standing mirror) (stands.follow.gives nobody)
 
-pub validator_is : (max : ℕ) (chronicle : Chronicle) (mirror : Held) (view : JoinedView) (j : Joined) → JoinedStands max chronicle mirror view j → validator_end j ≡ view.validator
-validator_is max chronicle mirror view j stands = ap (λ (f : List ℕ × Stand). follow_end f) (following_is max chronicle mirror view j stands) ∙ sym stands.validator
+pub validator_is : (terms : Terms) (chronicle : Chronicle) (mirror : Held) (view : JoinedView) (j : Joined) → JoinedStands terms chronicle mirror view j → validator_end j ≡ view.validator
+validator_is terms chronicle mirror view j stands = ap (λ (f : List ℕ × Stand). follow_end f) (following_is terms chronicle mirror view j stands) ∙ sym stands.validator
 
 -- ---- reports that it took
 
@@ -60,13 +61,13 @@ takes_later before after =
 -- ---- turns of the validator
 
 -- One that is over hears nothing.
-pub follows_over : (m max : ℕ) (chronicle : Chronicle) (mir mirror : Held) (view : JoinedView) (j : Joined) (book : BookView) (by : SessionEnd) (more : List Turn) (piece : List ℕ) (told : List Telling)
-    → StandsFor (joined_view m book mir view) (world_of max chronicle mirror j) → view.validator ≡ Some by
-    → StandsFor (joined_view m book mir view) (follows (world_of max chronicle mirror j) j more piece).0 × (told ≡ told ++ (follows (world_of max chronicle mirror j) j more piece).1)
-follows_over m max chronicle mir mirror view j book by more piece told stands over =
-    subst (λ (o : Option SessionEnd). StandsFor (joined_view m book mir view) (follows_by o (world_of max chronicle mirror j) j more piece).0
-    × (told ≡ told ++ (follows_by o (world_of max chronicle mirror j) j more piece).1))
-    (sym (validator_is max chronicle mirror view j stands.joined ∙ over)) (stands, sym (append-nil told))
+pub follows_over : (m terms : Terms) (chronicle : Chronicle) (mir mirror : Held) (view : JoinedView) (j : Joined) (book : BookView) (by : SessionEnd) (more : List Turn) (piece : List ℕ) (told : List Telling)
+    → StandsFor (joined_view m book mir view) (world_of terms chronicle mirror j) → view.validator ≡ Some by
+    → StandsFor (joined_view m book mir view) (follows (world_of terms chronicle mirror j) j more piece).0 × (told ≡ told ++ (follows (world_of terms chronicle mirror j) j more piece).1)
+follows_over m terms chronicle mir mirror view j book by more piece told stands over =
+    subst (λ (o : Option SessionEnd). StandsFor (joined_view m book mir view) (follows_by o (world_of terms chronicle mirror j) j more piece).0
+    × (told ≡ told ++ (follows_by o (world_of terms chronicle mirror j) j more piece).1))
+    (sym (validator_is terms chronicle mirror view j stands.joined ∙ over)) (stands, sym (append-nil told))
 
 -- One that is not hears the turns, which carry a piece of what the collector wrote.
 pub record Heard (mir mir2 : Held) (view next : JoinedView) (more : List Turn) : Type 0 where
@@ -78,25 +79,25 @@ pub record Heard (mir mir2 : Held) (view next : JoinedView) (more : List Turn) :
   pub over : over next.serve ≡ over view.serve
   pub same : next.collector ≡ view.collector
 
-stood_on : (mir mir2 mirror : Held) (view next : JoinedView) (j : Joined) (more : List Turn) → mir ≡ mirror → over_of view.follow ≡ None → view.follow.end.config ≡ follow_config
-    → Stood follow_config j.opened j.up j.carried_down view.follow mirror → Heard mir mir2 view next more → Stood follow_config j.opened (j.up ++ more) j.carried_down next.follow mir2
+stood_on : (mir mir2 mirror : Held) (view next : JoinedView) (j : Joined) (more : List Turn) → mir ≡ mirror → over_of view.follow ≡ None → view.follow.end.config ≡ follow_config j.subscribe
+    → Stood (follow_config j.subscribe) j.opened j.up j.carried_down view.follow mirror → Heard mir mir2 view next more → Stood (follow_config j.subscribe) j.opened (j.up ++ more) j.carried_down next.follow mir2
 stood_on mir mir2 mirror view next j more same live config stood heard =
-    elim (heard.turned (ap (λ (o : Option SessionEnd). is_some o) live) j.opened j.up j.carried_down (subst (λ (c : FollowConfig). Stood c j.opened j.up j.carried_down view.follow mir) (sym config) (subst (λ (h : Held). Stood follow_config j.opened j.up j.carried_down view.follow h) (sym same) stood))) [
+    elim (heard.turned (ap (λ (o : Option SessionEnd). is_some o) live) j.opened j.up j.carried_down (subst (λ (c : FollowConfig). Stood c j.opened j.up j.carried_down view.follow mir) (sym config) (subst (λ (h : Held). Stood (follow_config j.subscribe) j.opened j.up j.carried_down view.follow h) (sym same) stood))) [
       | inl stands ↦ subst (λ (c : FollowConfig). Stood c j.opened (j.up ++ more) j.carried_down next.follow mir2) config stands
       | inr fell ↦ absurd (heard.well (heard.validator ∙ fell.over))
     ]
 
-pub follows_live : (m max : ℕ) (chronicle : Chronicle) (mir mir2 mirror : Held) (view next : JoinedView) (j : Joined) (book : BookView) (more : List Turn) (piece : List ℕ) (told told_after : List Telling)
-    → StandsFor (joined_view m book mir view) (world_of max chronicle mirror j) → view.validator ≡ None → Heard mir mir2 view next more
+pub follows_live : (m terms : Terms) (chronicle : Chronicle) (mir mir2 mirror : Held) (view next : JoinedView) (j : Joined) (book : BookView) (more : List Turn) (piece : List ℕ) (told told_after : List Telling)
+    → StandsFor (joined_view m book mir view) (world_of terms chronicle mirror j) → view.validator ≡ None → Heard mir mir2 view next more
     → ServeStood chronicle j.places j.down (j.carried_up ++ piece) next.serve
     → told_after ≡ (told ++ map taken_telling (drop (length view.follow.end.standing.notes.reports) next.follow.end.standing.notes.reports)) ++ ends ValidatorEnds next.validator
-    → StandsFor (joined_view m book mir2 next) (follows (world_of max chronicle mirror j) j more piece).0 × (told_after ≡ told ++ (follows (world_of max chronicle mirror j) j more piece).1)
-follows_live m max chronicle mir mir2 mirror view next j book more piece told told_after stands live heard serve says =
-    let w : World = world_of max chronicle mirror j in
+    → StandsFor (joined_view m book mir2 next) (follows (world_of terms chronicle mirror j) j more piece).0 × (told_after ≡ told ++ (follows (world_of terms chronicle mirror j) j more piece).1)
+follows_live m terms chronicle mir mir2 mirror view next j book more piece told told_after stands live heard serve says =
+    let w : World = world_of terms chronicle mirror j in
     let s = stands.joined in
     let later : Joined = followed_on j more piece in
     let stood = stood_on mir mir2 mirror view next j more stands.mirror (sym s.validator ∙ live) s.follow_config s.follow heard in
-    let at : JoinedStands max chronicle mir2 next later = record {
+    let at : JoinedStands terms chronicle mir2 next later = record {
       serve = serve;
       serve_config = heard.serve_config ∙ s.serve_config;
       collector = heard.same ∙ s.collector ∙ sym heard.over;
@@ -105,20 +106,20 @@ follows_live m max chronicle mir mir2 mirror view next j book more piece told to
       follow_config = heard.config ∙ s.follow_config;
       validator = heard.validator;
     } in
-    let was : following j ≡ (j.carried_down ++ view.follow.end.out, stand_of view.follow.end.standing mirror) = following_is max chronicle mirror view j s in
-    let is : following later ≡ (j.carried_down ++ next.follow.end.out, stand_of next.follow.end.standing mir2) = following_is max chronicle mir2 next later at in
+    let was : following j ≡ (j.carried_down ++ view.follow.end.out, stand_of view.follow.end.standing mirror) = following_is terms chronicle mirror view j s in
+    let is : following later ≡ (j.carried_down ++ next.follow.end.out, stand_of next.follow.end.standing mir2) = following_is terms chronicle mir2 next later at in
     let holds : follow_mirror (following later) ≡ mir2 = ap (λ (f : List ℕ × Stand). follow_mirror f) is in
     let tells : map takes (drop (length (following j).1.notes.taken_reports) (following later).1.notes.taken_reports) ++ ends ValidatorEnds (validator_end later)
     ≡ map taken_telling (drop (length view.follow.end.standing.notes.reports) next.follow.end.standing.notes.reports) ++ ends ValidatorEnds next.validator =
     ap₂ (λ (one other : List ℕ × Stand). map takes (drop (length one.1.notes.taken_reports) other.1.notes.taken_reports) ++ ends ValidatorEnds (follow_end other)) was is
     ∙ ap₂ (λ (ts : List Telling) (o : Option SessionEnd). ts ++ ends ValidatorEnds o) (takes_later view.follow.end.standing.notes.reports next.follow.end.standing.notes.reports) (sym heard.validator) in
     subst (λ (o : Option SessionEnd). StandsFor (joined_view m book mir2 next) (follows_by o w j more piece).0 × (told_after ≡ told ++ (follows_by o w j more piece).1))
-    (sym (validator_is max chronicle mirror view j s ∙ live)) (
+    (sym (validator_is terms chronicle mirror view j s ∙ live)) (
       record {
-        max = stands.max;
+        terms = stands.terms;
         book = stands.book;
         mirror = sym holds;
-        joined = subst (λ (h : Held). JoinedStands max chronicle h next later) (sym holds) at;
+        joined = subst (λ (h : Held). JoinedStands terms chronicle h next later) (sym holds) at;
       },
       says
           ∙ append_assoc told (map taken_telling (drop (length view.follow.end.standing.notes.reports) next.follow.end.standing.notes.reports)) (ends ValidatorEnds next.validator)

@@ -8,6 +8,7 @@ use Rattle.collector_core.specs.Chronicle.{Chronicle}
 use Rattle.collector_core.specs.Standing.{BookView}
 use Rattle.session_rules.specs.declared.end.SessionEnd.{SessionEnd}
 use Rattle.session_rules.specs.Following.{Stand}
+use Rattle.session_world.specs.declared.terms.Terms.{Terms}
 use Rattle.session_world.specs.declared.joined.Joined.{Joined as JoinedView}
 use Rattle.session_world.specs.declared.telling.Telling.{Telling}
 use Rattle.wire_base.specs.Turns.{Turn, turns_of}
@@ -20,35 +21,35 @@ use Rattle.session_world.proofs.Following.{following_is, validator_is}
 -- ---- without a session
 
 pub no_session : (view : WorldView) (told : List Telling) (does : World → Joined → Told) → view.joined ≡ None → Does (λ w. in_session w (does w)) view told view told
-no_session view told does none w stands = by_joined w.max w.chronicle w.mirror w.joined (subst (λ (o : Option JoinedView). JoinedBy w.max w.chronicle w.mirror o w.joined) none stands.joined) stands
+no_session view told does none w stands = by_joined w.terms w.chronicle w.mirror w.joined (subst (λ (o : Option JoinedView). JoinedBy w.terms w.chronicle w.mirror o w.joined) none stands.joined) stands
   where
-    by_joined : (max : ℕ) (chronicle : Chronicle) (mirror : Held) (joined : Option Joined) → JoinedBy max chronicle mirror None joined → StandsFor view (record { max = max; chronicle = chronicle; mirror = mirror; joined = joined })
-        → StandsFor view (in_session (record { max = max; chronicle = chronicle; mirror = mirror; joined = joined }) (does (record { max = max; chronicle = chronicle; mirror = mirror; joined = joined }))).0
-        × (told ≡ told ++ (in_session (record { max = max; chronicle = chronicle; mirror = mirror; joined = joined }) (does (record { max = max; chronicle = chronicle; mirror = mirror; joined = joined }))).1)
-    by_joined max chronicle mirror None by stands = (stands, sym (append-nil told))
-    by_joined max chronicle mirror (Some j) by stands = absurd by
+    by_joined : (terms : Terms) (chronicle : Chronicle) (mirror : Held) (joined : Option Joined) → JoinedBy terms chronicle mirror None joined → StandsFor view (record { terms = terms; chronicle = chronicle; mirror = mirror; joined = joined })
+        → StandsFor view (in_session (record { terms = terms; chronicle = chronicle; mirror = mirror; joined = joined }) (does (record { terms = terms; chronicle = chronicle; mirror = mirror; joined = joined }))).0
+        × (told ≡ told ++ (in_session (record { terms = terms; chronicle = chronicle; mirror = mirror; joined = joined }) (does (record { terms = terms; chronicle = chronicle; mirror = mirror; joined = joined }))).1)
+    by_joined terms chronicle mirror None by stands = (stands, sym (append-nil told))
+    by_joined terms chronicle mirror (Some j) by stands = absurd by
 
 -- ---- what waits
 
 pub up_waits_are : (view : WorldView) (w : World) → StandsFor view w → view_up view ≡ waits_up w
-up_waits_are view w stands = by_joined w.max w.chronicle w.mirror view.joined w.joined stands.joined
+up_waits_are view w stands = by_joined w.terms w.chronicle w.mirror view.joined w.joined stands.joined
   where
-    by_joined : (max : ℕ) (chronicle : Chronicle) (mirror : Held) (joined : Option JoinedView) (spec : Option Joined) → JoinedBy max chronicle mirror joined spec
-        → view_up (record { max = view.max; book = view.book; mirror = view.mirror; joined = joined }) ≡ waits_up (record { max = max; chronicle = chronicle; mirror = mirror; joined = spec })
-    by_joined max chronicle mirror None None by = refl
-    by_joined max chronicle mirror None (Some j) by = absurd by
-    by_joined max chronicle mirror (Some v) None by = absurd by
-    by_joined max chronicle mirror (Some v) (Some j) by = ap₂ (λ (o : Option SessionEnd) (os : List ℕ). unless_over o os) (sym (validator_is max chronicle mirror v j by)) (sym (up_is max chronicle mirror v j by))
+    by_joined : (terms : Terms) (chronicle : Chronicle) (mirror : Held) (joined : Option JoinedView) (spec : Option Joined) → JoinedBy terms chronicle mirror joined spec
+        → view_up (record { terms = view.terms; book = view.book; mirror = view.mirror; joined = joined }) ≡ waits_up (record { terms = terms; chronicle = chronicle; mirror = mirror; joined = spec })
+    by_joined terms chronicle mirror None None by = refl
+    by_joined terms chronicle mirror None (Some j) by = absurd by
+    by_joined terms chronicle mirror (Some v) None by = absurd by
+    by_joined terms chronicle mirror (Some v) (Some j) by = ap₂ (λ (o : Option SessionEnd) (os : List ℕ). unless_over o os) (sym (validator_is terms chronicle mirror v j by)) (sym (up_is terms chronicle mirror v j by))
 
 pub down_waits_are : (view : WorldView) (w : World) → StandsFor view w → view_down view ≡ waits_down w
-down_waits_are view w stands = by_joined w.max w.chronicle w.mirror view.joined w.joined stands.joined
+down_waits_are view w stands = by_joined w.terms w.chronicle w.mirror view.joined w.joined stands.joined
   where
-    by_joined : (max : ℕ) (chronicle : Chronicle) (mirror : Held) (joined : Option JoinedView) (spec : Option Joined) → JoinedBy max chronicle mirror joined spec
-        → view_down (record { max = view.max; book = view.book; mirror = view.mirror; joined = joined }) ≡ waits_down (record { max = max; chronicle = chronicle; mirror = mirror; joined = spec })
-    by_joined max chronicle mirror None None by = refl
-    by_joined max chronicle mirror None (Some j) by = absurd by
-    by_joined max chronicle mirror (Some v) None by = absurd by
-    by_joined max chronicle mirror (Some v) (Some j) by = sym (down_is max chronicle mirror v j by (ap (λ (f : List ℕ × Stand). f.0) (following_is max chronicle mirror v j by)))
+    by_joined : (terms : Terms) (chronicle : Chronicle) (mirror : Held) (joined : Option JoinedView) (spec : Option Joined) → JoinedBy terms chronicle mirror joined spec
+        → view_down (record { terms = view.terms; book = view.book; mirror = view.mirror; joined = joined }) ≡ waits_down (record { terms = terms; chronicle = chronicle; mirror = mirror; joined = spec })
+    by_joined terms chronicle mirror None None by = refl
+    by_joined terms chronicle mirror None (Some j) by = absurd by
+    by_joined terms chronicle mirror (Some v) None by = absurd by
+    by_joined terms chronicle mirror (Some v) (Some j) by = sym (down_is terms chronicle mirror v j by (ap (λ (f : List ℕ × Stand). f.0) (following_is terms chronicle mirror v j by)))
 
 -- ---- one line and another, or the same line in other words
 
@@ -72,43 +73,43 @@ take_within most count xs is = elim (cases_lt (length xs) most) [
 
 pub ups_within : (view : WorldView) (most count : ℕ) (w : World) → count ≡ min (length (view_up view)) most → StandsFor view w → ups count w ≡ ups most w
 ups_within view most count w is stands =
-    by_joined w.max w.chronicle w.mirror w.joined (subst (λ (os : List ℕ). count ≡ min (length os) most) (up_waits_are view w stands) is)
+    by_joined w.terms w.chronicle w.mirror w.joined (subst (λ (os : List ℕ). count ≡ min (length os) most) (up_waits_are view w stands) is)
   where
-    by_joined : (max : ℕ) (chronicle : Chronicle) (mirror : Held) (joined : Option Joined) → count ≡ min (length (waits_up (record { max = max; chronicle = chronicle; mirror = mirror; joined = joined }))) most
-        → ups count (record { max = max; chronicle = chronicle; mirror = mirror; joined = joined }) ≡ ups most (record { max = max; chronicle = chronicle; mirror = mirror; joined = joined })
-    by_joined max chronicle mirror None is = refl
-    by_joined max chronicle mirror (Some j) is =
-        ap (λ (os : List ℕ). carries_up (world_of max chronicle mirror j) j os) (take_within most count (up_waits (world_of max chronicle mirror j) j) is)
+    by_joined : (terms : Terms) (chronicle : Chronicle) (mirror : Held) (joined : Option Joined) → count ≡ min (length (waits_up (record { terms = terms; chronicle = chronicle; mirror = mirror; joined = joined }))) most
+        → ups count (record { terms = terms; chronicle = chronicle; mirror = mirror; joined = joined }) ≡ ups most (record { terms = terms; chronicle = chronicle; mirror = mirror; joined = joined })
+    by_joined terms chronicle mirror None is = refl
+    by_joined terms chronicle mirror (Some j) is =
+        ap (λ (os : List ℕ). carries_up (world_of terms chronicle mirror j) j os) (take_within most count (up_waits (world_of terms chronicle mirror j) j) is)
 
 pub downs_within : (view : WorldView) (most count : ℕ) (w : World) → count ≡ min (length (view_down view)) most → StandsFor view w → downs count w ≡ downs most w
 downs_within view most count w is stands =
-    by_joined w.max w.chronicle w.mirror w.joined (subst (λ (os : List ℕ). count ≡ min (length os) most) (down_waits_are view w stands) is)
+    by_joined w.terms w.chronicle w.mirror w.joined (subst (λ (os : List ℕ). count ≡ min (length os) most) (down_waits_are view w stands) is)
   where
-    by_joined : (max : ℕ) (chronicle : Chronicle) (mirror : Held) (joined : Option Joined) → count ≡ min (length (waits_down (record { max = max; chronicle = chronicle; mirror = mirror; joined = joined }))) most
-        → downs count (record { max = max; chronicle = chronicle; mirror = mirror; joined = joined }) ≡ downs most (record { max = max; chronicle = chronicle; mirror = mirror; joined = joined })
-    by_joined max chronicle mirror None is = refl
-    by_joined max chronicle mirror (Some j) is =
-        ap (λ (os : List ℕ). carries_down (world_of max chronicle mirror j) j os) (take_within most count (down_waits (world_of max chronicle mirror j) j) is)
+    by_joined : (terms : Terms) (chronicle : Chronicle) (mirror : Held) (joined : Option Joined) → count ≡ min (length (waits_down (record { terms = terms; chronicle = chronicle; mirror = mirror; joined = joined }))) most
+        → downs count (record { terms = terms; chronicle = chronicle; mirror = mirror; joined = joined }) ≡ downs most (record { terms = terms; chronicle = chronicle; mirror = mirror; joined = joined })
+    by_joined terms chronicle mirror None is = refl
+    by_joined terms chronicle mirror (Some j) is =
+        ap (λ (os : List ℕ). carries_down (world_of terms chronicle mirror j) j os) (take_within most count (down_waits (world_of terms chronicle mirror j) j) is)
 
 pub ups_all : (view : WorldView) (count : ℕ) (w : World) → count ≡ length (view_up view) → StandsFor view w → ups count w ≡ all_up w
 ups_all view count w is stands =
-    by_joined w.max w.chronicle w.mirror w.joined (is ∙ ap (λ (os : List ℕ). length os) (up_waits_are view w stands))
+    by_joined w.terms w.chronicle w.mirror w.joined (is ∙ ap (λ (os : List ℕ). length os) (up_waits_are view w stands))
   where
-    by_joined : (max : ℕ) (chronicle : Chronicle) (mirror : Held) (joined : Option Joined) → count ≡ length (waits_up (record { max = max; chronicle = chronicle; mirror = mirror; joined = joined }))
-        → ups count (record { max = max; chronicle = chronicle; mirror = mirror; joined = joined }) ≡ all_up (record { max = max; chronicle = chronicle; mirror = mirror; joined = joined })
-    by_joined max chronicle mirror None is = refl
-    by_joined max chronicle mirror (Some j) is =
-        ap (λ (os : List ℕ). carries_up (world_of max chronicle mirror j) j os) (take_all count (up_waits (world_of max chronicle mirror j) j) (omega (arith, is)))
+    by_joined : (terms : Terms) (chronicle : Chronicle) (mirror : Held) (joined : Option Joined) → count ≡ length (waits_up (record { terms = terms; chronicle = chronicle; mirror = mirror; joined = joined }))
+        → ups count (record { terms = terms; chronicle = chronicle; mirror = mirror; joined = joined }) ≡ all_up (record { terms = terms; chronicle = chronicle; mirror = mirror; joined = joined })
+    by_joined terms chronicle mirror None is = refl
+    by_joined terms chronicle mirror (Some j) is =
+        ap (λ (os : List ℕ). carries_up (world_of terms chronicle mirror j) j os) (take_all count (up_waits (world_of terms chronicle mirror j) j) (omega (arith, is)))
 
 pub downs_all : (view : WorldView) (count : ℕ) (w : World) → count ≡ length (view_down view) → StandsFor view w → downs count w ≡ all_down w
 downs_all view count w is stands =
-    by_joined w.max w.chronicle w.mirror w.joined (is ∙ ap (λ (os : List ℕ). length os) (down_waits_are view w stands))
+    by_joined w.terms w.chronicle w.mirror w.joined (is ∙ ap (λ (os : List ℕ). length os) (down_waits_are view w stands))
   where
-    by_joined : (max : ℕ) (chronicle : Chronicle) (mirror : Held) (joined : Option Joined) → count ≡ length (waits_down (record { max = max; chronicle = chronicle; mirror = mirror; joined = joined }))
-        → downs count (record { max = max; chronicle = chronicle; mirror = mirror; joined = joined }) ≡ all_down (record { max = max; chronicle = chronicle; mirror = mirror; joined = joined })
-    by_joined max chronicle mirror None is = refl
-    by_joined max chronicle mirror (Some j) is =
-        ap (λ (os : List ℕ). carries_down (world_of max chronicle mirror j) j os) (take_all count (down_waits (world_of max chronicle mirror j) j) (omega (arith, is)))
+    by_joined : (terms : Terms) (chronicle : Chronicle) (mirror : Held) (joined : Option Joined) → count ≡ length (waits_down (record { terms = terms; chronicle = chronicle; mirror = mirror; joined = joined }))
+        → downs count (record { terms = terms; chronicle = chronicle; mirror = mirror; joined = joined }) ≡ all_down (record { terms = terms; chronicle = chronicle; mirror = mirror; joined = joined })
+    by_joined terms chronicle mirror None is = refl
+    by_joined terms chronicle mirror (Some j) is =
+        ap (λ (os : List ℕ). carries_down (world_of terms chronicle mirror j) j os) (take_all count (down_waits (world_of terms chronicle mirror j) j) (omega (arith, is)))
 
 never_none : (octet : ℕ) (octets : List ℕ) → length (octet ∷ octets) ≡ 0 → ⊥
 never_none octet octets none = omega (arith, none)
@@ -222,38 +223,38 @@ ends_does keeps entry view told told_now ends w stands = (ends w stands).0
 
 -- ---- what was carried to the validator
 
-follows_carried : (by : Option SessionEnd) (max : ℕ) (chronicle : Chronicle) (mirror : Held) (j : Joined) (turns : List Turn) (piece : List ℕ) → ((by ≡ None) ⊎ (piece ≡ [])) → carried_up (follows_by by (world_of max chronicle mirror j) j turns piece).0 ≡ j.carried_up ++ piece
-follows_carried None max chronicle mirror j turns piece is = refl
-follows_carried (Some end) max chronicle mirror j turns piece (inl none) = absurd cc
-follows_carried (Some end) max chronicle mirror j turns piece (inr none) = sym (ap (λ (os : List ℕ). j.carried_up ++ os) none ∙ append-nil j.carried_up)
+follows_carried : (by : Option SessionEnd) (terms : Terms) (chronicle : Chronicle) (mirror : Held) (j : Joined) (turns : List Turn) (piece : List ℕ) → ((by ≡ None) ⊎ (piece ≡ [])) → carried_up (follows_by by (world_of terms chronicle mirror j) j turns piece).0 ≡ j.carried_up ++ piece
+follows_carried None terms chronicle mirror j turns piece is = refl
+follows_carried (Some end) terms chronicle mirror j turns piece (inl none) = absurd cc
+follows_carried (Some end) terms chronicle mirror j turns piece (inr none) = sym (ap (λ (os : List ℕ). j.carried_up ++ os) none ∙ append-nil j.carried_up)
 
-serves_carried : (by : Option SessionEnd) (max : ℕ) (chronicle : Chronicle) (mirror : Held) (j : Joined) (turns : List Turn) (piece : List ℕ) → carried_up (serves_by by (world_of max chronicle mirror j) j turns piece).0 ≡ j.carried_up
-serves_carried None max chronicle mirror j turns piece = refl
-serves_carried (Some end) max chronicle mirror j turns piece = refl
+serves_carried : (by : Option SessionEnd) (terms : Terms) (chronicle : Chronicle) (mirror : Held) (j : Joined) (turns : List Turn) (piece : List ℕ) → carried_up (serves_by by (world_of terms chronicle mirror j) j turns piece).0 ≡ j.carried_up
+serves_carried None terms chronicle mirror j turns piece = refl
+serves_carried (Some end) terms chronicle mirror j turns piece = refl
 
 unless_is : (by : Option SessionEnd) (octets : List ℕ) → (by ≡ None) ⊎ (unless_over by octets ≡ [])
 unless_is None octets = inl refl
 unless_is (Some end) octets = inr refl
 
 up_carried : (w : World) → carried_up (all_up w).0 ≡ carried_up w ++ waits_up w
-up_carried w = by_joined w.max w.chronicle w.mirror w.joined
+up_carried w = by_joined w.terms w.chronicle w.mirror w.joined
   where
-    by_joined : (max : ℕ) (chronicle : Chronicle) (mirror : Held) (joined : Option Joined) → carried_up (all_up (record { max = max; chronicle = chronicle; mirror = mirror; joined = joined })).0
-        ≡ carried_up (record { max = max; chronicle = chronicle; mirror = mirror; joined = joined }) ++ waits_up (record { max = max; chronicle = chronicle; mirror = mirror; joined = joined })
-    by_joined max chronicle mirror None = refl
-    by_joined max chronicle mirror (Some j) =
-        let w : World = world_of max chronicle mirror j in
-        follows_carried (validator_end j) max chronicle mirror j (turns_of (used j.up (up_waits w j))) (up_waits w j) (unless_is (validator_end j) (drop (length j.carried_up) (serving w j).0))
+    by_joined : (terms : Terms) (chronicle : Chronicle) (mirror : Held) (joined : Option Joined) → carried_up (all_up (record { terms = terms; chronicle = chronicle; mirror = mirror; joined = joined })).0
+        ≡ carried_up (record { terms = terms; chronicle = chronicle; mirror = mirror; joined = joined }) ++ waits_up (record { terms = terms; chronicle = chronicle; mirror = mirror; joined = joined })
+    by_joined terms chronicle mirror None = refl
+    by_joined terms chronicle mirror (Some j) =
+        let w : World = world_of terms chronicle mirror j in
+        follows_carried (validator_end j) terms chronicle mirror j (turns_of (used j.up (up_waits w j))) (up_waits w j) (unless_is (validator_end j) (drop (length j.carried_up) (serving w j).0))
 
 down_carried : (w : World) → carried_up (all_down w).0 ≡ carried_up w
-down_carried w = by_joined w.max w.chronicle w.mirror w.joined
+down_carried w = by_joined w.terms w.chronicle w.mirror w.joined
   where
-    by_joined : (max : ℕ) (chronicle : Chronicle) (mirror : Held) (joined : Option Joined) → carried_up (all_down (record { max = max; chronicle = chronicle; mirror = mirror; joined = joined })).0
-        ≡ carried_up (record { max = max; chronicle = chronicle; mirror = mirror; joined = joined })
-    by_joined max chronicle mirror None = refl
-    by_joined max chronicle mirror (Some j) =
-        let w : World = world_of max chronicle mirror j in
-        serves_carried (collector_end w j) max chronicle mirror j (turns_of (used j.down (down_waits w j))) (down_waits w j)
+    by_joined : (terms : Terms) (chronicle : Chronicle) (mirror : Held) (joined : Option Joined) → carried_up (all_down (record { terms = terms; chronicle = chronicle; mirror = mirror; joined = joined })).0
+        ≡ carried_up (record { terms = terms; chronicle = chronicle; mirror = mirror; joined = joined })
+    by_joined terms chronicle mirror None = refl
+    by_joined terms chronicle mirror (Some j) =
+        let w : World = world_of terms chronicle mirror j in
+        serves_carried (collector_end w j) terms chronicle mirror j (turns_of (used j.down (down_waits w j))) (down_waits w j)
 
 pub round_carried : (w : World) → carried_up (round w).0 ≡ carried_up w ++ waits_up w
 round_carried w = down_carried (all_up w).0 ∙ up_carried w
@@ -261,10 +262,10 @@ round_carried w = down_carried (all_up w).0 ∙ up_carried w
 -- ---- whether a session is open
 
 pub open_is : (view : WorldView) (w : World) → StandsFor view w → is_some view.joined ≡ is_some w.joined
-open_is view w stands = by_joined w.max w.chronicle w.mirror view.joined w.joined stands.joined
+open_is view w stands = by_joined w.terms w.chronicle w.mirror view.joined w.joined stands.joined
   where
-    by_joined : (max : ℕ) (chronicle : Chronicle) (mirror : Held) (joined : Option JoinedView) (spec : Option Joined) → JoinedBy max chronicle mirror joined spec → is_some joined ≡ is_some spec
-    by_joined max chronicle mirror None None by = refl
-    by_joined max chronicle mirror None (Some j) by = absurd by
-    by_joined max chronicle mirror (Some joined) None by = absurd by
-    by_joined max chronicle mirror (Some joined) (Some j) by = refl
+    by_joined : (terms : Terms) (chronicle : Chronicle) (mirror : Held) (joined : Option JoinedView) (spec : Option Joined) → JoinedBy terms chronicle mirror joined spec → is_some joined ≡ is_some spec
+    by_joined terms chronicle mirror None None by = refl
+    by_joined terms chronicle mirror None (Some j) by = absurd by
+    by_joined terms chronicle mirror (Some joined) None by = absurd by
+    by_joined terms chronicle mirror (Some joined) (Some j) by = refl

@@ -48,7 +48,7 @@ enters edit w = enters_by edit w (edit_refusal edit (state_of w.chronicle))
 
 -- Another session begins, and one that is open is cut.
 abbrev pub opens : World → Told
-opens w = (record w { joined = Some (opened w.mirror) }, [])
+opens w = (record w { joined = Some (opened w.terms.subscribe w.mirror) }, [])
 
 -- The session is cut, and all that waits is dropped.
 abbrev pub cuts : World → Told
@@ -90,7 +90,7 @@ follows w j turns piece = follows_by (validator_end j) w j turns piece
 abbrev pub served_on : World → Joined → List Turn → List ℕ → Joined
 served_on w j turns piece = record j {
   down = j.down ++ turns;
-  places = served_places w.chronicle (serve_config w.max) (j.down ++ turns) j.places;
+  places = served_places w.chronicle (serve_config w.terms) (j.down ++ turns) j.places;
   carried_down = j.carried_down ++ piece;
 }
 

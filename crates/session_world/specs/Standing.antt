@@ -7,12 +7,13 @@ use Rattle.collector_session.specs.Cores.{Stood as ServeStood, over as serve_ove
 use Rattle.session_rules.specs.declared.end.SessionEnd.TheVariants as end
 use Rattle.validator_session.specs.Core.{Stood as FollowStood, over_of as follow_over}
 use Rattle.session_world.specs.declared.joined.Joined.{Joined as JoinedView}
+use Rattle.session_world.specs.declared.terms.Terms.{Terms}
 use Rattle.session_world.specs.declared.telling.Telling.{Telling}
 use Rattle.session_world.specs.World.{World, Joined, serve_config, follow_config, unless_over}
 use Rattle.session_world.specs.Lines.{Told}
 
 pub record WorldView : Type 0 where
-  pub max : ℕ
+  pub terms : Terms
   pub book : BookView
   pub mirror : Held
   pub joined : Option JoinedView
@@ -31,31 +32,31 @@ abbrev pub view_down : WorldView → List ℕ
 view_down view = elim view.joined as (λ _. List ℕ) [ None ↦ [] | Some joined ↦ joined_down joined ]
 
 -- A world with a session.
-abbrev pub joined_view : ℕ → BookView → Held → JoinedView → WorldView
-joined_view max book mirror joined = record { max = max; book = book; mirror = mirror; joined = Some joined }
+abbrev pub joined_view : Terms → BookView → Held → JoinedView → WorldView
+joined_view terms book mirror joined = record { terms = terms; book = book; mirror = mirror; joined = Some joined }
 
 -- Both ends stand where those of the session do. Memory did not run out.
-pub record JoinedStands (max : ℕ) (chronicle : Chronicle) (mirror : Held) (view : JoinedView) (j : Joined) : Type 0 where
+pub record JoinedStands (terms : Terms) (chronicle : Chronicle) (mirror : Held) (view : JoinedView) (j : Joined) : Type 0 where
   pub serve : ServeStood chronicle j.places j.down j.carried_up view.serve
-  pub serve_config : view.serve.end.config ≡ serve_config max
+  pub serve_config : view.serve.end.config ≡ serve_config terms
   pub collector : view.collector ≡ serve_over view.serve
   pub collector_well : view.collector ≡ Some end.Memory → ⊥
-  pub follow : FollowStood follow_config j.opened j.up j.carried_down view.follow mirror
-  pub follow_config : view.follow.end.config ≡ follow_config
+  pub follow : FollowStood (follow_config j.subscribe) j.opened j.up j.carried_down view.follow mirror
+  pub follow_config : view.follow.end.config ≡ follow_config j.subscribe
   pub validator : view.validator ≡ follow_over view.follow
 
-abbrev pub JoinedBy : ℕ → Chronicle → Held → Option JoinedView → Option Joined → Type 0
-JoinedBy max chronicle mirror None None = Unit {0}
-JoinedBy max chronicle mirror None (Some j) = ⊥
-JoinedBy max chronicle mirror (Some view) None = ⊥
-JoinedBy max chronicle mirror (Some view) (Some j) = JoinedStands max chronicle mirror view j
+abbrev pub JoinedBy : Terms → Chronicle → Held → Option JoinedView → Option Joined → Type 0
+JoinedBy terms chronicle mirror None None = Unit {0}
+JoinedBy terms chronicle mirror None (Some j) = ⊥
+JoinedBy terms chronicle mirror (Some view) None = ⊥
+JoinedBy terms chronicle mirror (Some view) (Some j) = JoinedStands terms chronicle mirror view j
 
 -- It stands for the world.
 pub record StandsFor (view : WorldView) (w : World) : Type 0 where
-  pub max : view.max ≡ w.max
+  pub terms : view.terms ≡ w.terms
   pub book : Stands view.book w.chronicle
   pub mirror : view.mirror ≡ w.mirror
-  pub joined : JoinedBy w.max w.chronicle w.mirror view.joined w.joined
+  pub joined : JoinedBy w.terms w.chronicle w.mirror view.joined w.joined
 
 -- For each world that it stood for, it stands for what a line makes of it, and what is told of the
 -- line was told after what was told before.

@@ -1,6 +1,6 @@
 -- The world of a script: an inventory, a mirror of it, and at most one session between them, whose
 -- octets are carried by hand.
-use Rattle.std.specs.Prelude.{ℕ, Bool, false, is_some, List, [], Option, Some, None, length, drop}
+use Rattle.std.specs.Prelude.{ℕ, Bool, is_some, List, [], Option, Some, None, length, drop}
 use Rattle.wire_base.specs.Turns.{Turn}
 use Rattle.swima_model.specs.declared.report.Kind.{Kind}
 use Rattle.validator_core.specs.Held.{Held, empty_mirror}
@@ -8,16 +8,19 @@ use Rattle.collector_core.specs.Chronicle.{Chronicle}
 use Rattle.session_rules.specs.declared.config.FollowConfig.{FollowConfig}
 use Rattle.session_rules.specs.declared.config.ServeConfig.{ServeConfig}
 use Rattle.session_rules.specs.declared.end.SessionEnd.{SessionEnd}
+use Rattle.session_world.specs.declared.terms.Terms.{Terms}
 use Rattle.session_rules.specs.Following.{Stand as FollowStand}
 use Rattle.session_rules.specs.Serving.{Stand as ServeStand}
 use Rattle.session_rules.specs.Transcripts.{served, serve_end, followed, follow_end}
 
 -- A session.
+--   subscribe                 whether the validator subscribes
 --   opened                    the mirror at its start
 --   up, down                  the turns of the validator, and those of the collector
 --   places                    the places of the collector's calls of its desk
 --   carried_up, carried_down  the octets that were carried to the validator, and to the collector
 pub record Joined : Type 0 where
+  pub subscribe : Bool
   pub opened : Held
   pub up : List Turn
   pub down : List Turn
@@ -26,20 +29,20 @@ pub record Joined : Type 0 where
   pub carried_down : List ℕ
 
 -- A session with this mirror, at its start.
-abbrev pub opened : Held → Joined
-opened mirror = record { opened = mirror; up = []; down = []; places = []; carried_up = []; carried_down = [] }
+abbrev pub opened : Bool → Held → Joined
+opened subscribe mirror = record { subscribe = subscribe; opened = mirror; up = []; down = []; places = []; carried_up = []; carried_down = [] }
 
--- The world: the most octets of the reports in a batch, the chronicle of the inventory, the mirror,
+-- The world: the terms of its sessions, the chronicle of the inventory, the mirror,
 -- and the session, where one is open.
 pub record World : Type 0 where
-  pub max : ℕ
+  pub terms : Terms
   pub chronicle : Chronicle
   pub mirror : Held
   pub joined : Option Joined
 
 -- An inventory, an empty mirror of the kind, and no session.
-abbrev pub begun : ℕ → Chronicle → Kind → World
-begun max chronicle kind = record { max = max; chronicle = chronicle; mirror = empty_mirror kind; joined = None }
+abbrev pub begun : Terms → Chronicle → Kind → World
+begun terms chronicle kind = record { terms = terms; chronicle = chronicle; mirror = empty_mirror kind; joined = None }
 
 -- A session is open.
 abbrev pub is_open : World → Bool
@@ -51,20 +54,20 @@ is_open w = is_some w.joined
 abbrev pub MOST : ℕ
 MOST = 4294967295
 
-abbrev pub serve_config : ℕ → ServeConfig
-serve_config max = record { max = max; reports = None; idle = MOST; octets = MOST }
+abbrev pub serve_config : Terms → ServeConfig
+serve_config terms = record { max = terms.max; reports = None; idle = MOST; octets = MOST }
 
-abbrev pub follow_config : FollowConfig
-follow_config = record { subscribe = false; rounds = MOST; idle = MOST; octets = MOST }
+abbrev pub follow_config : Bool → FollowConfig
+follow_config subscribe = record { subscribe = subscribe; rounds = MOST; idle = MOST; octets = MOST }
 
 -- What the collector has written, and how it stands. Each call of its desk that is not placed yet
 -- is made now.
 abbrev pub serving : World → Joined → List ℕ × ServeStand
-serving w j = served w.chronicle (serve_config w.max) j.down j.places
+serving w j = served w.chronicle (serve_config w.terms) j.down j.places
 
 -- What the validator has written, and how it stands.
 abbrev pub following : Joined → List ℕ × FollowStand
-following j = followed j.opened follow_config j.up
+following j = followed j.opened (follow_config j.subscribe) j.up
 
 abbrev pub collector_end : World → Joined → Option SessionEnd
 collector_end w j = serve_end (serving w j)

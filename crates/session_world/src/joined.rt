@@ -1,6 +1,6 @@
 //! A session between the two ends, whose octets are carried by hand.
 
-ghost use Rattle.std.specs.Prelude.{◌≡◌, ◌≤◌, ◌++◌, ◌↔◌, ℕ, OnOk, IfOk, IsTrue, drop, length, map};
+ghost use Rattle.std.specs.Prelude.{◌≡◌, ◌≤◌, ◌++◌, ◌↔◌, OnOk, IfOk, IsTrue, drop, length, map};
 ghost use Rattle.collector_core.specs.Chronicle.{Chronicle};
 ghost use Rattle.collector_core.specs.Standing.{BookView};
 ghost use Rattle.collector_session.specs.Sizes.{MOST_ROOM};
@@ -12,10 +12,12 @@ ghost use Rattle.session_world.specs.Tellings.{ended_by, taken_telling, TookAgai
 ghost use Rattle.swima_model.specs.Size.{report_count};
 ghost use Rattle.session_world.specs.World.{opened};
 ghost use Rattle.session_world.specs.declared.telling.Telling.TheVariants as telling;
+ghost use Rattle.session_world.specs.declared.terms.Terms.{Terms as TermsValue};
 ghost use Rattle.validator_core.specs.Held.{Held};
 ghost use Rattle.validator_core.specs.declared.mirror.Taken.TheVariants as taken;
 
 use crate::telling::{Telling, Tellings};
+use crate::terms::Terms;
 use collector_core::Book;
 use collector_session::ServeCore;
 use session_rules::{FollowConfig, ServeConfig, SessionEnd, Turn};
@@ -28,14 +30,6 @@ use wire_base::Memory;
 /// The most that both ends wait and take, and the validator follows.
 const MOST: u32 = 4_294_967_295;
 
-/// How the validator follows.
-const FOLLOWING: FollowConfig = FollowConfig {
-    subscribe: false,
-    rounds: MOST,
-    idle: MOST,
-    octets: MOST as u64,
-};
-
 /// Both ends, and how each ended, if it has.
 #[derive(Debug, Drop)]
 pub(crate) struct Joined {
@@ -47,19 +41,25 @@ pub(crate) struct Joined {
 
 impl Joined {
     /// Both ends at the start of a session.
-    pub(crate) fn new(alloc: Global, max: u32) -> Result<Self, Memory>
-        requires max { max ≤ MOST_ROOM }
-        ensures stands { IfOk result (λ made. (chronicle : Chronicle) (mirror : Held) → JoinedStands max chronicle mirror made (opened mirror)) }
+    pub(crate) fn new(alloc: Global, terms: Terms) -> Result<Self, Memory>
+        requires max { terms.max ≤ MOST_ROOM }
+        ensures stands { IfOk result (λ made. (chronicle : Chronicle) (mirror : Held) → JoinedStands terms chronicle mirror made (opened terms.subscribe mirror)) }
     {
-        let config = ServeConfig {
-            max,
+        let serve = ServeConfig {
+            max: terms.max,
             reports: None,
             idle: MOST,
             octets: MOST as u64,
         };
+        let follow = FollowConfig {
+            subscribe: terms.subscribe,
+            rounds: MOST,
+            idle: MOST,
+            octets: MOST as u64,
+        };
         Ok(Joined {
-            serve: ServeCore::new(alloc, &config)?,
-            follow: FollowCore::new(alloc, &FOLLOWING),
+            serve: ServeCore::new(alloc, &serve)?,
+            follow: FollowCore::new(alloc, &follow),
             collector: None,
             validator: None,
         })
@@ -94,8 +94,8 @@ impl Joined {
         told: &mut Tellings,
     ) -> Result<(), Memory>
         requires within { count ≤ length (joined_up self.old) }
-        ensures does { (max : ℕ) (book : BookView) → DoesOk (ups count)
-            (joined_view max book mirror.old self.old) told.old (joined_view max book mirror.new self.new) told.new result }
+        ensures does { (terms : TermsValue) (book : BookView) → DoesOk (ups count)
+            (joined_view terms book mirror.old self.old) told.old (joined_view terms book mirror.new self.new) told.new result }
     {
         if self.validator.is_some() {
             return Ok(());
@@ -118,8 +118,8 @@ impl Joined {
         told: &mut Tellings,
     ) -> Result<(), Memory>
         requires within { count ≤ length (joined_down self.old) }
-        ensures does { (max : ℕ) (mirror : Held) → DoesOk (downs count)
-            (joined_view max book.old mirror self.old) told.old (joined_view max book.new mirror self.new) told.new result }
+        ensures does { (terms : TermsValue) (mirror : Held) → DoesOk (downs count)
+            (joined_view terms book.old mirror self.old) told.old (joined_view terms book.new mirror self.new) told.new result }
     {
         if self.collector.is_some() {
             return Ok(());
@@ -138,8 +138,8 @@ impl Joined {
         book: &mut Book,
         told: &mut Tellings,
     ) -> Result<(), Memory>
-        ensures does { (max : ℕ) (mirror : Held) → DoesOk collector_rests
-            (joined_view max book.old mirror self.old) told.old (joined_view max book.new mirror self.new) told.new result }
+        ensures does { (terms : TermsValue) (mirror : Held) → DoesOk collector_rests
+            (joined_view terms book.old mirror self.old) told.old (joined_view terms book.new mirror self.new) told.new result }
     {
         if self.collector.is_some() {
             return Ok(());
@@ -156,8 +156,8 @@ impl Joined {
         mirror: &mut Mirror,
         told: &mut Tellings,
     ) -> Result<(), Memory>
-        ensures does { (max : ℕ) (book : BookView) → DoesOk validator_rests
-            (joined_view max book mirror.old self.old) told.old (joined_view max book mirror.new self.new) told.new result }
+        ensures does { (terms : TermsValue) (book : BookView) → DoesOk validator_rests
+            (joined_view terms book mirror.old self.old) told.old (joined_view terms book mirror.new self.new) told.new result }
     {
         if self.validator.is_some() {
             return Ok(());
@@ -171,8 +171,8 @@ impl Joined {
 
     /// The mirror takes the last report once more.
     pub(crate) fn take_again(&self, mirror: &mut Mirror, told: &mut Tellings) -> Result<(), Memory>
-        ensures does { (max : ℕ) (book : BookView) → DoesOk again
-            (joined_view max book mirror.old self.now) told.old (joined_view max book mirror.new self.now) told.new result }
+        ensures does { (terms : TermsValue) (book : BookView) → DoesOk again
+            (joined_view terms book mirror.old self.now) told.old (joined_view terms book mirror.new self.now) told.new result }
     {
         match self.follow.last() {
             None => Ok(()),

@@ -18,6 +18,7 @@
 //! |---|---|
 //! | `world.rt` | the world, and a call for each line of a script |
 //! | `joined.rt` | a session in it: both ends |
+//! | `terms.rt` | what its sessions keep to |
 //! | `telling.rt` | what is told of a line |
 //!
 //! | file of `specs/` | what it says |
@@ -30,7 +31,9 @@
 
 mod joined;
 mod telling;
+mod terms;
 mod world;
 
 pub use telling::{Telling, Tellings};
+pub use terms::Terms;
 pub use world::World;

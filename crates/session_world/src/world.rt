@@ -13,6 +13,7 @@ ghost use Rattle.session_world.specs.World.{World as WorldValue, begun, carried_
 
 use crate::joined::Joined;
 use crate::telling::{Telling, Tellings};
+use crate::terms::Terms;
 use collector_core::{Book, BookError, Changed, Edit};
 use std::alloc::Global;
 use std::marker::Model;
@@ -26,7 +27,7 @@ const MOST_ROUNDS: u64 = 8_589_934_590;
 /// An inventory, a mirror of it, and at most one session between them.
 #[derive(Debug, Drop)]
 pub struct World {
-    max: u32,
+    terms: Terms,
     book: Book,
     mirror: Mirror,
     joined: Option<Joined>,
@@ -39,20 +40,20 @@ impl Model for World {
 
     ghost Value = { WorldView };
 
-    ghost view = { λ world. record { max = world.max; book = world.book; mirror = world.mirror; joined = world.joined } };
+    ghost view = { λ world. record { terms = world.terms; book = world.book; mirror = world.mirror; joined = world.joined } };
 
-    ghost invariant = { λ world. world.max ≤ MOST_ROOM };
+    ghost invariant = { λ world. world.terms.max ≤ MOST_ROOM };
 }
 
 impl World {
-    /// The world of a book, with an empty mirror of the kind and no session. The reports in a batch
-    /// have at most `max` octets.
-    pub fn new(alloc: Global, max: u32, book: Book, kind: Kind) -> Self
-        requires max { max ≤ MOST_ROOM }
-        ensures begins { (chronicle : Chronicle) → Stands book chronicle → StandsFor result (begun max chronicle kind) }
+    /// The world of a book, with an empty mirror of the kind and no session. Its sessions keep to
+    /// the terms.
+    pub fn new(alloc: Global, terms: Terms, book: Book, kind: Kind) -> Self
+        requires max { terms.max ≤ MOST_ROOM }
+        ensures begins { (chronicle : Chronicle) → Stands book chronicle → StandsFor result (begun terms chronicle kind) }
     {
         World {
-            max,
+            terms,
             book,
             mirror: Mirror::new(alloc, kind),
             joined: None,
@@ -89,7 +90,7 @@ impl World {
     pub fn open(&mut self, alloc: Global) -> Result<(), Memory>
         ensures does { DoesOk opens self.old [] self.new [] result }
     {
-        self.joined = Some(Joined::new(alloc, self.max)?);
+        self.joined = Some(Joined::new(alloc, self.terms)?);
         Ok(())
     }
 

@@ -6,17 +6,17 @@ use Rattle.session_world.proofs.joined.Joined.carry_down.Goals as goal
 pub returns-then-is_some : goal.returns-then-is_some
 returns-then-is_some c =
     let over = some_of c.args.self.now.collector (sym c.is_some.ensures ∙ c.if-is_some.true) in
-    record { does = λ max mirror. down_over max c.args.book.now mirror c.args.self.now over.0 c.args.count c.args.told.now over.1 }
+    record { does = λ terms mirror. down_over terms c.args.book.now mirror c.args.self.now over.0 c.args.count c.args.told.now over.1 }
 
 pub returns : goal.returns
 returns c =
     let next : JoinedView = record { serve = c.hear-turn.new.self; follow = c.carried.new.self; collector = c.in_ok-self.field-0; validator = c.args.self.now.validator } in
     let ended = ended_is c.hear-turn.result c.in_ok-self.field-0 _ c.hear-turn.ensures.turn c.in_ok-self.ensures.ended in
     record {
-      does = λ max mirror.
+      does = λ terms mirror.
           on_ok c.tell_collector_end.result
           (λ told.
-          down_live max c.args.book.now c.hear-turn.new.desk mirror c.args.self.now next c.args.count c.args.told.now c.tell_collector_end.new.told
+          down_live terms c.args.book.now c.hear-turn.new.desk mirror c.args.self.now next c.args.count c.args.told.now c.tell_collector_end.new.told
           (none_of c.args.self.now.collector (sym c.is_some.ensures ∙ c.if-is_some.false))
           (record {
             turned = rw c.waiting.ensures.waiting at c.hear-turn.ensures.turned;

@@ -12,7 +12,7 @@ use Rattle.session_world.proofs.joined.Joined.rest_validator.Goals as goal
 pub returns-then-is_some : goal.returns-then-is_some
 returns-then-is_some c =
     let by = some_of c.args.self.now.validator (sym c.is_some.ensures ∙ c.if-is_some.true) in
-    record { does = λ max book. idle_over max book c.args.mirror.now c.args.self.now by.0 c.args.told.now by.1 }
+    record { does = λ terms book. idle_over terms book c.args.mirror.now c.args.self.now by.0 c.args.told.now by.1 }
 
 pub returns : goal.returns
 returns c =
@@ -22,10 +22,10 @@ returns c =
     let before : c.len-before.result ≡ length c.args.self.now.follow.end.standing.notes.reports = c.len-before.ensures.len ∙ ap (λ (rs : List TakenReport). length rs) c.reports.ensures.reports in
     let so_far = c.in_ok-tell_taken.ensures.told ∙ ap (λ (n : ℕ). c.args.told.now ++ map taken_telling (drop n taken)) before in
     record {
-      does = λ max book.
+      does = λ terms book.
           on_ok c.tell_validator_end.result
           (λ told.
-          idle_live max book c.args.mirror.now c.idle-turn.new.mirror c.args.self.now next c.args.told.now c.tell_validator_end.new.told
+          idle_live terms book c.args.mirror.now c.idle-turn.new.mirror c.args.self.now next c.args.told.now c.tell_validator_end.new.told
           (none_of c.args.self.now.validator (sym c.is_some.ensures ∙ c.if-is_some.false))
           (record {
             turned = c.idle-turn.ensures.turned;

@@ -14,11 +14,11 @@ returns-in-None c =
 
 pub returns-in-Some : goal.returns-in-Some
 returns-in-Some c =
-    let before : c.args.self.now ≡ joined_view c.self.inside.max c.self.inside.book c.self.inside.mirror c.in-Some.joined =
-    sym c.self.view_is ∙ ap (λ (j : Option JoinedView). record { max = c.self.inside.max; book = c.self.inside.book; mirror = c.self.inside.mirror; joined = j }) c.in-Some.is in
+    let before : c.args.self.now ≡ joined_view c.self.inside.terms c.self.inside.book c.self.inside.mirror c.in-Some.joined =
+    sym c.self.view_is ∙ ap (λ (j : Option JoinedView). record { terms = c.self.inside.terms; book = c.self.inside.book; mirror = c.self.inside.mirror; joined = j }) c.in-Some.is in
     record {
-      does = subst (λ (v : WorldView). DoesOk again v c.args.told.now (record { max = c.self.inside.max; book = c.self.inside.book; mirror = c.take_again.new.mirror; joined = c.self.inside.joined }) c.take_again.new.told c.take_again.result) (sym before)
-          (subst (λ (o : Option JoinedView). DoesOk again (joined_view c.self.inside.max c.self.inside.book c.self.inside.mirror c.in-Some.joined) c.args.told.now
-          (record { max = c.self.inside.max; book = c.self.inside.book; mirror = c.take_again.new.mirror; joined = o }) c.take_again.new.told c.take_again.result)
-          (sym c.in-Some.is) (c.take_again.ensures.does c.self.inside.max c.self.inside.book));
+      does = subst (λ (v : WorldView). DoesOk again v c.args.told.now (record { terms = c.self.inside.terms; book = c.self.inside.book; mirror = c.take_again.new.mirror; joined = c.self.inside.joined }) c.take_again.new.told c.take_again.result) (sym before)
+          (subst (λ (o : Option JoinedView). DoesOk again (joined_view c.self.inside.terms c.self.inside.book c.self.inside.mirror c.in-Some.joined) c.args.told.now
+          (record { terms = c.self.inside.terms; book = c.self.inside.book; mirror = c.take_again.new.mirror; joined = o }) c.take_again.new.told c.take_again.result)
+          (sym c.in-Some.is) (c.take_again.ensures.does c.self.inside.terms c.self.inside.book));
     }

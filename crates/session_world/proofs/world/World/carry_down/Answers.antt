@@ -19,9 +19,9 @@ returns-in-None c =
 
 pub returns-in-Some : goal.returns-in-Some
 returns-in-Some c =
-    let before : c.args.self.now ≡ joined_view c.self.inside.max c.self.inside.book c.self.inside.mirror c.in-Some.joined =
-    sym c.self.view_is ∙ ap (λ (j : Option JoinedView). record { max = c.self.inside.max; book = c.self.inside.book; mirror = c.self.inside.mirror; joined = j }) c.in-Some.is in
+    let before : c.args.self.now ≡ joined_view c.self.inside.terms c.self.inside.book c.self.inside.mirror c.in-Some.joined =
+    sym c.self.view_is ∙ ap (λ (j : Option JoinedView). record { terms = c.self.inside.terms; book = c.self.inside.book; mirror = c.self.inside.mirror; joined = j }) c.in-Some.is in
     record {
-      does = subst (λ (v : WorldView). DoesOk (downs c.args.count) v c.args.told.now (joined_view c.self.inside.max c.carry_down.new.book c.self.inside.mirror c.carry_down.new.self) c.carry_down.new.told c.carry_down.result) (sym before)
-          (c.carry_down.ensures.does c.self.inside.max c.self.inside.mirror);
+      does = subst (λ (v : WorldView). DoesOk (downs c.args.count) v c.args.told.now (joined_view c.self.inside.terms c.carry_down.new.book c.self.inside.mirror c.carry_down.new.self) c.carry_down.new.told c.carry_down.result) (sym before)
+          (c.carry_down.ensures.does c.self.inside.terms c.self.inside.mirror);
     }

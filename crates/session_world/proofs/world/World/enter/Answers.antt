@@ -8,7 +8,7 @@ use Rattle.session_world.proofs.world.World.enter.Goals as goal
 
 pub returns : goal.returns
 returns c =
-    let before : WorldView = record { max = c.self.inside.max; book = c.self.inside.book; mirror = c.self.inside.mirror; joined = c.self.inside.joined } in
+    let before : WorldView = record { terms = c.self.inside.terms; book = c.self.inside.book; mirror = c.self.inside.mirror; joined = c.self.inside.joined } in
     record {
       does = on_ok c.tell_refusal.result
           (λ told.

@@ -7,12 +7,12 @@ use Rattle.session_world.proofs.world.World.waiting_down.Goals as goal
 
 none_waits : (c : goal.After-result-in-None-1) → [] ≡ view_down c.args.self.now
 none_waits c =
-    ap (λ (j : Option JoinedView). view_down (record { max = c.self.inside.max; book = c.self.inside.book; mirror = c.self.inside.mirror; joined = j })) (sym c.in-None.is) ∙ ap (λ (v : WorldView). view_down v) c.self.view_is
+    ap (λ (j : Option JoinedView). view_down (record { terms = c.self.inside.terms; book = c.self.inside.book; mirror = c.self.inside.mirror; joined = j })) (sym c.in-None.is) ∙ ap (λ (v : WorldView). view_down v) c.self.view_is
 
 some_wait : (c : goal.After-waiting_down) → c.waiting_down.result.now ≡ view_down c.args.self.now
 some_wait c =
     c.waiting_down.ensures.waiting
-    ∙ ap (λ (j : Option JoinedView). view_down (record { max = c.self.inside.max; book = c.self.inside.book; mirror = c.self.inside.mirror; joined = j })) (sym c.in-Some.is) ∙ ap (λ (v : WorldView). view_down v) c.self.view_is
+    ∙ ap (λ (j : Option JoinedView). view_down (record { terms = c.self.inside.terms; book = c.self.inside.book; mirror = c.self.inside.mirror; joined = j })) (sym c.in-Some.is) ∙ ap (λ (v : WorldView). view_down v) c.self.view_is
 
 pub returns-in-None-clause-waiting : goal.returns-in-None-clause-waiting
 returns-in-None-clause-waiting c = none_waits c

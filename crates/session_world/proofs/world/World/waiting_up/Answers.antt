@@ -7,12 +7,12 @@ use Rattle.session_world.proofs.world.World.waiting_up.Goals as goal
 
 none_waits : (c : goal.After-result-in-None-1) → [] ≡ view_up c.args.self.now
 none_waits c =
-    ap (λ (j : Option JoinedView). view_up (record { max = c.self.inside.max; book = c.self.inside.book; mirror = c.self.inside.mirror; joined = j })) (sym c.in-None.is) ∙ ap (λ (v : WorldView). view_up v) c.self.view_is
+    ap (λ (j : Option JoinedView). view_up (record { terms = c.self.inside.terms; book = c.self.inside.book; mirror = c.self.inside.mirror; joined = j })) (sym c.in-None.is) ∙ ap (λ (v : WorldView). view_up v) c.self.view_is
 
 some_wait : (c : goal.After-waiting_up) → c.waiting_up.result.now ≡ view_up c.args.self.now
 some_wait c =
     c.waiting_up.ensures.waiting
-    ∙ ap (λ (j : Option JoinedView). view_up (record { max = c.self.inside.max; book = c.self.inside.book; mirror = c.self.inside.mirror; joined = j })) (sym c.in-Some.is) ∙ ap (λ (v : WorldView). view_up v) c.self.view_is
+    ∙ ap (λ (j : Option JoinedView). view_up (record { terms = c.self.inside.terms; book = c.self.inside.book; mirror = c.self.inside.mirror; joined = j })) (sym c.in-Some.is) ∙ ap (λ (v : WorldView). view_up v) c.self.view_is
 
 pub returns-in-None-clause-waiting : goal.returns-in-None-clause-waiting
 returns-in-None-clause-waiting c = none_waits c
