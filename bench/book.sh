@@ -1,7 +1,7 @@
 #!/usr/bin/env bash
-# Measures a book of 1,000, 10,000 and 65,536 records whose log is full: the inventory of all, an
-# answer of 100 events, and changes. It is a measurement and no test: it judges no output, and no
-# time makes it fail.
+# Measures a book of 1,000, 10,000 and 65,536 records whose log is full: inventories, an answer of
+# 100 events, and changes. It is a measurement and no test: it judges no output, and no time makes
+# it fail.
 #
 # usage: bench/book.sh [RUNS]     each row is run RUNS times, 5 if not given
 #
@@ -16,11 +16,18 @@
 #            that do it not once, over how many times it was done
 #
 # What is done:
-#   answer  the inventory is asked for
-#   events  events are asked for
-#   change  a record is altered
-#   last    the last record is deleted, after which none moves, and another is created
-#   middle  the same with the record in the middle
+#   answer   the inventory of all records is asked for
+#   targets  the inventory of 100 software identifiers is asked for
+#   events   100 events are asked for
+#   change   the first record is altered
+#   rename   the first record gets another software identifier
+#   first    the first record is deleted, and another is created
+#   middle   the same with the record in the middle
+#   last     the same with the last record
+#   delete   the record of the lowest identifier is deleted
+#
+# Two tables come after it: how much longer each work takes with 65,536 records than with 1,000, and
+# how long it takes to delete all 65,536 in order.
 
 set -u
 
@@ -52,16 +59,41 @@ lowest() {
     printf '%s' "$best"
 }
 
+# Prints one row of a book of RECORDS records that does WHAT that many TIMES.
+row() {
+    local none some
+    none=$(lowest "$1" "$2" 0)
+    some=$(lowest "$1" "$2" "$3")
+    printf '%s\t%s\t%s\t%s\t%s\n' "$1" "$2" "$3" "$none" "$some"
+}
+
+works=('answer 20' 'targets 2000' 'events 2000' 'change 20000' 'rename 20000' 'first 20000'
+    'middle 20000' 'last 20000')
+
 {
     for records in 1000 10000 65536; do
-        for row in 'answer 20' 'events 2000' 'change 20000' 'last 20000' 'middle 2000'; do
-            read -r what times <<<"$row"
-            printf '%s\t%s\t%s\t%s\t%s\n' "$records" "$what" "$times" "$(lowest "$records" "$what" 0)" "$(lowest "$records" "$what" "$times")"
+        for work in "${works[@]}"; do
+            read -r what times <<<"$work"
+            row "$records" "$what" "$times"
         done
     done
+    row 65536 delete 65536
 } | awk -F '\t' -v runs="$runs" '
     BEGIN {
         printf "a book, lowest time of %d runs\n\n", runs
         printf "%8s %-7s %6s %12s\n", "records", "what", "times", "one, us"
     }
-    { printf "%8s %-7s %6s %12.2f\n", $1, $2, $3, ($5 - $4) / $3 }'
+    {
+        one = ($5 - $4) / $3
+        printf "%8s %-7s %6s %12.2f\n", $1, $2, $3, one
+        if ($1 == 1000) { few[$2] = one; order[++works] = $2 }
+        if ($1 == 65536) many[$2] = one
+    }
+    END {
+        printf "\n65,536 records beside 1,000\n\n%-7s %8s\n", "what", "ratio"
+        for (work = 1; work <= works; work++) {
+            what = order[work]
+            if (few[what] > 0) printf "%-7s %8.2f\n", what, many[what] / few[what]
+        }
+        printf "\nall 65,536 deleted in order: %.3f s\n", many["delete"] * 65536 / 1000000
+    }'

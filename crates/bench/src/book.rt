@@ -8,7 +8,7 @@ use collector_core::{Answer, Book};
 use std::alloc::Global;
 use swima_model::{Body, Content, Ident, Kind, Locator, Model, Report};
 use swima_request::Request;
-use wire_base::{List, TryCopy, is_stamp};
+use wire_base::{List, is_stamp};
 
 /// How many events the book keeps.
 pub(crate) const KEPT: u32 = 4096;
@@ -25,19 +25,30 @@ const BODY: [u8; 64] = [0; 64];
 /// The body of a record that was altered.
 const OTHER_BODY: [u8; 65] = [0; 65];
 
+/// How many software identifiers a request with targets has.
+const TARGETS: u32 = 100;
+
 /// What is asked of the book.
 #[derive(Clone, Copy)]
 pub(crate) enum Work {
     /// The inventory of all records.
     Answer,
+    /// The inventory of the records of 100 software identifiers.
+    Targets,
     /// The latest 100 events.
     Events,
     /// An alteration of the first record.
     Change,
-    /// A deletion of the last record, and a creation of another.
-    Last,
+    /// An alteration of the first record that gives it another software identifier.
+    Rename,
+    /// A deletion of the first record, and a creation of another.
+    First,
     /// A deletion of the record in the middle, and a creation of another.
     Middle,
+    /// A deletion of the last record, and a creation of another.
+    Last,
+    /// A deletion of the first record.
+    Delete,
 }
 
 impl Work {
@@ -45,10 +56,14 @@ impl Work {
     pub(crate) fn from_name(name: &str) -> Result<Self, Trouble> {
         match name {
             "answer" => Ok(Work::Answer),
+            "targets" => Ok(Work::Targets),
             "events" => Ok(Work::Events),
             "change" => Ok(Work::Change),
-            "last" => Ok(Work::Last),
+            "rename" => Ok(Work::Rename),
+            "first" => Ok(Work::First),
             "middle" => Ok(Work::Middle),
+            "last" => Ok(Work::Last),
+            "delete" => Ok(Work::Delete),
             _ => Err(Trouble::Words),
         }
     }
@@ -61,25 +76,39 @@ pub(crate) fn done(alloc: Global, records: u32, work: Work, times: u32) -> Resul
     alterations(alloc, &mut book, KEPT)?;
     let count = book.count();
     match work {
-        Work::Answer => answers(alloc, &book, 0, times),
-        Work::Events => answers(alloc, &book, KEPT - EVENTS + 1, times),
+        Work::Answer => answers(&book, &latest(alloc, 0), times),
+        Work::Targets => answers(&book, &targeted(alloc, count)?, times),
+        Work::Events => answers(&book, &latest(alloc, KEPT - EVENTS + 1), times),
         Work::Change => alterations(alloc, &mut book, times),
-        Work::Last => exchanges(alloc, &mut book, count, times),
+        Work::Rename => renames(alloc, &mut book, times),
+        Work::First => exchanges(alloc, &mut book, 1, times),
         Work::Middle => exchanges(alloc, &mut book, count / 2 + 1, times),
+        Work::Last => exchanges(alloc, &mut book, count, times),
+        Work::Delete => deletions(&mut book, times),
     }
 }
 
-/// A book of that many records, which keeps that many events.
+/// A book of that many records, which keeps that many events. Each record has a software identifier
+/// of its own.
 pub(crate) fn book_of(alloc: Global, records: u32, kept: u32) -> Result<Book, Trouble>
     requires some { 1 ≤ kept }
     requires few { kept ≤ 4096 }
 {
-    let one = content(alloc, &BODY)?;
     let mut base = List::new(alloc);
-    for _ in 0..records {
-        base.push(one.copy()?)?;
+    for number in 0..records {
+        let mut one = content(alloc, &BODY)?;
+        one.ident = ident_of(alloc, number)?;
+        base.push(one)?;
     }
     Ok(Book::new(alloc, 1, kept as usize, base.as_slice())?)
+}
+
+/// The software identifier of this number.
+fn ident_of(alloc: Global, number: u32) -> Result<Ident, Trouble> {
+    let Ok(name) = format!(in alloc; "example.com__org.example.software_{number}") else {
+        return Err(Trouble::Memory);
+    };
+    Ok(Ident::new(alloc, name.as_bytes())?)
 }
 
 /// A content with this body.
@@ -112,6 +141,40 @@ fn alter(book: &mut Book, content: &Content) -> Result<(), Trouble> {
     Ok(book.alter(&STAMP, 1, content)?)
 }
 
+/// Gives the first record another software identifier that many times, and gives how often that was
+/// done.
+fn renames(alloc: Global, book: &mut Book, times: u32) -> Result<u64, Trouble> {
+    let one = content(alloc, &BODY)?;
+    let mut other = content(alloc, &BODY)?;
+    other.ident = ident_of(alloc, u32::MAX)?;
+    let mut done: u64 = 0;
+    for turn in 0..times {
+        if turn % 2 == 0 {
+            alter(book, &other)?;
+        } else {
+            alter(book, &one)?;
+        }
+        done = done.saturating_add(1);
+    }
+    Ok(done)
+}
+
+/// Deletes the records of the lowest identifiers, that many, and gives how many.
+fn deletions(book: &mut Book, times: u32) -> Result<u64, Trouble> {
+    for before in 0..times {
+        delete(book, before.saturating_add(1))?;
+    }
+    Ok(times as u64)
+}
+
+/// Deletes the record of this identifier.
+fn delete(book: &mut Book, id: u32) -> Result<(), Trouble> {
+    if !is_stamp(&STAMP) {
+        return Err(Trouble::Book);
+    }
+    Ok(book.delete(&STAMP, id)?)
+}
+
 /// Deletes a record and creates another, that many times, and gives how often that was done. The
 /// first that is deleted has this identifier, and each further one the identifier above, so that
 /// each stands at the place of the first.
@@ -135,19 +198,24 @@ fn exchange(book: &mut Book, id: u32, content: &Content) -> Result<(), Trouble> 
     Ok(())
 }
 
-/// How many records or events that many answers have.
-pub(crate) fn answers(
-    alloc: Global,
-    book: &Book,
-    earliest: u32,
-    times: u32,
-) -> Result<u64, Trouble> {
-    let request = latest(alloc, earliest);
+/// How many records or events that many answers to a request have.
+pub(crate) fn answers(book: &Book, request: &Request, times: u32) -> Result<u64, Trouble> {
     let mut counted: u64 = 0;
     for _ in 0..times {
-        counted = counted.saturating_add(count_of(book.answer(&request, u32::MAX))?);
+        counted = counted.saturating_add(count_of(book.answer(request, u32::MAX))?);
     }
     Ok(counted)
+}
+
+/// A request for the whole records of 100 software identifiers, of so many records.
+fn targeted(alloc: Global, records: u32) -> Result<Request, Trouble> {
+    let mut request = latest(alloc, 0);
+    let apart = records / TARGETS;
+    for turn in 0..TARGETS {
+        let ident = ident_of(alloc, turn.saturating_mul(apart))?;
+        request.targets.push(ident)?;
+    }
+    Ok(request)
 }
 
 /// A request for whole records, from this event on.

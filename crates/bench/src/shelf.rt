@@ -61,10 +61,10 @@ fn alone(alloc: Global, task: Task, times: u32) -> Result<u64, Trouble> {
     let mut book = small_book(alloc)?;
     match task {
         Task::Change => alterations(alloc, &mut book, times),
-        Task::Read => answers(alloc, &book, 1, times),
+        Task::Read => answers(&book, &latest(alloc, 1), times),
         Task::Both => {
             let changed = alterations(alloc, &mut book, times)?;
-            Ok(changed.saturating_add(answers(alloc, &book, u32::MAX, times)?))
+            Ok(changed.saturating_add(answers(&book, &latest(alloc, u32::MAX), times)?))
         }
     }
 }

@@ -35,7 +35,8 @@ pub(crate) enum Trouble {
 /// The words that ask for something.
 const WORDS: &str = "\
 the words are none of these:
-  bench book RECORDS answer|events|change|last|middle TIMES
+  bench book RECORDS answer|targets|events|change|rename TIMES
+  bench book RECORDS first|middle|last|delete TIMES
   bench shelf alone|1|2|4 change|read|both TIMES
   bench sessions first RECORDS SIZE
   bench sessions alone RECORDS

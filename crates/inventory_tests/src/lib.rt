@@ -1,5 +1,6 @@
 //! Tests of inventories at both ends: books and mirrors as large as they may be, the events of a
-//! book, a book through the calls of a desk, and what may go to another thread.
+//! book and its records by software identifier, events of a mirror's records in any order, a book
+//! through the calls of a desk, and what may go to another thread.
 #![tactic(auto)]
 
 #[cfg(test)]
@@ -14,5 +15,9 @@ mod desk_tests;
 mod event_tests;
 #[cfg(test)]
 mod mirror_limit_tests;
+#[cfg(test)]
+mod mirror_order_tests;
+#[cfg(test)]
+mod target_tests;
 #[cfg(test)]
 mod thread_tests;

@@ -1,0 +1,38 @@
+use Rattle.std.proofs.Common.{ℕ, ap, refl}
+use Rattle.collector_core.specs.Desks as desks
+use Rattle.source_set.specs.Deeds.{Deletes}
+use Rattle.source_set.specs.declared.swept.Swept.{Swept}
+use Rattle.source_set.proofs.Working.{refuses, takes_after, works_once, works_refused}
+use Rattle.source_set.proofs.doing.delete.Goals as goal
+
+pub returns-in-Ok : goal.returns-in-Ok
+returns-in-Ok g c =
+    let stamp = c.args.stamp.now in
+    let works =
+    works_once g.D.Desk.stands g.D.Desk.went stamp g.met.D.Desk.stays g.met.D.Desk.follows g.met.D.Desk.carries
+    (desks.Deletes stamp c.args.id) (desks.deletes_not c.args.id) c.args.desk.now c.delete.new.self c.args.swept.now _ tt (Deletes c.args.id) c.in-Ok.ensures.edits
+    (λ state made said. ((state.last, state.records, said), refl))
+    (ap (λ (n : ℕ). record c.args.swept.now { gone = n }) c.saturating_add-swept.ensures) in
+    record {
+      deleted = works;
+      takes =
+          takes_after g.D.Desk.stands g.D.Desk.went stamp g.met.D.Desk.stays g.met.D.Desk.follows g.met.D.Desk.carries g.D.Desk.takes g.met.D.Desk.keeps
+          c.args.desk.now c.delete.new.self _ _ _ works c.requires.takes;
+    }
+
+pub returns-in-Err : goal.returns-in-Err
+returns-in-Err g c =
+    let stamp = c.args.stamp.now in
+    let works =
+    works_refused g.D.Desk.stands g.D.Desk.went stamp g.met.D.Desk.stays g.met.D.Desk.follows g.met.D.Desk.carries
+    (desks.Deletes stamp c.args.id) (desks.deletes_not c.args.id) c.args.desk.now c.delete.new.self c.args.swept.now c.in-Err.refused c.in-Err.ensures.edits in
+    record {
+      deleted = (
+        works,
+        refuses g.D.Desk.stands g.D.Desk.went stamp g.met.D.Desk.stays g.met.D.Desk.follows g.met.D.Desk.carries
+            (desks.Deletes stamp c.args.id) (desks.deletes_not c.args.id) c.args.desk.now c.delete.new.self c.in-Err.refused c.in-Err.ensures.edits,
+      );
+      takes =
+          takes_after g.D.Desk.stands g.D.Desk.went stamp g.met.D.Desk.stays g.met.D.Desk.follows g.met.D.Desk.carries g.D.Desk.takes g.met.D.Desk.keeps
+          c.args.desk.now c.delete.new.self _ _ _ works c.requires.takes;
+    }

@@ -1,0 +1,9 @@
+//! Tests of the sources of an inventory.
+#![tactic(auto)]
+
+#[cfg(test)]
+mod listed;
+#[cfg(test)]
+mod sweep_tests;
+#[cfg(test)]
+mod values;
