@@ -93,6 +93,9 @@ fn finds_a_hundred(alloc: Global) -> Option<bool> {
     rename(alloc, &mut book, 50, b"other")?;
     let other = has_exactly(alloc, &book, &["other"], &[50])?
         & has_exactly(alloc, &book, &["other", "one"], ids.as_slice())?;
+    if ids.len() < 50 {
+        return None;
+    }
     let _removed = ids.remove(49);
     let left = has_exactly(alloc, &book, &["one"], ids.as_slice())?;
     Some(all & other & left)
