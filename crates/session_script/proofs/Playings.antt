@@ -1,47 +1,59 @@
 -- What is made of a line that is played.
-use Rattle.std.proofs.Common.{◌≡◌, ◌∙◌, ℕ, ◌+◌, List, Result, Ok, Err, refl, sym, ap, subst}
+use Rattle.std.proofs.Common.{◌≡◌, ◌∙◌, ℕ, ◌+◌, ◌++◌, [], List, Result, Ok, Err, refl, sym, ap, subst}
 use Rattle.std.specs.Prelude.{IfOk}
+use Rattle.std.specs.List.{flat_map}
 use Rattle.wire_base.specs.Stamp.{IsStampAt}
+use Rattle.wire_base.specs.declared.values.stamp.ClockRange.{ClockRange}
 use Rattle.wire_base.specs.declared.values.memory.Memory.{Memory}
 use Rattle.collector_core.specs.declared.book.edit.Edit.{Edit}
+use Rattle.session_world.specs.declared.telling.Telling.{Telling}
 use Rattle.session_world.specs.Lines.{Told, enters}
-use Rattle.session_world.specs.Standing.{WorldView, StandsFor as WorldStandsFor}
+use Rattle.session_world.specs.Standing.{Does, WorldView, StandsFor as WorldStandsFor}
 use Rattle.session_world.specs.World.{World}
 use Rattle.session_script.specs.declared.line.Line.{Line}
 use Rattle.session_script.specs.declared.playing.Playing.{Playing as PlayingView}
 use Rattle.session_script.specs.Played.{Acts, PlaysSo, StandsFor}
-use Rattle.session_script.specs.Replay.{Changes, Enters, IsPlayed, Playing, told_in}
+use Rattle.session_script.specs.Replay.{Changes, Enters, IsPlayed, Playing, telling_line, told_in}
 
--- What a call of the world told is printed of the line, where the line does what the call did, and
--- counts that many changes.
-acted_text : (said : Line) (act : World → Told) (more : ℕ) (before after : PlayingView) (text : List ℕ) → ((p : Playing) → StandsFor before p → IsPlayed p said (told_in (p.changes + more) (act p.world)))
-    → after.changes ≡ before.changes + more → Acts act before.world after.world text → (p : Playing) → StandsFor before p → PlaysSo p said text after
-acted_text said act more before after text is counted acts p stands =
+-- The stamp of a second.
+pub stamp_is : (secs number : ℕ) (made : Result (List ℕ) ClockRange) (text : List ℕ) → secs ≡ number → made ≡ Ok text → IsStampAt secs made → IsStampAt number (Ok text)
+stamp_is secs number made text same is at = subst (λ (k : ℕ). IsStampAt k (Ok text)) same (subst (λ (m : Result (List ℕ) ClockRange). IsStampAt secs m) is at)
+
+-- What a call of the world told is printed of a line that does what the call did.
+pub played : (said : Line) (act : World → Told) (before : PlayingView) (world : WorldView) (told told_after : List Telling) (result : Result (List ℕ) Memory)
+    → ((p : Playing) → IsPlayed p said (told_in p.changes (act p.world))) → told ≡ [] → Does act before.world told world told_after → IfOk result (λ (text : List ℕ). text ≡ flat_map telling_line told_after)
+    → IfOk result (λ (text : List ℕ). (p : Playing) → StandsFor before p → PlaysSo p said text (record { world = world; changes = before.changes }))
+played said act before world told told_after (Ok text) is none does text_is = λ p stands.
+    let done = does p.world stands.world in
+    record {
+      made = told_in p.changes (act p.world);
+      is = is p;
+      stands = record { world = done.0; changes = stands.changes };
+      text_is = text_is ∙ ap (λ (ts : List Telling). flat_map telling_line ts) (done.1 ∙ ap (λ (ts : List Telling). ts ++ (act p.world).1) none);
+    }
+played said act before world told told_after (Err memory) is none does text_is = tt
+
+-- A change was entered, and what was told of it is printed of its line.
+entered_text : (said : Line) (stamp : List ℕ) (change : Edit) (before after : PlayingView) (text : List ℕ) → Acts (enters change) before.world after.world text → IsStampAt (before.changes + 1) (Ok stamp)
+    → Changes said stamp change → ((p : Playing) → Enters p said (told_in (p.changes + 1) (enters change p.world)) → IsPlayed p said (told_in (p.changes + 1) (enters change p.world)))
+    → after.changes ≡ before.changes + 1 → (p : Playing) → StandsFor before p → PlaysSo p said text after
+entered_text said stamp change before after text acts stamped changes is counted p stands =
     let done = acts p.world stands.world in
     record {
-      made = told_in (p.changes + more) (act p.world);
-      is = is p stands;
-      stands = record { world = done.0; changes = counted ∙ ap (λ (k : ℕ). k + more) stands.changes };
+      made = told_in (p.changes + 1) (enters change p.world);
+      is = is p (
+        enters change p.world,
+        record { stamp = stamp; stamped = subst (λ (k : ℕ). IsStampAt (k + 1) (Ok stamp)) stands.changes stamped; change = change; changes = changes; does = refl },
+        refl,
+      );
+      stands = record { world = done.0; changes = counted ∙ ap (λ (k : ℕ). k + 1) stands.changes };
       text_is = done.1;
     }
 
-pub acted : (said : Line) (act : World → Told) (more : ℕ) (before after : PlayingView) (mid : WorldView) (result : Result (List ℕ) Memory)
-    → ((p : Playing) → StandsFor before p → IsPlayed p said (told_in (p.changes + more) (act p.world))) → mid ≡ before.world → after.changes ≡ before.changes + more
-    → IfOk result (λ (text : List ℕ). Acts act mid after.world text) → IfOk result (λ (text : List ℕ). (p : Playing) → StandsFor before p → PlaysSo p said text after)
-acted said act more before after mid (Ok text) is same counted acts = acted_text said act more before after text is counted (subst (λ (w : WorldView). Acts act w after.world text) same acts)
-acted said act more before after mid (Err memory) is same counted acts = tt
-
--- A line that changes records does what its change does.
-pub changed : (said : Line) (stamp : List ℕ) (change : Edit) (before : PlayingView) → IsStampAt (before.changes + 1) (Ok stamp) → Changes said stamp change
-    → (p : Playing) → StandsFor before p → Enters p said (told_in (p.changes + 1) (enters change p.world))
-changed said stamp change before stamped changes p stands = (
-  enters change p.world,
-  record {
-    stamp = stamp;
-    stamped = subst (λ (k : ℕ). IsStampAt (k + 1) (Ok stamp)) stands.changes stamped;
-    change = change;
-    changes = changes;
-    does = refl;
-  },
-  refl,
-)
+pub entered : (said : Line) (stamp : List ℕ) (change : Edit) (before after : PlayingView) (mid : WorldView) (result : Result (List ℕ) Memory)
+    → IfOk result (λ (text : List ℕ). Acts (enters change) mid after.world text) → mid ≡ before.world → IsStampAt (before.changes + 1) (Ok stamp)
+    → Changes said stamp change → ((p : Playing) → Enters p said (told_in (p.changes + 1) (enters change p.world)) → IsPlayed p said (told_in (p.changes + 1) (enters change p.world)))
+    → after.changes ≡ before.changes + 1 → IfOk result (λ (text : List ℕ). (p : Playing) → StandsFor before p → PlaysSo p said text after)
+entered said stamp change before after mid (Ok text) acts same stamped changes is counted =
+    entered_text said stamp change before after text (subst (λ (w : WorldView). Acts (enters change) w after.world text) same acts) stamped changes is counted
+entered said stamp change before after mid (Err memory) acts same stamped changes is counted = tt

@@ -1,9 +1,11 @@
 -- A script, line by line.
-use Rattle.std.proofs.Common.{◌≡◌, ◌∙◌, ℕ, suc, ◌+◌, ◌++◌, Bool, true, false, List, [], ◌∷◌, Option, Some, None, refl, sym, ap, subst, append_assoc}
+use Rattle.std.proofs.Common.{◌≡◌, ◌∙◌, ℕ, suc, ◌+◌, ◌++◌, Bool, true, false, List, [], ◌∷◌, Option, Some, None, Result, Ok, Err, refl, sym, ap, subst, append_assoc}
+use Rattle.std.specs.Prelude.{IfOk}
+use Rattle.wire_base.specs.declared.values.memory.Memory.{Memory}
 use Rattle.command_text.specs.declared.answer.Answer.{Answer}
 use Rattle.session_script.specs.declared.line.Line.{Line}
 use Rattle.session_script.specs.declared.playing.Playing.{Playing as PlayingView}
-use Rattle.session_script.specs.Played.{PlaysOne, StandsFor}
+use Rattle.session_script.specs.Played.{PlaysAll, PlaysOne, StandsFor}
 use Rattle.session_script.specs.Replay.{IsPlayed, Played, Playing, Plays, PlaysFirst, after_text, at_end, bad, past_lines}
 use Rattle.session_script.specs.Script.{LineIs, split_once, words_of}
 
@@ -83,3 +85,12 @@ module _ (goes_on : Bool) (first : Playing) (octets : List ℕ) where
       → Plays 99999 2 goes_on first octets (after_text out (past_lines number goes_on rest))
   reached_past view left number rest out none reached =
       reached.goes (past_lines number goes_on rest) (subst (λ (k : ℕ). Plays k number goes_on reached.p rest (past_lines number goes_on rest)) (sym none) (plays_past number goes_on reached.p rest))
+
+-- ---- the whole script
+
+pub all_played : (goes_on : Bool) (octets : List ℕ) (view : PlayingView) (out : List ℕ) (answer want : Answer) (result : Result Answer Memory) → IfOk result (λ (made : Answer). made ≡ after_text out answer)
+    → answer ≡ want → ((p : Playing) → StandsFor view p → Plays 99999 2 goes_on p octets (after_text out want))
+    → IfOk result (λ (made : Answer). (p : Playing) → StandsFor view p → PlaysAll goes_on p octets made)
+all_played goes_on octets view out answer want (Ok made) is same plays = λ p stands.
+    subst (λ (a : Answer). Plays 99999 2 goes_on p octets a) (sym (is ∙ ap (λ (a : Answer). after_text out a) same)) (plays p stands)
+all_played goes_on octets view out answer want (Err memory) is same plays = tt

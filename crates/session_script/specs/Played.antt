@@ -26,7 +26,7 @@ pub record PlaysSo (p : Playing) (said : Line) (text : List ℕ) (after : Playin
   pub text_is : text ≡ made.1
 
 abbrev pub PlaysOne : Playing → List ℕ → List ℕ → Bool → PlayingView → List ℕ → Type 0
-PlaysOne p octets out false after out_after = LineIs (words_of octets) None
+PlaysOne p octets out false after out_after = LineIs (words_of octets) None × (out_after ≡ out)
 PlaysOne p octets out true after out_after = (said : Line) × LineIs (words_of octets) (Some said) × ((text : List ℕ) × (out_after ≡ out ++ text) × PlaysSo p said text after)
 
 -- What a call of the world told, as it is printed.
