@@ -1,16 +1,20 @@
 -- What is made of a line that is played.
 use Rattle.std.proofs.Common.{◌≡◌, ◌∙◌, ℕ, ◌+◌, ◌++◌, [], List, Result, Ok, Err, refl, sym, ap, subst}
+use Rattle.std.specs.Borrow.{Bor}
 use Rattle.std.specs.Prelude.{IfOk}
 use Rattle.std.specs.List.{flat_map}
 use Rattle.wire_base.specs.Stamp.{IsStampAt}
 use Rattle.wire_base.specs.declared.values.stamp.ClockRange.{ClockRange}
 use Rattle.wire_base.specs.declared.values.memory.Memory.{Memory}
+use Rattle.swima_model.specs.declared.record.Content.{Content}
 use Rattle.collector_core.specs.declared.book.edit.Edit.{Edit}
+use Rattle.collector_core.specs.declared.book.edit.Edit.TheVariants as edit
 use Rattle.session_world.specs.declared.telling.Telling.{Telling}
 use Rattle.session_world.specs.Lines.{Told, enters}
 use Rattle.session_world.specs.Standing.{Does, WorldView, StandsFor as WorldStandsFor}
 use Rattle.session_world.specs.World.{World}
 use Rattle.session_script.specs.declared.line.Line.{Line}
+use Rattle.session_script.specs.declared.line.Line.TheVariants as line
 use Rattle.session_script.specs.declared.playing.Playing.{Playing as PlayingView}
 use Rattle.session_script.specs.Played.{Acts, PlaysSo, StandsFor}
 use Rattle.session_script.specs.Replay.{Changes, Enters, IsPlayed, Playing, telling_line, told_in}
@@ -57,3 +61,17 @@ pub entered : (said : Line) (stamp : List ℕ) (change : Edit) (before after : P
 entered said stamp change before after mid (Ok text) acts same stamped changes is counted =
     entered_text said stamp change before after text (subst (λ (w : WorldView). Acts (enters change) w after.world text) same acts) stamped changes is counted
 entered said stamp change before after mid (Err memory) acts same stamped changes is counted = tt
+
+module _ (stamp : List ℕ) (before after : PlayingView) (mid : WorldView) (result : Result (List ℕ) Memory) (same : mid ≡ before.world) (stamped : IsStampAt (before.changes + 1) (Ok stamp))
+  (counted : after.changes ≡ before.changes + 1) where
+  pub created : (content : Content) (moment : Bor (List ℕ)) (given : Bor Content) → IfOk result (λ (text : List ℕ). Acts (enters (edit.Create moment given)) mid after.world text)
+      → moment.now ≡ stamp → given.now ≡ content → IfOk result (λ (text : List ℕ). (p : Playing) → StandsFor before p → PlaysSo p (line.Create content) text after)
+  created content moment given acts one two = entered (line.Create content) stamp (edit.Create moment given) before after mid result acts same stamped (one, two) (λ p is. is) counted
+
+  pub altered : (id : ℕ) (content : Content) (moment : Bor (List ℕ)) (given : Bor Content) → IfOk result (λ (text : List ℕ). Acts (enters (edit.Alter moment id given)) mid after.world text)
+      → moment.now ≡ stamp → given.now ≡ content → IfOk result (λ (text : List ℕ). (p : Playing) → StandsFor before p → PlaysSo p (line.Alter id content) text after)
+  altered id content moment given acts one two = entered (line.Alter id content) stamp (edit.Alter moment id given) before after mid result acts same stamped (one, refl, two) (λ p is. is) counted
+
+  pub deleted : (id : ℕ) (moment : Bor (List ℕ)) → IfOk result (λ (text : List ℕ). Acts (enters (edit.Delete moment id)) mid after.world text)
+      → moment.now ≡ stamp → IfOk result (λ (text : List ℕ). (p : Playing) → StandsFor before p → PlaysSo p (line.Delete id) text after)
+  deleted id moment acts one = entered (line.Delete id) stamp (edit.Delete moment id) before after mid result acts same stamped (one, refl) (λ p is. is) counted

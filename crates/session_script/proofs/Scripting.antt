@@ -88,9 +88,9 @@ module _ (goes_on : Bool) (first : Playing) (octets : List ℕ) where
 
 -- ---- the whole script
 
-pub all_played : (goes_on : Bool) (octets : List ℕ) (view : PlayingView) (out : List ℕ) (answer want : Answer) (result : Result Answer Memory) → IfOk result (λ (made : Answer). made ≡ after_text out answer)
-    → answer ≡ want → ((p : Playing) → StandsFor view p → Plays 99999 2 goes_on p octets (after_text out want))
+pub all_played : (goes_on : Bool) (octets : List ℕ) (view : PlayingView) (out text : List ℕ) (answer want : Answer) (result : Result Answer Memory) → IfOk result (λ (made : Answer). made ≡ after_text text answer)
+    → text ≡ out → answer ≡ want → ((p : Playing) → StandsFor view p → Plays 99999 2 goes_on p octets (after_text out want))
     → IfOk result (λ (made : Answer). (p : Playing) → StandsFor view p → PlaysAll goes_on p octets made)
-all_played goes_on octets view out answer want (Ok made) is same plays = λ p stands.
-    subst (λ (a : Answer). Plays 99999 2 goes_on p octets a) (sym (is ∙ ap (λ (a : Answer). after_text out a) same)) (plays p stands)
-all_played goes_on octets view out answer want (Err memory) is same plays = tt
+all_played goes_on octets view out text answer want (Ok made) is put same plays = λ p stands.
+    subst (λ (a : Answer). Plays 99999 2 goes_on p octets a) (sym (is ∙ ap (λ (t : List ℕ). after_text t answer) put ∙ ap (λ (a : Answer). after_text out a) same)) (plays p stands)
+all_played goes_on octets view out text answer want (Err memory) is put same plays = tt
