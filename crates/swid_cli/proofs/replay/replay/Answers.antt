@@ -1,4 +1,4 @@
-use Rattle.std.proofs.Common.{refl}
+use Rattle.std.proofs.Common.{List, ℕ, refl, subst}
 use Rattle.std.proofs.lemmas.Result.{err_from_is_err_and}
 use Rattle.session_script.specs.Replay.{SCRIPT_OCTETS, ReplayTells}
 use Rattle.swid_cli.proofs.ReplayTelling.{replay_wide}
@@ -19,9 +19,9 @@ pub returns-in_err-write_all-clause-printed : goal.returns-in_err-write_all-clau
 returns-in_err-write_all-clause-printed g c =
     let p = err_from_is_err_and c.from_residual-in_err-write_all.result c.from_residual-in_err-write_all.ensures.1 in
     ran_front SCRIPT_OCTETS ReplayTells replay_wide _ _ _ _ _ _ _ _ _ c.from_residual-in_err-write_all.result p.0 p.1 refl c.new-held.ensures.empty c.in_ok-fill.ensures.fills
-    (rw c.as_slice.ensures.items at c.in_ok-answer.ensures.told) (rw c.as_slice-2.ensures.items at c.in_err-write_all.ensures.front)
+    (subst (λ (o : List ℕ). ReplayTells o c.in_ok-answer.answer.text c.in_ok-answer.answer.ending) c.as_slice.ensures.items c.in_ok-answer.ensures.told) (rw c.as_slice-2.ensures.items at c.in_err-write_all.ensures.front)
 
 pub returns-clause-printed : goal.returns-clause-printed
 returns-clause-printed g c =
     ran_whole SCRIPT_OCTETS ReplayTells replay_wide _ _ _ _ _ _ _ _ _ refl c.new-held.ensures.empty c.in_ok-fill.ensures.fills
-    (rw c.as_slice.ensures.items at c.in_ok-answer.ensures.told) (rw c.as_slice-2.ensures.items at c.in_ok-write_all.ensures.whole)
+    (subst (λ (o : List ℕ). ReplayTells o c.in_ok-answer.answer.text c.in_ok-answer.answer.ending) c.as_slice.ensures.items c.in_ok-answer.ensures.told) (rw c.as_slice-2.ensures.items at c.in_ok-write_all.ensures.whole)
