@@ -1,11 +1,12 @@
 #!/usr/bin/env python3
-"""Writes the example files of ../mirror, ../tags, ../files and ../links, each with the words, the output and the status that belong to it.
+"""Writes the example files of ../mirror, ../tags, ../files, ../links and ../sessions, each with the words, the output and the status that belong to it.
 
 Each example of mirror/ is a kind of mirror and a list of values. `formats.py` says what octets and what output belong
 to them. mirror/NAME.patnc has the octets, NAME.args the words after `swid`, NAME.out the output, and NAME.status the status
 where it is not 0. The examples of tags/ are the values of `tag_values.py`, and `coswid.py` says the same of them:
 tags/NAME.coswid has the octets, and tags/NAME.diag says them in words. Those of files/ are the values of `file_values.py`, by
-`coswid_files.py`, and those of links/ the values of `list_values.py`, by `coswid_links.py`. The program is not run.
+`coswid_files.py`, and those of links/ the values of `list_values.py`, by `coswid_links.py`. Those of sessions/ are the
+scripts of `session_values.py`, by `sessions.py`: sessions/NAME.script has the script. The program is not run.
 """
 
 import os
@@ -19,6 +20,7 @@ from formats import Event, Events, Inventory, Record, Refused, Skipped, Torn, at
 import coswid
 import file_values
 import list_values
+import session_values
 import tag_values
 
 EXAMPLES_FOLDER = os.path.join(os.path.dirname(os.path.abspath(__file__)), os.pardir)
@@ -203,6 +205,9 @@ def main():
     for path, content in file_values.FILES.items():
         os.makedirs(os.path.join(EXAMPLES_FOLDER, "files", os.path.dirname(path)), exist_ok=True)
         write(f"files/{path}", content)
+    for name, script in session_values.CASES.items():
+        write(f"sessions/{name}.script", script.octets())
+        write_answer(f"sessions/{name}", "replay", script.output(), script.status())
     write("messages/folder.coswid", coswid.run(file_values.FOLDER)[0])
     for folder, (words, cases) in TAG_EXAMPLES.items():
         for name, case in cases.items():

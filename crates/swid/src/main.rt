@@ -16,7 +16,8 @@ swid: the words are none of these:
   swid mirror ids|full   judges the reports on standard input, and prints what the endpoint holds
   swid tag               reads a tag on standard input: its kind, identifier and findings
   swid tag verify        does the same, and looks at the files of the tag
-  swid links             reads tags one after another, and prints what is wrong between them";
+  swid links             reads tags one after another, and prints what is wrong between them
+  swid replay            plays a script of both ends of sessions, and prints what happens";
 
 fn main(rt: HostRuntime) -> ExitCode {
     let status = match run(&rt) {

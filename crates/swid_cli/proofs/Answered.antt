@@ -19,14 +19,14 @@ use Rattle.validator_core.specs.Right.{IsRight}
 use Rattle.validator_core.proofs.Righting.{judged_right, judged_kind}
 use Rattle.swid_cli.specs.declared.mirror.first_attribute.Front.{Front}
 use Rattle.swid_cli.specs.declared.mirror.first_attribute.Front.TheVariants as front
-use Rattle.swid_cli.specs.declared.ending.Ending.TheVariants as ending
+use Rattle.command_text.specs.declared.ending.Ending.TheVariants as ending
 use Rattle.swid_cli.specs.Answering.{StandsIn, report_kind, AllAnswer, EndsRight, PrintedMirrorIsRight, PrintsRight}
 use Rattle.swid_cli.specs.Answering.StandsIn.{as_first, behind_first}
 use Rattle.wire_base.specs.Outside.{Adds}
 use Rattle.swid_cli.specs.Run.{Prints}
 use Rattle.swid_cli.specs.Front.{carries_report, first_of}
 use Rattle.swid_cli.specs.Stream.{INPUT_OCTETS, Printed, Goes, after_line, and_on, front_step, report_step, step_of, stream, stream_by, stream_text}
-use Rattle.swid_cli.specs.Text.{mirror_text, skipped_line, took_line}
+use Rattle.command_text.specs.Text.{mirror_text, skipped_line, took_line}
 use Rattle.swid_cli.proofs.Running.{is_whole}
 
 -- The reports of the kind that stand in octets after a place answer.

@@ -6,7 +6,7 @@ use Rattle.wire_base.specs.Passing.{AddsFront, WroteFront}
 use Rattle.wire_base.proofs.Streams.{adds_none, adds_more}
 use Rattle.swima_model.specs.declared.report.Kind.{Kind}
 use Rattle.validator_core.specs.Held.{Held, empty_mirror}
-use Rattle.swid_cli.specs.declared.ending.Ending.{Ending}
+use Rattle.command_text.specs.declared.ending.Ending.{Ending}
 use Rattle.swid_cli.specs.declared.mirror.step.Step.TheVariants as step
 use Rattle.swid_cli.specs.Run.{Ran}
 use Rattle.wire_base.specs.declared.outside.stopped.Stopped.{Stopped}

@@ -15,4 +15,4 @@ pub mod Reading
 pub mod LinksTelling
 pub mod OneText
 pub mod OneList
-pub mod Printed
+pub mod ReplayTelling

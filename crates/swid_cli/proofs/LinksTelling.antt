@@ -5,9 +5,9 @@ use Rattle.std.proofs.lemmas.Bool.{cases_lt, lt-ltb}
 use Rattle.std.proofs.lemmas.List.{take_min}
 use Rattle.wire_base.specs.declared.values.memory.Memory.{Memory}
 use Rattle.coswid_tag.specs.declared.tag.Tag.{Tag}
-use Rattle.swid_cli.specs.declared.answer.Answer.{Answer}
-use Rattle.swid_cli.specs.declared.ending.Ending.{Ending}
-use Rattle.swid_cli.specs.declared.ending.Ending.TheVariants as ending
+use Rattle.command_text.specs.declared.answer.Answer.{Answer}
+use Rattle.command_text.specs.declared.ending.Ending.{Ending}
+use Rattle.command_text.specs.declared.ending.Ending.TheVariants as ending
 use Rattle.swid_cli.specs.declared.links.tag_list.Behind.{Behind}
 use Rattle.swid_cli.specs.declared.links.tag_list.Behind.TheVariants as behind
 use Rattle.swid_cli.specs.declared.links.tag_list.TagList.{TagList}

@@ -18,17 +18,17 @@ use Rattle.coswid_codec.specs.Answers.{limits, BeginsTag}
 use Rattle.coswid_codec.specs.TagFault.{tag_fault}
 use Rattle.coswid_codec.proofs.Outcomes.{begins_one_tag, fault_same, form_same, item_not_refused, tag_not_faulty}
 use Rattle.coswid_codec.proofs.Whole.{no_fault_or_no_tag}
-use Rattle.swid_cli.specs.declared.answer.Answer.{Answer}
-use Rattle.swid_cli.specs.declared.ending.Ending.{Ending}
+use Rattle.command_text.specs.declared.answer.Answer.{Answer}
+use Rattle.command_text.specs.declared.ending.Ending.{Ending}
 use Rattle.swid_cli.specs.declared.links.tag_list.Behind.{Behind}
 use Rattle.swid_cli.specs.declared.links.tag_list.Behind.TheVariants as behind
 use Rattle.swid_cli.specs.declared.links.tag_list.TagList.{TagList}
-use Rattle.swid_cli.specs.Answer.{limit_answer, refusal_answer}
+use Rattle.command_text.specs.Answer.{limit_answer, refusal_answer}
 use Rattle.swid_cli.specs.Links.{LIST_OCTETS, answer_behind, at_tag, is_cut, list_answer}
 use Rattle.swid_cli.specs.LinksLaws.{OneLinksText, SomeLinksText}
 use Rattle.swid_cli.specs.TagList.{BeginsTags, IsTagList, LIST_TAGS, StandsBehind, no_tags, one_more}
 use Rattle.swid_cli.specs.Tagging.{form_line}
-use Rattle.swid_cli.specs.Text.{fault_line}
+use Rattle.command_text.specs.Text.{fault_line}
 
 -- ---- two lists of tags that one input begins with
 

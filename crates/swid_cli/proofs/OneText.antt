@@ -25,11 +25,11 @@ use Rattle.coswid_codec.specs.Forms.{TagForm}
 use Rattle.coswid_codec.specs.TagFault.{tag_fault}
 use Rattle.coswid_codec.proofs.Outcomes.{begins_one_tag, fault_same, form_same, item_not_refused, tag_not_faulty}
 use Rattle.coswid_codec.proofs.Whole.{no_fault_or_no_tag, one_tag_one_spelling}
-use Rattle.swid_cli.specs.declared.ending.Ending.{Ending}
+use Rattle.command_text.specs.declared.ending.Ending.{Ending}
 use Rattle.swid_cli.specs.Checking.{PayloadVerdicts, TagVerdicts, checked_ending, checked_text}
 use Rattle.swid_cli.specs.Tagging.{TAG_OCTETS, TagTells, long_input, more_follows, no_item, no_tag, form_line, whole_tag}
 use Rattle.swid_cli.specs.TagLaws.{OneTagText, OneText, OneVerifiedText, SomeTagText, ToldAlike}
-use Rattle.swid_cli.specs.Text.{fault_line, refusal}
+use Rattle.command_text.specs.Text.{fault_line, refusal}
 
 -- ---- one line of a fault
 

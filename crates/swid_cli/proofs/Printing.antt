@@ -8,7 +8,7 @@ use Rattle.wire_base.specs.declared.outside.stopped.Stopped.{Stopped}
 use Rattle.swima_model.specs.declared.report.Kind.{Kind}
 use Rattle.swid_cli.specs.declared.command.Command.{Command}
 use Rattle.swid_cli.specs.declared.command.Command.TheVariants as command
-use Rattle.swid_cli.specs.declared.ending.Ending.{Ending}
+use Rattle.command_text.specs.declared.ending.Ending.{Ending}
 use Rattle.swid_cli.specs.Commands.{Says}
 use Rattle.swid_cli.specs.Printing.{CommandPrints, CommandReads, WordsBegin, WordsPrint, WordsRead}
 use Rattle.swid_cli.specs.Run.{Prints, Ran, status_of}

@@ -6,8 +6,8 @@ use Rattle.wire_base.specs.declared.outside.stopped.Stopped.TheVariants as stopp
 use Rattle.swima_model.specs.declared.report.Kind.{Kind}
 use Rattle.swima_model.specs.declared.report.Kind.TheVariants.{Ids, Full}
 use Rattle.validator_core.specs.Held.{empty_mirror}
-use Rattle.swid_cli.specs.declared.ending.Ending.{Ending}
-use Rattle.swid_cli.specs.declared.ending.Ending.TheVariants as ending
+use Rattle.command_text.specs.declared.ending.Ending.{Ending}
+use Rattle.command_text.specs.declared.ending.Ending.TheVariants as ending
 use Rattle.swid_cli.specs.Run.{Prints, Ran, ending_status, status_of}
 use Rattle.swid_cli.specs.Stream.{Printed, stream_text}
 use Rattle.swid_cli.specs.Words.{IsMirror, kind_word}

@@ -9,11 +9,11 @@ use Rattle.swima_reports.specs.ReportReading.{read_report}
 use Rattle.validator_core.specs.Held.{Held}
 use Rattle.swid_cli.specs.declared.mirror.first_attribute.Front.{Front}
 use Rattle.swid_cli.specs.declared.mirror.first_attribute.Front.TheVariants as front
-use Rattle.swid_cli.specs.declared.ending.Ending.TheVariants as ending
+use Rattle.command_text.specs.declared.ending.Ending.TheVariants as ending
 use Rattle.swid_cli.specs.declared.mirror.step.Step.{Step}
 use Rattle.swid_cli.specs.declared.mirror.step.Step.TheVariants as step
 use Rattle.swid_cli.specs.Front.{carries_report, first_of, left_behind}
-use Rattle.swid_cli.specs.Text.{mirror_text, skipped_line}
+use Rattle.command_text.specs.Text.{mirror_text, skipped_line}
 use Rattle.swid_cli.specs.Stream.{INPUT_OCTETS, Goes, attribute_step, front_step, refused, report_step, step_of}
 use Rattle.swid_cli.specs.Steps.{IsStep, left_of}
 

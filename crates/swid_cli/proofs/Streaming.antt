@@ -13,11 +13,11 @@ use Rattle.swima_reports.specs.ReportReading.{read_report}
 use Rattle.validator_core.specs.Held.{Held}
 use Rattle.swid_cli.specs.declared.mirror.first_attribute.Front.{Front}
 use Rattle.swid_cli.specs.declared.mirror.first_attribute.Front.TheVariants as front
-use Rattle.swid_cli.specs.declared.ending.Ending.{Ending}
-use Rattle.swid_cli.specs.declared.ending.Ending.TheVariants as ending
+use Rattle.command_text.specs.declared.ending.Ending.{Ending}
+use Rattle.command_text.specs.declared.ending.Ending.TheVariants as ending
 use Rattle.swid_cli.specs.declared.mirror.step.Step.TheVariants as step
 use Rattle.swid_cli.specs.Front.{begins, carries_report, first_of, shows_refused}
-use Rattle.swid_cli.specs.Text.{skipped_line}
+use Rattle.command_text.specs.Text.{skipped_line}
 use Rattle.swid_cli.specs.Stream.{INPUT_OCTETS, Printed, StepOf, Goes, Ends, StreamGoesOn, after_line, and_on, attribute_step, front_step, report_step, step_of, stream, stream_by}
 use Rattle.swid_cli.specs.Steps.{IsStep, TakesStep, left_of}
 

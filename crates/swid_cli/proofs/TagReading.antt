@@ -13,8 +13,8 @@ use Rattle.coswid_res.specs.declared.fault.FormFault.{FormFault}
 use Rattle.coswid_tag.specs.declared.tag.Tag.{Tag}
 use Rattle.coswid_codec.specs.Answers.{limits, BeginsFaulty, BeginsTag}
 use Rattle.coswid_codec.proofs.Outcomes.{begins_one_tag, item_not_refused, tag_not_faulty}
-use Rattle.swid_cli.specs.declared.ending.Ending.{Ending}
-use Rattle.swid_cli.specs.declared.ending.Ending.TheVariants as ending
+use Rattle.command_text.specs.declared.ending.Ending.{Ending}
+use Rattle.command_text.specs.declared.ending.Ending.TheVariants as ending
 use Rattle.swid_cli.specs.Run.{status_of}
 use Rattle.swid_cli.specs.TagReads.{AreMade, AreTagReads, PayloadReads, TagReads, payload_paths}
 use Rattle.swid_cli.specs.Tagging.{TAG_OCTETS}

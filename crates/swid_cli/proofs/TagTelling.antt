@@ -11,11 +11,11 @@ use Rattle.coswid_res.specs.declared.verification.verdict.Verdict.{Verdict}
 use Rattle.coswid_tag.specs.Findings.{findings}
 use Rattle.coswid_tag.specs.declared.tag.Tag.{Tag}
 use Rattle.coswid_codec.specs.Answers.{BeginsTag}
-use Rattle.swid_cli.specs.declared.answer.Answer.{Answer}
+use Rattle.command_text.specs.declared.answer.Answer.{Answer}
 use Rattle.swid_cli.specs.declared.command.Command.TheVariants as command
-use Rattle.swid_cli.specs.declared.ending.Ending.{Ending}
-use Rattle.swid_cli.specs.declared.ending.Ending.TheVariants as ending
-use Rattle.swid_cli.specs.Answer.{ending_of, refusal_answer}
+use Rattle.command_text.specs.declared.ending.Ending.{Ending}
+use Rattle.command_text.specs.declared.ending.Ending.TheVariants as ending
+use Rattle.command_text.specs.Answer.{ending_of, refusal_answer}
 use Rattle.swid_cli.specs.Checking.{TagVerdicts, checked_ending, checked_text}
 use Rattle.swid_cli.specs.Commands.{Says}
 use Rattle.swid_cli.specs.Run.{status_of}

@@ -7,8 +7,8 @@ use Rattle.wire_base.specs.Outside.{Adds}
 use Rattle.wire_base.specs.Passing.{AddsFront, Fills}
 use Rattle.wire_base.specs.declared.outside.stopped.Stopped.{Stopped}
 use Rattle.wire_base.specs.declared.outside.stopped.Stopped.TheVariants as stopped
-use Rattle.swid_cli.specs.declared.ending.Ending.{Ending}
-use Rattle.swid_cli.specs.declared.ending.Ending.TheVariants as ending
+use Rattle.command_text.specs.declared.ending.Ending.{Ending}
+use Rattle.command_text.specs.declared.ending.Ending.TheVariants as ending
 use Rattle.swid_cli.specs.Run.{Prints, status_of}
 use Rattle.swid_cli.specs.Stream.{Printed}
 use Rattle.swid_cli.specs.Telling.{IsTold, PrintsFront, RanTelling}

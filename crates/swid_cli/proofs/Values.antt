@@ -6,10 +6,10 @@ use Rattle.validator_core.specs.Held.{Held}
 use Rattle.validator_core.specs.Judge.{Judged, judge}
 use Rattle.validator_core.specs.declared.mirror.Taken.{Taken}
 use Rattle.validator_core.specs.declared.mirror.Taken.TheVariants as taken
-use Rattle.swid_cli.specs.Text.{fault_line, took_line}
+use Rattle.command_text.specs.Text.{fault_line, took_line}
 use Rattle.swid_cli.specs.Stream.{report_step}
 use Rattle.swid_cli.specs.Steps.{IsStep}
-use Rattle.swid_cli.specs.declared.ending.Ending.TheVariants as ending
+use Rattle.command_text.specs.declared.ending.Ending.TheVariants as ending
 use Rattle.swid_cli.specs.declared.mirror.step.Step.{Step}
 use Rattle.swid_cli.specs.declared.mirror.step.Step.TheVariants as step
 

@@ -12,10 +12,10 @@ use Rattle.swima_reports.specs.ReportReading.{read_report}
 use Rattle.validator_core.specs.Held.{Held}
 use Rattle.validator_core.specs.Right.{IsRight}
 use Rattle.swid_cli.specs.declared.mirror.first_attribute.Front.TheVariants as front
-use Rattle.swid_cli.specs.declared.ending.Ending.TheVariants as ending
+use Rattle.command_text.specs.declared.ending.Ending.TheVariants as ending
 use Rattle.swid_cli.specs.Front.{carries_report, first_of}
 use Rattle.swid_cli.specs.Stream.{INPUT_OCTETS, Printed, stream_text}
-use Rattle.swid_cli.specs.Text.{mirror_text}
+use Rattle.command_text.specs.Text.{mirror_text}
 
 -- A report stands in octets that begin at `at`: the first attribute there carries it, or it stands
 -- after that.

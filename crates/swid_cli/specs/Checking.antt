@@ -14,10 +14,10 @@ use Rattle.coswid_tag.specs.Findings.{findings}
 use Rattle.coswid_tag.specs.declared.tag.Tag.{Tag}
 use Rattle.coswid_codec.specs.Items.{tag_item}
 use Rattle.coswid_codec.specs.TagText.{canonical_line, summary_text}
-use Rattle.swid_cli.specs.Answer.{ending_of}
-use Rattle.swid_cli.specs.declared.ending.Ending.{Ending}
-use Rattle.swid_cli.specs.declared.ending.Ending.TheVariants as ending
-use Rattle.swid_cli.specs.Text.{line}
+use Rattle.command_text.specs.Answer.{ending_of}
+use Rattle.command_text.specs.declared.ending.Ending.{Ending}
+use Rattle.command_text.specs.declared.ending.Ending.TheVariants as ending
+use Rattle.command_text.specs.Text.{line}
 
 abbrev pub verdict_text : Verdict → List ℕ
 verdict_text verdict.Same = codes "same"

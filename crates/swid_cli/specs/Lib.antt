@@ -1,6 +1,5 @@
 pub mod Words
 pub mod Commands
-pub mod Text
 pub mod Front
 pub mod FirstLaws
 pub mod Stream
@@ -8,7 +7,6 @@ pub mod Steps
 pub mod Run
 pub mod Causes
 pub mod Answering
-pub mod Answer
 pub mod Telling
 pub mod Checking
 pub mod Tagging

@@ -7,15 +7,15 @@ use Rattle.cbor_det.specs.declared.fault.CborFaultKind.TheVariants.{Truncated}
 use Rattle.coswid_links.specs.LinkFindings.{findings}
 use Rattle.coswid_links.specs.declared.finding.LinkFinding.{LinkFinding}
 use Rattle.coswid_tag.specs.declared.tag.Tag.{Tag}
-use Rattle.swid_cli.specs.declared.answer.Answer.{Answer}
-use Rattle.swid_cli.specs.declared.ending.Ending.{Ending}
+use Rattle.command_text.specs.declared.answer.Answer.{Answer}
+use Rattle.command_text.specs.declared.ending.Ending.{Ending}
 use Rattle.swid_cli.specs.declared.links.tag_list.Behind.{Behind}
 use Rattle.swid_cli.specs.declared.links.tag_list.Behind.TheVariants as behind
 use Rattle.swid_cli.specs.declared.links.tag_list.TagList.{TagList}
-use Rattle.swid_cli.specs.Answer.{ending_of, limit_answer, refusal_answer}
+use Rattle.command_text.specs.Answer.{ending_of, limit_answer, refusal_answer}
 use Rattle.swid_cli.specs.TagList.{IsTagList, LIST_TAGS}
 use Rattle.swid_cli.specs.Tagging.{form_line}
-use Rattle.swid_cli.specs.Text.{fault_line, line}
+use Rattle.command_text.specs.Text.{fault_line, line}
 
 -- The most octets of the input.
 abbrev pub LIST_OCTETS : ℕ

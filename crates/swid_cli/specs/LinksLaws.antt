@@ -1,7 +1,7 @@
 -- What `links` prints of each input is one text.
 use Rattle.std.specs.Prelude.{◌≡◌, ℕ, List}
 use Rattle.wire_base.specs.Layout.{AreOctets}
-use Rattle.swid_cli.specs.declared.ending.Ending.{Ending}
+use Rattle.command_text.specs.declared.ending.Ending.{Ending}
 use Rattle.swid_cli.specs.Links.{LinksTells}
 
 -- An input has at most one text, and one ending.

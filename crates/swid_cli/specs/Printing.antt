@@ -6,10 +6,11 @@ use Rattle.wire_base.specs.Passing.{AddsFront}
 use Rattle.wire_base.specs.declared.outside.files.NamedFile.{NamedFile}
 use Rattle.wire_base.specs.declared.outside.stopped.Stopped.{Stopped}
 use Rattle.swid_cli.specs.declared.command.Command.{Command}
-use Rattle.swid_cli.specs.declared.command.Command.TheVariants.{Mirror, Tag, Links}
-use Rattle.swid_cli.specs.declared.ending.Ending.{Ending}
+use Rattle.swid_cli.specs.declared.command.Command.TheVariants.{Mirror, Tag, Links, Replay}
+use Rattle.command_text.specs.declared.ending.Ending.{Ending}
 use Rattle.swid_cli.specs.Commands.{Says}
 use Rattle.swid_cli.specs.Links.{LIST_OCTETS, LinksTells}
+use Rattle.session_script.specs.Replay.{SCRIPT_OCTETS, ReplayTells}
 use Rattle.swid_cli.specs.Run.{status_of}
 use Rattle.swid_cli.specs.Stream.{Printed, stream_text}
 use Rattle.swid_cli.specs.TagReads.{TagReads}
@@ -22,6 +23,7 @@ abbrev pub CommandPrints : Command → Option (List NamedFile) → List ℕ → 
 CommandPrints (Mirror kind) files octets printed = printed ≡ stream_text kind octets
 CommandPrints (Tag looks_at_files) files octets printed = IsTold TAG_OCTETS (TagTells looks_at_files files) octets printed
 CommandPrints Links files octets printed = IsTold LIST_OCTETS LinksTells octets printed
+CommandPrints Replay files octets printed = IsTold SCRIPT_OCTETS ReplayTells octets printed
 
 -- The reads of files that a command made which ended so: `tag verify` those of the tag, and no
 -- other command any.
@@ -30,6 +32,7 @@ CommandReads (Tag true) octets ended before after = TagReads octets ended before
 CommandReads (Tag false) octets ended before after = after ≡ before
 CommandReads (Mirror kind) octets ended before after = after ≡ before
 CommandReads Links octets ended before after = after ≡ before
+CommandReads Replay octets ended before after = after ≡ before
 
 -- The words say a command, and this is what it prints.
 pub record WordsPrint (words : List (List ℕ)) (files : Option (List NamedFile)) (octets : List ℕ) (printed : Printed) : Type 0 where

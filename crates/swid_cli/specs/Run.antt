@@ -5,10 +5,10 @@ use Rattle.wire_base.specs.Outside.{Adds}
 use Rattle.wire_base.specs.Passing.{AddsFront}
 use Rattle.wire_base.specs.declared.outside.stopped.Stopped.{Stopped}
 use Rattle.wire_base.specs.declared.outside.stopped.Stopped.TheVariants as stopped
-use Rattle.swid_cli.specs.declared.ending.Ending.{Ending}
-use Rattle.swid_cli.specs.declared.ending.Ending.TheVariants as ending
+use Rattle.command_text.specs.declared.ending.Ending.{Ending}
+use Rattle.command_text.specs.declared.ending.Ending.TheVariants as ending
 use Rattle.swid_cli.specs.Stream.{Printed}
-use Rattle.swid_cli.specs.Text.{line}
+use Rattle.command_text.specs.Text.{line}
 
 -- The line that is printed where the words are no command line.
 abbrev pub usage : List ℕ

@@ -10,10 +10,10 @@ use Rattle.validator_core.specs.Held.{Held, empty_mirror}
 use Rattle.validator_core.specs.Judge.{judge}
 use Rattle.swid_cli.specs.declared.mirror.first_attribute.Front.{Front}
 use Rattle.swid_cli.specs.declared.mirror.first_attribute.Front.TheVariants as front
-use Rattle.swid_cli.specs.declared.ending.Ending.{Ending}
-use Rattle.swid_cli.specs.declared.ending.Ending.TheVariants as ending
+use Rattle.command_text.specs.declared.ending.Ending.{Ending}
+use Rattle.command_text.specs.declared.ending.Ending.TheVariants as ending
 use Rattle.swid_cli.specs.Front.{carries_report, first_of, left_behind}
-use Rattle.swid_cli.specs.Text.{fault_line, mirror_text, refusal, skipped_line, took_line}
+use Rattle.command_text.specs.Text.{fault_line, mirror_text, refusal, skipped_line, took_line}
 
 -- The most octets of the input.
 abbrev pub INPUT_OCTETS : ℕ

@@ -7,7 +7,7 @@ use Rattle.coswid_res.specs.declared.verification.verdict.Verdict.{Verdict}
 use Rattle.coswid_tag.specs.declared.tag.Tag.{Tag}
 use Rattle.coswid_codec.specs.Answers.{BeginsTag}
 use Rattle.coswid_codec.specs.Items.{tag_item}
-use Rattle.swid_cli.specs.declared.ending.Ending.{Ending}
+use Rattle.command_text.specs.declared.ending.Ending.{Ending}
 use Rattle.swid_cli.specs.Checking.{checked_text}
 use Rattle.swid_cli.specs.Tagging.{TagTells}
 

@@ -11,10 +11,10 @@ use Rattle.coswid_res.specs.declared.verification.verdict.Verdict.{Verdict}
 use Rattle.coswid_tag.specs.Findings.{findings}
 use Rattle.coswid_tag.specs.declared.tag.Tag.{Tag}
 use Rattle.coswid_codec.specs.Answers.{limits, BeginsTag, BeginsFaulty}
-use Rattle.swid_cli.specs.declared.ending.Ending.{Ending}
-use Rattle.swid_cli.specs.declared.ending.Ending.TheVariants as ending
+use Rattle.command_text.specs.declared.ending.Ending.{Ending}
+use Rattle.command_text.specs.declared.ending.Ending.TheVariants as ending
 use Rattle.swid_cli.specs.Checking.{TagVerdicts, checked_ending, checked_text}
-use Rattle.swid_cli.specs.Text.{fault_line, line, refusal}
+use Rattle.command_text.specs.Text.{fault_line, line, refusal}
 
 -- The most octets of the input.
 abbrev pub TAG_OCTETS : ℕ

@@ -24,6 +24,10 @@ IsTagVerify words = words ≡ codes "tag" ∷ codes "verify" ∷ []
 abbrev pub IsLinks : List (List ℕ) → Type 0
 IsLinks words = words ≡ codes "links" ∷ []
 
+-- The word is `replay`.
+abbrev pub IsReplay : List (List ℕ) → Type 0
+IsReplay words = words ≡ codes "replay" ∷ []
+
 -- The words are a command line.
 abbrev pub IsCommandLine : List (List ℕ) → Type 0
-IsCommandLine words = IsMirror Ids words ⊎ IsMirror Full words ⊎ IsTag words ⊎ IsTagVerify words ⊎ IsLinks words
+IsCommandLine words = IsMirror Ids words ⊎ IsMirror Full words ⊎ IsTag words ⊎ IsTagVerify words ⊎ IsLinks words ⊎ IsReplay words

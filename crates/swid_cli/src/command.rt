@@ -17,6 +17,8 @@ pub(crate) enum Command {
     Tag { looks_at_files: bool },
     /// `links`: say what is wrong between tags.
     Links,
+    /// `replay`: play a script of both ends of sessions.
+    Replay,
 }
 
 /// The command that the words say; `None` exactly where they are no command line.
@@ -34,6 +36,7 @@ pub(crate) fn command_of(words: &[&str]) -> Option<Command>
             looks_at_files: true,
         }),
         ["links"] => Some(Command::Links),
+        ["replay"] => Some(Command::Replay),
         _ => None,
     }
 }

@@ -23,18 +23,15 @@
 //! | `mirror/supported.rt` | which attributes `mirror` takes | `Front`: `REPORT_TYPES` |
 //! | `tag.rt`, `tag/` | `tag` and `tag verify` | `Tagging`: `TagTells`; `Checking`, `TagReads` |
 //! | `links.rt`, `links/` | `links` | `Links`: `LinksTells`; `TagList` |
-//! | `answer.rt`, `ending.rt` | what is printed, and how it ends | `Answer` |
-//! | `refusal_lines.rt`, `mirror/lines.rt` | lines that are printed | `Text` |
+//! | `replay.rt` | `replay` | `Replay` of `session_script`: `ReplayTells` |
 //! | `laws.rt` | what the definitions mean, proved | `FirstLaws`, `TagLaws`, `LinksLaws` |
 #![tactic(auto)]
 
-mod answer;
 mod command;
-mod ending;
 pub mod laws;
 mod links;
 mod mirror;
-mod refusal_lines;
+mod replay;
 mod run;
 mod tag;
 

@@ -1,7 +1,6 @@
 //! The command `mirror`.
 
 pub(crate) mod first_attribute;
-pub(crate) mod lines;
 pub(crate) mod step;
 pub(crate) mod supported;
 
@@ -10,8 +9,8 @@ ghost use Rattle.swid_cli.specs.Run.{Ran};
 ghost use Rattle.swid_cli.specs.Stream.{stream_text};
 ghost use Rattle.swid_cli.specs.Causes.{HasCauses};
 
-use crate::ending::Ending;
 use crate::mirror::step::{Step, next_step};
+use command_text::Ending;
 use std::alloc::Global;
 use swima_model::Kind;
 use validator_core::Mirror;

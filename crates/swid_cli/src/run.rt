@@ -12,10 +12,11 @@ ghost use Rattle.wire_base.specs.Outside.{Adds, Rose};
 ghost use Rattle.wire_base.specs.Passing.{AddsFront};
 
 use crate::command::{Command, command_of};
-use crate::ending::Ending;
 use crate::links::links;
 use crate::mirror::mirror;
+use crate::replay::replay;
 use crate::tag::tag;
+use command_text::Ending;
 use std::alloc::Global;
 use wire_base::{Files, Sink, Source, Stopped, write_all};
 
@@ -102,6 +103,7 @@ pub fn run_plain<S: Source, K: Sink, F: Files>(
             status(tag(alloc, looks_at_files, input, output, files))
         }
         Some(Command::Links) => status(links(alloc, input, output)),
+        Some(Command::Replay) => status(replay(alloc, input, output)),
     }
 }
 

@@ -18,11 +18,9 @@ ghost use Rattle.swid_cli.specs.Telling.{RanTelling};
 ghost use Rattle.wire_base.specs.Outside.{HasCause};
 ghost use Rattle.wire_base.specs.Passing.{is_fault};
 
-use crate::answer::{Answer, beyond_limit, ending_of, refused};
-use crate::ending::Ending;
-use crate::refusal_lines::{fault_line, refusal};
 use crate::tag::lines::form_line;
 use crate::tag::verdict_lines::{has_wrong, put_files};
+use command_text::{Answer, Ending, beyond_limit, ending_of, fault_line, refusal, refused};
 use coswid_codec::{TagRefused, put_canonical, put_summary, read_tag};
 use coswid_res::{Verdict, Verdicts, VerifyRefused, verify};
 use coswid_tag::Tag;

@@ -4,18 +4,16 @@ ghost use Rattle.std.specs.Prelude.{◌≡◌, ◌+◌, ◌≤◌, ◌<◌, ◌^
 ghost use Rattle.pa_attrs.specs.Numbers.{HEADER};
 ghost use Rattle.swid_cli.specs.Steps.{Advances, IsStep, TakesStep};
 ghost use Rattle.swid_cli.specs.Stream.{INPUT_OCTETS, attribute_step, report_step};
-ghost use Rattle.swid_cli.specs.Text.{fault_line, refusal};
+ghost use Rattle.command_text.specs.Text.{fault_line, refusal};
 ghost use Rattle.swima_reports.specs.ReportReading.{read_report};
 ghost use Rattle.swima_reports.specs.ReportType.{IsReportType};
 ghost use Rattle.wire_base.specs.Reading.{whole};
 ghost use Rattle.wire_base.specs.Outside.{HasCause};
 ghost use Rattle.wire_base.specs.Passing.{is_fault};
 
-use crate::ending::Ending;
 use crate::mirror::first_attribute::{Front, take_front};
-use crate::mirror::lines::{mirror_text, point_and_count, skipped_line, took_line};
 use crate::mirror::supported::carries_report;
-use crate::refusal_lines::{fault_line, refusal};
+use command_text::{Ending, fault_line, mirror_text, point_and_count, refusal, skipped_line, took_line};
 use pa_attrs::{Attr, HEADER_OCTETS, INVALID_PARAMETER};
 use std::alloc::Global;
 use swima_reports::read_report;

@@ -7,7 +7,9 @@ use Rattle.swid_cli.proofs.TagTelling.{tag_fault, tag_said, tag_sound}
 use Rattle.swid_cli.proofs.Telling.{ran_prints, ran_prints_front}
 use Rattle.swid_cli.specs.declared.command.Command.TheVariants as command
 use Rattle.swid_cli.specs.Links.{LIST_OCTETS, LinksTells}
+use Rattle.session_script.specs.Replay.{SCRIPT_OCTETS, ReplayTells}
 use Rattle.swid_cli.specs.Tagging.{TAG_OCTETS}
+use Rattle.swid_cli.proofs.ReplayTelling.{replay_sound}
 use Rattle.swid_cli.proofs.run.run_plain.Goals as goal
 
 pub returns-in-None-clause-usage_text : goal.returns-in-None-clause-usage_text
@@ -70,3 +72,18 @@ pub returns-in-Some-Links-clause-reads : goal.returns-in-Some-Links-clause-reads
 returns-in-Some-Links-clause-reads g c = λ usage.
     words_read _ command.Links (rw c.in-Some-Links.field-0-is at c.in-Some-Links.ensures.said) _ c.links.result c.status-in-Some-Links.result c.status-in-Some-Links.ensures.status _ _
     (no_reads _ c.links.result _ _ refl)
+
+pub returns-in-Some-Replay-clause-printed : goal.returns-in-Some-Replay-clause-printed
+returns-in-Some-Replay-clause-printed g c = λ usage fault memory.
+    words_print _ _ command.Replay (rw c.in-Some-Replay.field-0-is at c.in-Some-Replay.ensures.said) _ _ _ _ c.status-in-Some-Replay.result
+    (ran_prints SCRIPT_OCTETS ReplayTells replay_sound _ _ _ _ c.replay.result c.status-in-Some-Replay.result c.status-in-Some-Replay.ensures.status fault memory c.replay.ensures.printed)
+
+pub returns-in-Some-Replay-clause-front : goal.returns-in-Some-Replay-clause-front
+returns-in-Some-Replay-clause-front g c = λ usage.
+    words_begin _ _ command.Replay (rw c.in-Some-Replay.field-0-is at c.in-Some-Replay.ensures.said) SCRIPT_OCTETS ReplayTells (λ octets printed told. told) _ _ _
+    (ran_prints_front SCRIPT_OCTETS ReplayTells _ _ _ _ c.replay.result c.replay.ensures.printed)
+
+pub returns-in-Some-Replay-clause-reads : goal.returns-in-Some-Replay-clause-reads
+returns-in-Some-Replay-clause-reads g c = λ usage.
+    words_read _ command.Replay (rw c.in-Some-Replay.field-0-is at c.in-Some-Replay.ensures.said) _ c.replay.result c.status-in-Some-Replay.result c.status-in-Some-Replay.ensures.status _ _
+    (no_reads _ c.replay.result _ _ refl)

@@ -1,8 +1,8 @@
 use Rattle.std.proofs.Common.{Err, refl, ap, ◌∙◌}
 use Rattle.wire_base.specs.declared.outside.stopped.Stopped.{Stopped}
 use Rattle.std.proofs.lemmas.Result.{err_from_is_err_and}
-use Rattle.swid_cli.specs.declared.answer.Answer.{Answer}
-use Rattle.swid_cli.specs.declared.ending.Ending.{Ending}
+use Rattle.command_text.specs.declared.answer.Answer.{Answer}
+use Rattle.command_text.specs.declared.ending.Ending.{Ending}
 use Rattle.swid_cli.specs.Tagging.{TAG_OCTETS}
 use Rattle.swid_cli.proofs.TagReading.{ended_so, input_reads, input_unread, stopped_behind, stopped_so}
 use Rattle.swid_cli.proofs.TagTelling.{stopped_by_files, tag_wide}

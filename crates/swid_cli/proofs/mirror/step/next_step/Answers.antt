@@ -1,7 +1,7 @@
 use Rattle.std.proofs.Common.{[], ◌+◌}
 use Rattle.std.specs.Prelude.{codes}
 use Rattle.swid_cli.specs.Stream.{INPUT_OCTETS}
-use Rattle.swid_cli.specs.Text.{fault_line, refusal}
+use Rattle.command_text.specs.Text.{fault_line, refusal}
 use Rattle.swid_cli.proofs.Stepping.{first_step, ended, was_refused}
 use Rattle.swid_cli.proofs.mirror.step.next_step.Goals as goal
 

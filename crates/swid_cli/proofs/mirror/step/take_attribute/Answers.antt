@@ -6,7 +6,7 @@ use Rattle.swima_reports.specs.ReportReading.{read_report}
 use Rattle.swid_cli.specs.Front.{carries_report}
 use Rattle.swid_cli.specs.Steps.{IsStep}
 use Rattle.swid_cli.specs.Stream.{Goes, report_step}
-use Rattle.swid_cli.specs.Text.{skipped_line}
+use Rattle.command_text.specs.Text.{skipped_line}
 use Rattle.swid_cli.proofs.mirror.step.take_attribute.Goals as goal
 
 pub returns-clause-step : goal.returns-clause-step

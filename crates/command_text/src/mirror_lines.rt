@@ -1,0 +1,170 @@
+//! What a mirror answered to a report, and what it holds.
+
+ghost use Rattle.std.specs.Prelude.{◌≡◌, ◌≢◌, ◌∷◌, ◌++◌, [], IfOk, OnOk, string_bytes};
+ghost use Rattle.std.specs.List.{flat_map};
+ghost use Rattle.std.specs.Fmt.{decimal};
+ghost use Rattle.swima_model.specs.declared.report.Kind.TheVariants as kinds;
+ghost use Rattle.validator_core.specs.declared.mirror.Taken.{Taken as TakenValue};
+ghost use Rattle.command_text.specs.Text.{body_text, content_words, line, mirror_text, model_text, record_line, skipped_line, took, took_line};
+
+use crate::refusal_lines::from_string;
+use itoa::Buffer;
+use sha2::{Digest, Sha256};
+use std::alloc::Global;
+use swima_model::{Content, Kind, Model, Point, Record, Report};
+use validator_core::{Mirror, Taken};
+use wire_base::{Memory, Octets, put_escaped};
+
+/// The point of a report, and how many records or events it has.
+pub fn point_and_count(report: &Report) -> (Point, usize)
+    ensures told { (answer : TakenValue) → took result.0 result.1 answer ≡ took_line report.now answer }
+{
+    match report {
+        Report::Inventory { point, records, .. } => (*point, records.len()),
+        Report::Events { point, events, .. } => (*point, events.len()),
+    }
+}
+
+/// The line that says what a mirror answered to a report of that many records or events at a point;
+/// `Memory` has none.
+pub fn took_line(
+    alloc: Global,
+    point: Point,
+    count: usize,
+    taken: Taken,
+) -> Result<Octets, Memory>
+    ensures line { IfOk result (λ made. made ≡ took point count taken) }
+    ensures answered { OnOk result (taken ≢ Taken.Memory) }
+{
+    match taken {
+        Taken::WrongKind => Ok(from_string(format!(in alloc; "took wrong-kind\n")?)),
+        Taken::Stale => Ok(from_string(format!(in alloc; "took stale\n")?)),
+        Taken::Doubled { id } => Ok(from_string(format!(in alloc; "took doubled {id}\n")?)),
+        Taken::Large { count, octets } => {
+            Ok(from_string(format!(in alloc; "took large {count} {octets}\n")?))
+        }
+        Taken::Adopted => {
+            let epoch = point.epoch;
+            let eid = point.eid;
+            Ok(from_string(format!(in alloc; "took adopted {epoch} {eid} {count}\n")?))
+        }
+        Taken::OtherEpoch { have, got } => other_epoch(alloc, have, got),
+        Taken::Gap { have, got } => Ok(from_string(format!(in alloc; "took gap {have} {got}\n")?)),
+        Taken::Contradiction { eid } => {
+            Ok(from_string(format!(in alloc; "took contradiction {eid}\n")?))
+        }
+        Taken::Advanced { from, to } => {
+            Ok(from_string(format!(in alloc; "took advanced {from} {to}\n")?))
+        }
+        Taken::Memory => Err(Memory),
+    }
+}
+
+fn other_epoch(alloc: Global, have: Option<u32>, got: u32) -> Result<Octets, Memory>
+    ensures line { IfOk result (λ made.
+        made ≡ took (record { epoch = 0; eid = 0 }) 0 (Taken.OtherEpoch have got)) }
+{
+    match have {
+        None => Ok(from_string(format!(in alloc; "took other-epoch none {got}\n")?)),
+        Some(have) => Ok(from_string(format!(in alloc; "took other-epoch {have} {got}\n")?)),
+    }
+}
+
+/// The line of an attribute that was skipped.
+pub fn skipped_line(alloc: Global, vendor: u32, attr_type: u32) -> Result<Octets, Memory>
+    ensures line { IfOk result (λ made. made ≡ skipped_line vendor attr_type) }
+{
+    Ok(from_string(format!(in alloc; "skipped {vendor} {attr_type}\n")?))
+}
+
+/// What a mirror holds: its point and how many records, and a line for each record.
+pub fn mirror_text(alloc: Global, mirror: &Mirror) -> Result<Octets, Memory>
+    ensures text { IfOk result (λ made. made ≡ mirror_text mirror.now) }
+{
+    let Some(point) = mirror.point() else {
+        return Ok(from_string(format!(in alloc; "mirror none\n")?));
+    };
+    let epoch = point.epoch;
+    let eid = point.eid;
+    let count = mirror.count();
+    let mut out = from_string(format!(in alloc; "mirror {epoch} {eid} {count}\n")?);
+    put_records(&mut out, mirror)?;
+    Ok(out)
+}
+
+/// Puts a line for each record of a mirror at the end of `out`.
+fn put_records(out: &mut Octets, mirror: &Mirror) -> Result<(), Memory>
+    ensures appended { OnOk result
+        (out.new ≡ out.old ++ flat_map (record_line mirror.now.kind) mirror.now.records) }
+{
+    for place in 0..mirror.count() {
+        if let Some(record) = mirror.record_at(place) {
+            put_record(out, mirror.kind(), record)?;
+        }
+    }
+    Ok(())
+}
+
+#[tactic(auto, unfolding(crate::specs::Text::record_line))]
+fn put_record(out: &mut Octets, kind: Kind, added: &Record) -> Result<(), Memory>
+    ensures appended { OnOk result (out.new ≡ out.old ++ record_line kind added.now) }
+{
+    out.extend(b"record ")?;
+    put_number(out, added.id as u64)?;
+    out.push(b' ')?;
+    put_model(out, added.content.model)?;
+    out.push(b' ')?;
+    put_content(out, kind, &added.content)
+}
+
+/// Puts the end of a record's line at the end of `out`: the words after that of its data model.
+fn put_content(out: &mut Octets, kind: Kind, added: &Content) -> Result<(), Memory>
+    ensures appended { OnOk result (out.new ≡ out.old ++ line (content_words kind added.now)) }
+{
+    put_number(out, added.source as u64)?;
+    out.push(b' ')?;
+    put_escaped(out, added.ident.bytes())?;
+    out.push(b' ')?;
+    put_escaped(out, added.locator.bytes())?;
+    put_body(out, kind, added.body.bytes())
+}
+
+fn put_model(out: &mut Octets, model: Model) -> Result<(), Memory>
+    ensures appended { OnOk result (out.new ≡ out.old ++ model_text model) }
+{
+    put_number(out, model.pen as u64)?;
+    out.push(b'/')?;
+    put_number(out, model.kind as u64)
+}
+
+/// Puts the last word of a record's line at the end of `out`, with the space before it and the line
+/// feed after it.
+fn put_body(out: &mut Octets, kind: Kind, body: &[u8]) -> Result<(), Memory>
+    ensures appended { OnOk result (out.new ≡ out.old ++ 32 ∷ (body_text kind body.now ++ 10 ∷ [])) }
+{
+    match kind {
+        Kind::Ids => out.extend(b" -\n"),
+        Kind::Full => put_digest(out, body),
+    }
+}
+
+/// Puts the length and the digest of a body at the end of `out`, with the space before them and the
+/// line feed after.
+fn put_digest(out: &mut Octets, body: &[u8]) -> Result<(), Memory>
+    ensures appended { OnOk result (out.new ≡ out.old ++ 32 ∷ (body_text kinds.Full body.now ++ 10 ∷ [])) }
+{
+    let mut digest = [0u8; 64];
+    hex::encode_to_slice(Sha256::digest(body), &mut digest).unwrap();
+    out.push(b' ')?;
+    put_number(out, body.len() as u64)?;
+    out.push(b':')?;
+    out.extend(&digest)?;
+    out.push(b'\n')
+}
+
+fn put_number(out: &mut Octets, number: u64) -> Result<(), Memory>
+    ensures appended { OnOk result (out.new ≡ out.old ++ decimal number) }
+{
+    let mut buffer = Buffer::new();
+    out.extend(buffer.format(number).as_bytes())
+}

@@ -1,0 +1,4 @@
+pub mod Wording
+pub mod Scripting
+pub mod ReplayTelling
+pub mod Playings

@@ -1,0 +1,26 @@
+//! Scripts of both ends of sessions, over an inventory that changes: what is printed when one is
+//! played.
+//!
+//! It stands on `session_world` for the world that a script changes, on `session_rules` and
+//! `collector_core` for what is printed of ends and refusals, on `command_text` for the lines of
+//! mirrors, and on `validator_core`, `swima_model`, `wire_base` and `hex`. The command `replay` rests
+//! on this clause of `replay_answer`:
+//!
+//! - `told`: what is printed, and how it ends, is what `ReplayTells` says of all octets of the input.
+//!
+//! | file | what it holds | its words in `specs/` |
+//! |---|---|---|
+//! | `script.rt` | a script, line by line | `Replay` |
+//! | `words.rt`, `header.rt`, `line.rt` | lines and words, the first line, and those after it | `Script` |
+//! | `playing.rt` | a script that is being played | `Played` |
+//! | `texts.rt` | the lines that are printed | `Replay` |
+#![tactic(auto)]
+
+mod header;
+mod line;
+mod playing;
+mod script;
+mod texts;
+mod words;
+
+pub use script::{MOST_SCRIPT_OCTETS, replay_answer};
