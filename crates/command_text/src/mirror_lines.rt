@@ -27,12 +27,7 @@ pub fn point_and_count(report: &Report) -> (Point, usize)
 
 /// The line that says what a mirror answered to a report of that many records or events at a point;
 /// `Memory` has none.
-pub fn took_line(
-    alloc: Global,
-    point: Point,
-    count: usize,
-    taken: Taken,
-) -> Result<Octets, Memory>
+pub fn took_line(alloc: Global, point: Point, count: usize, taken: Taken) -> Result<Octets, Memory>
     ensures line { IfOk result (λ made. made ≡ took point count taken) }
     ensures answered { OnOk result (taken ≢ Taken.Memory) }
 {

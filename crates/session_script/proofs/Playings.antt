@@ -63,7 +63,7 @@ entered said stamp change before after mid (Ok text) acts same stamped changes i
 entered said stamp change before after mid (Err memory) acts same stamped changes is counted = tt
 
 module _ (stamp : List ℕ) (before after : PlayingView) (mid : WorldView) (result : Result (List ℕ) Memory) (same : mid ≡ before.world) (stamped : IsStampAt (before.changes + 1) (Ok stamp))
-  (counted : after.changes ≡ before.changes + 1) where
+    (counted : after.changes ≡ before.changes + 1) where
   pub created : (content : Content) (moment : Bor (List ℕ)) (given : Bor Content) → IfOk result (λ (text : List ℕ). Acts (enters (edit.Create moment given)) mid after.world text)
       → moment.now ≡ stamp → given.now ≡ content → IfOk result (λ (text : List ℕ). (p : Playing) → StandsFor before p → PlaysSo p (line.Create content) text after)
   created content moment given acts one two = entered (line.Create content) stamp (edit.Create moment given) before after mid result acts same stamped (one, two) (λ p is. is) counted

@@ -54,7 +54,11 @@ fn header_of(words: &[&[u8]]) -> Option<Header>
 fn named(name: &[u8], header: Option<Header>) -> Option<Header>
     ensures named { result ≡ named name.now header }
 {
-    if is_word(name, "replay") { header } else { None }
+    if is_word(name, "replay") {
+        header
+    } else {
+        None
+    }
 }
 
 /// All of them, where all are there.

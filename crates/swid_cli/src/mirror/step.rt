@@ -13,7 +13,9 @@ ghost use Rattle.wire_base.specs.Passing.{is_fault};
 
 use crate::mirror::first_attribute::{Front, take_front};
 use crate::mirror::supported::carries_report;
-use command_text::{Ending, fault_line, mirror_text, point_and_count, refusal, skipped_line, took_line};
+use command_text::{
+    Ending, fault_line, mirror_text, point_and_count, refusal, skipped_line, took_line,
+};
 use pa_attrs::{Attr, HEADER_OCTETS, INVALID_PARAMETER};
 use std::alloc::Global;
 use swima_reports::read_report;

@@ -25,7 +25,7 @@ returns-then-not-is_line c =
           (λ p stands.
           let reached = c.loop-number.invariant.reached p stands in
           let none = subst (λ (b : Bool). PlaysOne reached.p c.in-Some.line.now c.loop-number.out b c.play_line.new.playing c.play_line.new.out) c.if-not-is_line.true
-              (c.in_ok-is_line.ensures.plays reached.p reached.stands) in
+          (c.in_ok-is_line.ensures.plays reached.p reached.stands) in
           subst (λ (text : List ℕ). Plays 99999 2 c.args.goes_on p c.args.octets.now (after_text text (bad number))) (sym none.1)
           (reached_bad c.args.goes_on p c.args.octets.now c.loop-number.playing _ _ number c.loop-number.rest.now c.loop-number.out one reached c.in-Some.line.now c.in-Some.after.now c.in-Some.ensures.parts none.0));
     }
