@@ -2,7 +2,7 @@
 //!
 //! It stands on `source_set` for sources, on `coswid_codec` and `coswid_tag` for tags, on
 //! `cbor_det` for the words of their clauses, on `swima_model` for contents, on `wire_base`, and on
-//! `hex` and `memchr`.
+//! `hex` and `memchr`. The crates above rest on the clauses of `LineSource::next`.
 //!
 //! | file | what it holds |
 //! |---|---|

@@ -20,9 +20,6 @@ pub record Place (D : Type 0) : Type 0 where
   pub desk : D
   pub swept : Swept
 
-abbrev pub place : {D : Type 0} → List Held → D → Swept → Place D
-place keys desk swept = record { keys = keys; desk = desk; swept = swept }
-
 -- ---- when an item is refused
 
 -- It is of no key that is held.

@@ -4,7 +4,7 @@ ghost use Rattle.std.specs.Prelude.{◌≡◌, None, Some, true};
 ghost use Rattle.wire_base.specs.Stamp.{IsStamp};
 ghost use Rattle.collector_core.specs.Desks.{alters_not, deletes_not};
 ghost use Rattle.source_set.specs.Deeds.{Alters, Deletes};
-ghost use Rattle.source_set.specs.Doing.{CreatesOne, Once, Performs, place};
+ghost use Rattle.source_set.specs.Doing.{CreatesOne, Once, Performs};
 ghost use Rattle.source_set.specs.Keys.{id_at};
 ghost use Rattle.source_set.specs.declared.told.Told.TheVariants as told;
 
@@ -39,7 +39,8 @@ pub fn perform<D: Desk>(
     requires takes { D.takes desk.old ≡ true }
     requires stamp { IsStamp stamp.now }
     ensures performed { Performs D.stands D.went stamp.now item.now
-        (place keys.old desk.old swept.old) (place keys.new desk.new swept.new) result }
+        (record { keys = keys.old; desk = desk.old; swept = swept.old })
+        (record { keys = keys.new; desk = desk.new; swept = swept.new }) result }
     ensures takes { D.takes desk.new ≡ true }
 {
     match item {
@@ -77,7 +78,8 @@ fn add<D: Desk>(
     requires stamp { IsStamp stamp.now }
     requires absent { id_at key keys.old ≡ None }
     ensures added { Performs D.stands D.went stamp.now (told.Add key content.now)
-        (place keys.old desk.old swept.old) (place keys.new desk.new swept.new) result }
+        (record { keys = keys.old; desk = desk.old; swept = swept.old })
+        (record { keys = keys.new; desk = desk.new; swept = swept.new }) result }
     ensures takes { D.takes desk.new ≡ true }
 {
     match keys.hold(key) {
@@ -170,7 +172,8 @@ fn remove<D: Desk>(
     requires stamp { IsStamp stamp.now }
     requires held { id_at key keys.old ≡ Some id }
     ensures removed { Performs D.stands D.went stamp.now (told.Gone key)
-        (place keys.old desk.old swept.old) (place keys.new desk.new swept.new) result }
+        (record { keys = keys.old; desk = desk.old; swept = swept.old })
+        (record { keys = keys.new; desk = desk.new; swept = swept.new }) result }
     ensures takes { D.takes desk.new ≡ true }
 {
     match delete(desk, stamp, id, swept) {
@@ -193,7 +196,8 @@ fn remove_all<D: Desk>(
     requires takes { D.takes desk.old ≡ true }
     requires stamp { IsStamp stamp.now }
     ensures removed { Performs D.stands D.went stamp.now told.Ended
-        (place keys.old desk.old swept.old) (place keys.new desk.new swept.new) result }
+        (record { keys = keys.old; desk = desk.old; swept = swept.old })
+        (record { keys = keys.new; desk = desk.new; swept = swept.new }) result }
     ensures takes { D.takes desk.new ≡ true }
 {
     let Ok(order) = keys.by_id(alloc) else {

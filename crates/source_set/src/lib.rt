@@ -2,7 +2,8 @@
 //! keys of its own, and the set that takes them to a desk, one sweep after another.
 //!
 //! It stands on `collector_core` for desks, on `swima_model` for contents, on `wire_base`, and on
-//! `thiserror` for the texts of errors.
+//! `thiserror` for the texts of errors. The crates above rest on the clause `swept` of
+//! `Sources::sweep`, and on those of `TagSource::next`.
 //!
 //! | file | what it holds |
 //! |---|---|
