@@ -9,7 +9,7 @@ use swima_model::{Body, Content, Ident, Locator, Model};
 use wire_base::{Memory, is_stamp};
 
 /// How many events the book keeps.
-const KEPT: u32 = 4096;
+const KEPT: usize = 4096;
 
 /// The body of each item: with its identifier of 16 octets an item has 400.
 const BODY: [u8; 384] = [0; 384];
