@@ -43,6 +43,7 @@ the words are none of these:
   bench sessions update RECORDS EVENTS TIMES
   bench sessions looks RECORDS TIMES
   bench batches SIZE large|small
+  bench sources ITEMS CHANGES QUIET
   bench cbor read|write
   bench cbor feed SIZE
   bench links read|check

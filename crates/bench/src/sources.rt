@@ -1,0 +1,96 @@
+//! Sweeps over one source in a box.
+
+use crate::book::STAMP;
+use crate::trouble::Trouble;
+use collector_core::Book;
+use source_set::{SourceSet, TagSource, Told};
+use std::alloc::Global;
+use swima_model::{Body, Content, Ident, Locator, Model};
+use wire_base::{Memory, is_stamp};
+
+/// How many events the book keeps.
+const KEPT: usize = 4096;
+
+/// The body of each item: with its identifier of 16 octets an item has 400.
+const BODY: [u8; 384] = [0; 384];
+
+/// A source that adds keys from 0 on, then changes every tenth of them, and is quiet after that.
+#[derive(Drop)]
+struct Counted {
+    alloc: Global,
+    adds: u32,
+    changes: u32,
+    next: u32,
+}
+
+impl TagSource for Counted {
+    ghost reports = { λ source items. ⊥ };
+
+    ghost faults = { λ source. 0 };
+
+    fn next(&mut self) -> Told {
+        let Ok(content) = content(self.alloc) else {
+            return Told::Memory;
+        };
+        let key = self.next;
+        if key < self.adds {
+            self.next = key.saturating_add(1);
+            return Told::Add { key, content };
+        }
+        let change = key - self.adds;
+        if change < self.changes {
+            self.next = key.saturating_add(1);
+            return Told::Change {
+                key: change.saturating_mul(10),
+                content,
+            };
+        }
+        Told::Quiet
+    }
+}
+
+/// What each item says.
+fn content(alloc: Global) -> Result<Content, Memory> {
+    Ok(Content {
+        model: Model { pen: 0, kind: 2 },
+        source: 0,
+        ident: Ident::new(alloc, b"example.org__abc").map_err(|_| Memory)?,
+        locator: Locator::empty(alloc),
+        body: Body::new(alloc, &BODY).map_err(|_| Memory)?,
+    })
+}
+
+/// Sweeps that add that many items and change that many, and then that many quiet ones. It gives the
+/// number of items that were done.
+pub(crate) fn swept(alloc: Global, adds: u32, changes: u32, quiet: u32) -> Result<u64, Trouble> {
+    let mut boxes: Vec<Box<dyn TagSource + Send>> = Vec::new(alloc);
+    boxes.push(Box::new(
+        alloc,
+        Counted {
+            alloc,
+            adds,
+            changes,
+            next: 0,
+        },
+    )?)?;
+    let mut set = SourceSet::new(alloc, boxes)?;
+    let mut book = Book::new(alloc, 1, KEPT, &[])?;
+    let sweeps = (adds / 1024).saturating_add(changes / 1024).saturating_add(2);
+    let mut done: u64 = 0;
+    for _ in 0..sweeps.saturating_add(quiet) {
+        done = done.saturating_add(once(&mut set, &mut book)?);
+    }
+    Ok(done)
+}
+
+/// One sweep. It gives the number of items that were done.
+fn once(set: &mut SourceSet, book: &mut Book) -> Result<u64, Trouble> {
+    if !is_stamp(&STAMP) {
+        return Err(Trouble::Book);
+    }
+    let (swept, result) = set.sweep(book, &STAMP);
+    match result {
+        Ok(()) => Ok(u64::from(swept.added) + u64::from(swept.changed)),
+        Err(_) => Err(Trouble::Book),
+    }
+}
