@@ -75,7 +75,9 @@ pub(crate) fn swept(alloc: Global, adds: u32, changes: u32, quiet: u32) -> Resul
     )?)?;
     let mut set = SourceSet::new(alloc, boxes)?;
     let mut book = Book::new(alloc, 1, KEPT, &[])?;
-    let sweeps = (adds / 1024).saturating_add(changes / 1024).saturating_add(2);
+    let sweeps = (adds / 1024)
+        .saturating_add(changes / 1024)
+        .saturating_add(2);
     let mut done: u64 = 0;
     for _ in 0..sweeps.saturating_add(quiet) {
         done = done.saturating_add(once(&mut set, &mut book)?);
