@@ -10,8 +10,8 @@
 //! - `sessions alone RECORDS`: the same report, without a session;
 //! - `sessions update RECORDS EVENTS TIMES`: that many sessions more, each after that many events;
 //! - `sessions looks RECORDS TIMES`: that many idle turns of a collector with 16 subscriptions;
-//! - `sources ITEMS CHANGES QUIET`: sweeps over a source of that many items, then of that many changes,
-//!   and then that many quiet ones;
+//! - `sources ITEMS CHANGES QUIET`: sweeps over a source of that many items, then of that many
+//!   changes, and then that many quiet ones;
 //! - `cbor read`, `cbor write`, `cbor feed SIZE`: the items on standard input, one after another;
 //! - `links read`, `links check`: the tags on standard input as a list, and the findings on it;
 //! - `tags read`, `tags write`, `tags both`: the tags on standard input, one after another.
@@ -19,8 +19,8 @@
 //! Where nothing is printed, standard error has the reason.
 //!
 //! It stands on `collector_session`, `validator_session` and `session_rules`, on `source_set`,
-//! `book_lock`, `collector_core`, `validator_core`, `swima_request` and `swima_model`, on `pb_batch`, on
-//! `coswid_links`, `coswid_codec`, `coswid_tag` and `cbor_det`, and on `wire_base`.
+//! `book_lock`, `collector_core`, `validator_core`, `swima_request` and `swima_model`, on
+//! `pb_batch`, on `coswid_links`, `coswid_codec`, `coswid_tag` and `cbor_det`, and on `wire_base`.
 #![tactic(auto)]
 
 mod batches;
