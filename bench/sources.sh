@@ -64,5 +64,5 @@ done | awk -F '\t' -v runs="$runs" '
     {
         one = ($5 - $4) / $3
         if ($1 == 1000) few[$2] = one
-        printf "%8s %-7s %10.3f %8.2f\n", $1, $2, one, few[$2] > 0 ? one / few[$2] : 0
+        printf "%8s %-7s %10.3f %8.2f\n", $1, $2, one, (few[$2] > 0 ? one / few[$2] : 0)
     }'
