@@ -63,7 +63,8 @@ pub fn places_follow_reports()
     ensures law { PlacesFollowReports }
 {}
 
-/// A report of events goes on from a place of its epoch with all that match, none skipped or doubled.
+/// A report of events goes on from a place of its epoch with all that match, none skipped or
+/// doubled.
 pub fn reports_go_on()
     ensures law { ReportsGoOn }
 {}
@@ -148,8 +149,9 @@ pub fn subscriptions_are_listed()
     ensures law { SubscriptionsAreListed }
 {}
 
-/// A subscription waits for the next batch where its report has no room beside others, or where the
-/// answers are as many messages as a batch may have. It ends where its report is too large by itself.
+/// A subscription waits for the next batch where its report has no room beside others, or where
+/// the answers are as many messages as a batch may have. It ends where its report is too large by
+/// itself.
 pub fn subscription_waits()
     ensures law { SubscriptionWaits }
 {}
