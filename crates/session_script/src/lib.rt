@@ -3,8 +3,8 @@
 //!
 //! It stands on `session_world` for the world that a script changes, on `session_rules` and
 //! `collector_core` for what is printed of ends and refusals, on `command_text` for the lines of
-//! mirrors, on `line_words` for the values of words, and on `validator_core`, `swima_model` and
-//! `wire_base`. The command `replay` rests on this clause of `replay_answer`:
+//! mirrors, on `line_words` for the values of words, and on `validator_core`, `swima_model`,
+//! `wire_base` and `hex`. The command `replay` rests on this clause of `replay_answer`:
 //!
 //! - `told`: what is printed, and how it ends, is what `ReplayTells` says of all octets of the input.
 //!
