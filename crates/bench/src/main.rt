@@ -5,7 +5,7 @@
 //! - `batches SIZE large`, `batches SIZE small`: a feed of one batch of 16 MiB, or of batches of 8
 //!   octets, in pieces of that many octets;
 //! - `shelf alone TASK TIMES`, `shelf THREADS TASK TIMES`: a book alone, or on a shelf in 1, 2 or 4
-//!   threads; the tasks are `change`, `read` and `both`;
+//!   threads; the tasks are `change`, `read` and `both`, and on a shelf `events`;
 //! - `sessions first RECORDS SIZE`: the first session over a book, in pieces of that many octets;
 //! - `sessions alone RECORDS`: the same report, without a session;
 //! - `sessions update RECORDS EVENTS TIMES`: that many sessions more, each after that many events;

@@ -40,6 +40,7 @@ the words are none of these:
   bench book RECORDS answer|targets|events|change|rename TIMES
   bench book RECORDS first|middle|last|delete TIMES
   bench shelf alone|1|2|4 change|read|both TIMES
+  bench shelf 1|2|4 events TIMES
   bench sessions first RECORDS SIZE
   bench sessions alone RECORDS
   bench sessions update RECORDS EVENTS TIMES
