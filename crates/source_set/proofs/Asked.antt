@@ -1,6 +1,5 @@
 -- A source is asked for one item more.
 use Rattle.std.proofs.Common.{◌≡◌, inl, inr, ℕ, ◌+◌, ◌<◌, arith, length, length-append, Bool, true, false, Result, Ok, Err, List, [], ◌∷◌, ◌++◌, Option, None, Some, refl, sym, ap, ◌∙◌, subst, append_assoc}
-use Rattle.std.specs.Prelude.{map}
 use Rattle.std.proofs.lemmas.List.{append-nil, map-append}
 use Rattle.std.proofs.lemmas.Option.{none-some}
 use Rattle.collector_core.specs.declared.chronicle.Mark.{Mark}
