@@ -16,9 +16,9 @@ module _ (found : List (Bor (List ℕ))) (left all : List (List ℕ)) (so_far : 
   -- No word is left.
   pub no_more : left ≡ [] → length found ≤ 7 → texts found ≡ take 7 all
   no_more none few =
-      sym (take_all 7 (texts found) (omega (arith, length-map (λ (w : Bor (List ℕ)). w.now) found, few)))
+      sym (take_all 7 (texts found) (omega (arith, length-map found (λ (w : Bor (List ℕ)). w.now), few)))
       ∙ ap (λ (ws : List (List ℕ)). take 7 ws) (sym (append-nil (texts found)) ∙ ap (λ (ws : List (List ℕ)). texts found ++ ws) (sym none) ∙ so_far)
 
   -- Seven words were put.
   pub seven_put : length found ≡ 7 → texts found ≡ take 7 all
-  seven_put seven = sym (take_at (texts found) left 7 (length-map (λ (w : Bor (List ℕ)). w.now) found ∙ seven)) ∙ ap (λ (ws : List (List ℕ)). take 7 ws) so_far
+  seven_put seven = sym (take_at (texts found) left 7 (length-map found (λ (w : Bor (List ℕ)). w.now) ∙ seven)) ∙ ap (λ (ws : List (List ℕ)). take 7 ws) so_far

@@ -93,10 +93,10 @@ numbered name (Some number) = with_number name number
 
 -- The content of a record, by the text of its identifier and the digits of its body: a CoSWID tag
 -- without a locator, of source 0.
-pub record IsContent (ident digits : List ℕ) (content : Content) : Type 0 where
+pub record IsContent (text digits : List ℕ) (content : Content) : Type 0 where
   pub model : content.model ≡ record { pen = 0; kind = 2 }
   pub source : content.source ≡ 0
-  pub ident : IsText 65535 ident content.ident
+  pub ident : IsText 65535 text content.ident
   pub locator : content.locator ≡ []
   pub octets : List ℕ
   pub hex : IsHex digits octets

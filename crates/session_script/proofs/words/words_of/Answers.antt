@@ -1,6 +1,5 @@
 -- The words so far, and those that are left, are those of the line.
-use Rattle.std.proofs.Common.{◌≡◌, ◌++◌, ◌∙◌, ap, arith, length, length-append}
-use Rattle.line_words.specs.Words.{words}
+use Rattle.std.proofs.Common.{◌++◌, ◌∙◌, [], ◌∷◌, ap, arith, length, length-append}
 use Rattle.session_script.proofs.Wording.{no_more, seven_put, texts, word_put}
 use Rattle.session_script.proofs.words.words_of.Goals as goal
 
