@@ -6,3 +6,7 @@ pub mod Meaning
 pub mod Wanted
 pub mod Running
 pub mod Placing
+pub mod Coming
+pub mod PutRuns
+pub mod DraftRuns
+pub mod SessionRuns
