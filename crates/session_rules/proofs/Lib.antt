@@ -1,6 +1,7 @@
 pub mod WorkedSessions
 pub mod Desking
 pub mod Ends
+pub mod Kept
 pub mod AnySession
 pub mod Meaning
 pub mod Wanted
