@@ -1,5 +1,5 @@
 -- A mirror stays right in every session.
-use Rattle.std.proofs.Common.{◌≡◌, ℕ, ◌+◌, ◌==◌, Bool, true, false, cond, not, nat_le, nat_lt, length, List, [], ◌∷◌, ◌++◌, Option, Some, None, refl, sym, ap, subst, ◌∙◌}
+use Rattle.std.proofs.Common.{◌≡◌, ℕ, ◌==◌, Bool, true, false, cond, not, nat_le, length, List, [], Option, Some, None, refl, sym, ap, subst, ◌∙◌}
 use Rattle.swima_model.specs.declared.record.Record.{Record}
 use Rattle.swima_model.specs.declared.event.Event.{Event}
 use Rattle.swima_model.specs.declared.report.Kind.{Kind}
@@ -11,13 +11,6 @@ use Rattle.swima_model.specs.History.{History, IsHonest, Answers}
 use Rattle.swima_model.specs.Doubled.{doubled}
 use Rattle.swima_model.specs.InOrder.{ids, in_order}
 use Rattle.swima_model.specs.Size.{are_large, records_octets}
-use Rattle.pb_batch.specs.declared.batch.Batch.{Batch}
-use Rattle.pb_batch.specs.declared.batch.Message.{Message}
-use Rattle.pb_batch.specs.declared.kind.BatchKind.{BatchKind}
-use Rattle.pb_batch.specs.declared.kind.BatchKind.TheVariants as kinds
-use Rattle.pb_machine.specs.declared.machine.State.{State}
-use Rattle.pb_machine.specs.declared.machine.State.TheVariants.{Init, ServerWorking, ClientWorking, Decided, End}
-use Rattle.pb_machine.specs.Table.{received}
 use Rattle.validator_core.specs.declared.mirror.Taken.{Taken}
 use Rattle.validator_core.specs.declared.mirror.Taken.TheVariants as taken
 use Rattle.validator_core.specs.Held.{Held}
@@ -25,26 +18,13 @@ use Rattle.validator_core.specs.Judge.{judge, judge_records, judge_above, judge_
 use Rattle.validator_core.specs.Following.{events_above, gap, first_misfit}
 use Rattle.validator_core.specs.Right.{IsRight}
 use Rattle.validator_core.proofs.Righting.{judged_right}
-use Rattle.session_talk.specs.Talk.{Talk, Done, Note}
 use Rattle.session_talk.specs.Keeping.{BreaksWith, Keeps}
 use Rattle.session_talk.proofs.Keeping.{breaks_with, keeps_breaks, keeps_gives}
-use Rattle.session_hear.specs.Step.{Step, Came, Faulty, Quiet, Spent, Cut}
-use Rattle.session_hear.specs.Hearing.{heard}
-use Rattle.session_hear.specs.Serving.{serve}
 use Rattle.session_rules.specs.declared.config.FollowConfig.{FollowConfig}
-use Rattle.session_rules.specs.declared.end.SessionEnd.TheVariants as end
-use Rattle.session_rules.specs.Messages.{error_attribute, pa_message}
-use Rattle.session_rules.specs.Numbers.{next_number}
-use Rattle.session_rules.specs.Following.{Notes, Stand, Draft, begin, draft, ends, nothing_noted}
+use Rattle.session_rules.specs.Following.{Notes, Stand, nothing_noted}
 use Rattle.session_rules.specs.FollowRules as following
-use Rattle.session_rules.specs.Saying.{Said, Says, Refused, says, swima_body}
-use Rattle.session_rules.specs.declared.word.ValidatorWord.{ValidatorWord as Word}
-use Rattle.session_rules.specs.declared.word.ValidatorWord.TheVariants.{Reports, Lists, Failure}
-use Rattle.session_rules.specs.Taking.{NoQuestion, NoReply, with_mirror, takes, speaks, answers, takes_said, takes_body, takes_message, drafts, SUPPORTED, word_of}
+use Rattle.session_rules.specs.Taking.{with_mirror, answers}
 use Rattle.session_rules.specs.Transcripts.{nobody}
-use Rattle.session_rules.specs.declared.verdict.Verdict.{Verdict}
-use Rattle.session_rules.specs.declared.verdict.Verdict.TheVariants.{PassesOver, Refuses, EndsBy, GoesOn}
-use Rattle.session_rules.specs.Verdict.{verdict}
 use Rattle.wire_base.specs.Turns.{Turn}
 use Rattle.session_rules.proofs.Kept.{session_keeps}
 use Rattle.session_rules.specs.AnySession.{kind_in, NotesAnswer, StaysRightInSessions, StaysRightInParts}

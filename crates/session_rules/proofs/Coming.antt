@@ -1,5 +1,5 @@
 -- What is true where a talk ends, by what it wrote, at whatever places it asks.
-use Rattle.std.proofs.Common.{◌≡◌, ℕ, List, [], ◌∷◌, ◌++◌, sym, subst, subst₂, ap, ◌∙◌, append_assoc, append-nil}
+use Rattle.std.proofs.Common.{ℕ, List, [], ◌∷◌, ◌++◌, sym, subst, subst₂, ap, ◌∙◌, append_assoc, append-nil}
 use Rattle.session_talk.specs.Talk.{Talk, Done, Ask, Write, Note, and_then, quietly}
 use Rattle.session_talk.specs.Course.{Answers, Gives}
 

@@ -1,22 +1,20 @@
 -- What a collector puts into the batch that it writes, and where its subscriptions are placed then.
-use Rattle.std.proofs.Common.{◌≡◌, ℕ, ◌<◌, ◌≤◌, ◌^◌, ◌||◌, Bool, true, false, cond, nat_le, nat_lt, length, max, List, [], ◌∷◌, ◌++◌, Option, Some, None, take, drop, refl, sym, ap, subst, ◌∙◌, append_assoc, append-nil, arith}
+use Rattle.std.proofs.Common.{◌≡◌, ℕ, ◌<◌, ◌^◌, ◌||◌, Bool, true, false, cond, nat_le, nat_lt, length, max, List, [], ◌∷◌, ◌++◌, Option, Some, None, take, drop, refl, sym, ap, subst, ◌∙◌, append_assoc, arith}
 use Rattle.std.specs.Prelude.{◌==◌, map}
 use Rattle.std.specs.List.{AllByRecursion}
 use Rattle.std.proofs.lemmas.List.{map-append}
 use Rattle.swima_model.specs.declared.report.Point.{Point}
 use Rattle.swima_model.specs.declared.report.Report.{Report}
-use Rattle.swima_model.specs.Fulfilling.{fulfilling}
 use Rattle.swima_request.specs.declared.request.Request.{Request}
 use Rattle.swima_request.specs.StatusForm.{status_octets, written_status}
 use Rattle.swima_request.specs.AttributeTypes.{SUBSCRIPTION_STATUS_RESPONSE}
 use Rattle.swima_subs.specs.declared.sub_answer.SubAnswer.{SubAnswer}
 use Rattle.swima_subs.specs.declared.sub_answer.SubAnswer.TheVariants.{Taken, Reused, Denied, Memory}
 use Rattle.swima_subs.specs.declared.waiting.Waiting.{Waiting}
-use Rattle.swima_subs.specs.Subscriptions.{AreDifferent, AreSubs, MOST_SUBSCRIPTIONS, applied, cleared, ended, established, has_id, is_held, new_waiting, next_request, reported, status}
+use Rattle.swima_subs.specs.Subscriptions.{AreDifferent, AreSubs, MOST_SUBSCRIPTIONS, applied, cleared, ended, is_held, new_waiting, next_request, reported, status}
 use Rattle.swima_subs.proofs.Keeping.{subs_stay}
 use Rattle.pa_attrs.specs.declared.attr.Attr.{Attr}
 use Rattle.pa_attrs.specs.declared.error.PaError.{PaError}
-use Rattle.pa_attrs.specs.declared.error_code.PaErrorCode.{PaErrorCode}
 use Rattle.pa_attrs.specs.declared.error_code.PaErrorCode.TheVariants as code
 use Rattle.pa_attrs.specs.ErrorForm.{swima_error}
 use Rattle.pa_attrs.specs.Numbers.{number_of_code}
@@ -34,15 +32,15 @@ use Rattle.session_talk.specs.Talk.{Done, and_then, each}
 use Rattle.session_rules.specs.declared.config.ServeConfig.{ServeConfig}
 use Rattle.session_rules.specs.declared.word.CollectorWord.{CollectorWord as Word}
 use Rattle.session_rules.specs.declared.word.CollectorWord.TheVariants.{Wants, AsksStatus, Failure}
-use Rattle.session_rules.specs.Answering.{Drafting, answered, answers_body, answers_message, answers_said, closed, closes, earlier_left, puts_error, puts_report, puts_sized, reach_of, next_if, next_of, renewed, renews, renews_by, renews_one, speaks, taken, word_of, SUPPORTED}
-use Rattle.session_rules.specs.Messages.{attribute, error_attribute, pa_message, report_attribute}
+use Rattle.session_rules.specs.Answering.{answered, answers_body, answers_message, answers_said, closed, closes, earlier_left, puts_error, puts_report, puts_sized, reach_of, next_if, next_of, renewed, renews, renews_by, renews_one, speaks, taken, word_of, SUPPORTED}
+use Rattle.session_rules.specs.Messages.{attribute, error_attribute, pa_message}
 use Rattle.session_rules.specs.Numbers.{next_number}
 use Rattle.session_rules.specs.Questions.{AskMoved, at_places}
 use Rattle.session_rules.specs.Saying.{Said, Says, Refused, says, swima_body}
 use Rattle.session_rules.specs.Serving.{Draft}
 use Rattle.session_rules.specs.SubRuns.{ArePut, Filled, IsPut, last_for, Put, PutAnswer, PutError, PutFirst, PutList, PutNext, Sent, all_octets, all_puts, filled_message, put_attribute, puts_of}
 use Rattle.session_rules.proofs.Coming.{Comes, comes_then}
-use Rattle.session_rules.proofs.PutRuns.{IsOf, OnlyOnes, Placed, all_ended, all_pushed, all_taken, different_taken, none_of, none_put, only_ended, only_ones, only_reported, others_placed, placed_on, placed_reported, put_more, puts_closed}
+use Rattle.session_rules.proofs.PutRuns.{IsOf, OnlyOnes, Placed, all_ended, all_pushed, all_taken, different_taken, none_of, only_ended, only_ones, only_reported, others_placed, placed_on, placed_reported, put_more, puts_closed}
 use Rattle.session_rules.proofs.Running.{successive_reports, within_last}
 
 -- ---- how far a report reaches

@@ -1,5 +1,5 @@
 -- What stays true of the notes of a validator in a whole session.
-use Rattle.std.proofs.Common.{◌≡◌, ℕ, ◌+◌, Bool, true, false, cond, nat_le, nat_lt, length, List, [], ◌∷◌, ◌++◌, Option, Some, None, refl}
+use Rattle.std.proofs.Common.{ℕ, ◌+◌, Bool, true, false, cond, nat_le, nat_lt, length, List, [], ◌∷◌, ◌++◌, Option, Some, None}
 use Rattle.wire_base.specs.Turns.{Turn}
 use Rattle.swima_model.specs.declared.report.Report.{Report}
 use Rattle.pb_batch.specs.declared.batch.Batch.{Batch}

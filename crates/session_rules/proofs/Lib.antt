@@ -11,3 +11,4 @@ pub mod Coming
 pub mod PutRuns
 pub mod DraftRuns
 pub mod SessionRuns
+pub mod Limit

@@ -1,6 +1,6 @@
 -- What is put into messages one after another, and where subscriptions are placed then.
-use Rattle.std.proofs.Common.{◌≡◌, ℕ, ◌<◌, ◌^◌, ◌||◌, Bool, true, false, cond, List, [], ◌∷◌, ◌++◌, Option, Some, None, take, zero, suc, refl, sym, ap, ap₂, subst, ◌∙◌, append_assoc, append-nil}
-use Rattle.std.specs.Prelude.{◌==◌, filter, fold, not, map}
+use Rattle.std.proofs.Common.{◌≡◌, ℕ, ◌<◌, ◌^◌, Bool, true, false, cond, List, [], ◌∷◌, ◌++◌, Option, Some, None, take, zero, suc, refl, sym, ap, subst, ◌∙◌, append_assoc, append-nil}
+use Rattle.std.specs.Prelude.{◌==◌, fold, not, map}
 use Rattle.std.specs.List.{AllByRecursion}
 use Rattle.std.proofs.lemmas.Bool.{or_parts, or_from, cond-false, eqb-true, eqb-false}
 use Rattle.swima_model.specs.declared.report.Point.{Point}
@@ -10,7 +10,7 @@ use Rattle.swima_subs.specs.declared.waiting.Waiting.{Waiting}
 use Rattle.swima_subs.specs.Subscriptions.{AreDifferent, ended, fulfilled_to, has_id, is_held, reported}
 use Rattle.collector_core.specs.Chronicle.{Chronicle}
 use Rattle.session_rules.specs.Answering.{reach_of}
-use Rattle.session_rules.specs.SubRuns.{ArePut, Filled, IsPlaced, IsPut, Put, PutFirst, PutNext, Sent, Sends, SendsFault, Told, all_octets, all_puts, last_after, last_for, puts_of, sent_octets}
+use Rattle.session_rules.specs.SubRuns.{ArePut, Filled, IsPlaced, IsPut, Put, Sent, Sends, SendsFault, Told, all_octets, all_puts, last_after, last_for, puts_of, sent_octets}
 
 -- ---- one more
 

@@ -1,6 +1,5 @@
 -- A whole session of a collector is runs of reports.
 use Rattle.std.proofs.Common.{◌≡◌, ℕ, ◌++◌, Bool, true, false, cond, nat_le, List, [], ◌∷◌, Option, Some, None, refl, sym, ap, ap₂, subst, ◌∙◌, append-nil}
-use Rattle.std.specs.Prelude.{map}
 use Rattle.std.specs.List.{AllByRecursion}
 use Rattle.swima_request.specs.declared.request.Request.{Request}
 use Rattle.swima_subs.specs.declared.waiting.Waiting.{Waiting}
@@ -8,7 +7,6 @@ use Rattle.swima_subs.specs.Subscriptions.{AreSubs}
 use Rattle.swima_subs.proofs.Keeping.{none_are}
 use Rattle.pb_batch.specs.declared.batch.Batch.{Batch}
 use Rattle.pb_batch.specs.declared.batch.Message.{Message}
-use Rattle.pb_batch.specs.declared.fault.PbFault.{PbFault}
 use Rattle.pb_batch.specs.declared.kind.BatchKind.{BatchKind}
 use Rattle.pb_batch.specs.declared.kind.BatchKind.TheVariants as kinds
 use Rattle.pb_batch.specs.Written.{written}
@@ -31,7 +29,7 @@ use Rattle.swima_model.specs.declared.report.Point.{Point}
 use Rattle.session_rules.specs.Questions.{AskMoved, Question, Reply, at_places}
 use Rattle.session_rules.specs.Serving.{Notes, Stand, Draft, begin, draft, ends}
 use Rattle.session_rules.specs.ServeRules as serving
-use Rattle.session_rules.specs.SubRuns.{ArePut, AreRuns, Put, Sent, Sends, SendsFault, SessionsAreRuns, all_octets, all_puts, filled_message, put_attribute, puts_of, sent_octets}
+use Rattle.session_rules.specs.SubRuns.{ArePut, AreRuns, Put, Sent, Sends, SendsFault, SessionsAreRuns, all_octets, all_puts, put_attribute, puts_of, sent_octets}
 use Rattle.session_rules.specs.Verdict.{verdict}
 use Rattle.session_rules.proofs.Coming.{Comes, comes_then, comes_quietly, comes_gives}
 use Rattle.session_rules.proofs.DraftRuns.{ClosedSo, messages_come, renews_come}

@@ -3,7 +3,7 @@
 
 ghost use Rattle.session_rules.specs.AnySession.{StaysRightInParts, StaysRightInSessions};
 ghost use Rattle.session_rules.specs.Meaning.{FollowedIsASession, FollowedIsSo, FollowedPartContinues, LaterEntriesChangeNoPart, LaterEntriesChangeNothing};
-ghost use Rattle.session_rules.specs.Meaning.{MarkedAsksForAll, OneOutcome, ServedIsASession, ServedIsSo, ServedPartContinues};
+ghost use Rattle.session_rules.specs.Meaning.{MarkedAsksForAll, OneOutcome, ServedIsASession, ServedIsSo, ServedPartContinues, SessionsTakeAtMost};
 ghost use Rattle.session_rules.specs.Wanted.{RequestsAreWanted};
 ghost use Rattle.session_rules.specs.SubRun.{PlacesFollowReports, ReportsGoOn, SuccessiveReports};
 ghost use Rattle.session_rules.specs.SubRuns.{SessionsAreRuns};
@@ -56,6 +56,11 @@ pub fn followed_is_a_session()
 /// A session of a validator that broke off is the beginning of one that goes to its end.
 pub fn followed_part_continues()
     ensures law { FollowedPartContinues }
+{}
+
+/// A session that is not over has taken fewer octets than its limit allows, at either end.
+pub fn sessions_take_at_most()
+    ensures law { SessionsTakeAtMost }
 {}
 
 /// A report that is put for a subscription sets its place to what the report consulted, and nothing
