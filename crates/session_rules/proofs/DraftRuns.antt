@@ -120,13 +120,17 @@ module _ (chronicle : Chronicle) (legal : IsLegal chronicle) where
     report_put place most report is = by_flag request.subscribe refl
       where
         by_flag : (b : Bool) → request.subscribe ≡ b → DraftSo octets (puts_report (record d { subs = cond b (reported d.subs request.id (reach_of report)) d.subs }) report)
-        by_flag true flag =
-            (all ++ PutFirst request report ∷ [], one_put all octets d (puts_report (record d { subs = reported d.subs request.id (reach_of report) }) report) (PutFirst request report) so (flag, record { place = place; most = most; is = is }) refl refl
-            (placed_reported all (PutFirst request report) request report (λ id last. refl) d.subs (reach_below (front chronicle place) (fronts_are_legal chronicle place legal) request most report is) (own flag) so.placed)
-            ((subs_stay d.subs so.subs).reported_so request.id (reach_of report)))
-        by_flag false flag =
-            (all ++ PutAnswer request report ∷ [], one_put all octets d (puts_report (record d { subs = d.subs }) report) (PutAnswer request report) so (flag, record { place = place; most = most; is = is }) refl refl
-            (placed_on all (PutAnswer request report) d.subs (λ id last. refl) so.placed) so.subs)
+        by_flag true flag = (
+          all ++ PutFirst request report ∷ [],
+          one_put all octets d (puts_report (record d { subs = reported d.subs request.id (reach_of report) }) report) (PutFirst request report) so (flag, record { place = place; most = most; is = is }) refl refl
+              (placed_reported all (PutFirst request report) request report (λ id last. refl) d.subs (reach_below (front chronicle place) (fronts_are_legal chronicle place legal) request most report is) (own flag) so.placed)
+              ((subs_stay d.subs so.subs).reported_so request.id (reach_of report)),
+        )
+        by_flag false flag = (
+          all ++ PutAnswer request report ∷ [],
+          one_put all octets d (puts_report (record d { subs = d.subs }) report) (PutAnswer request report) so (flag, record { place = place; most = most; is = is }) refl refl
+              (placed_on all (PutAnswer request report) d.subs (λ id last. refl) so.placed) so.subs,
+        )
 
     large_put : (size most : ℕ) → DraftSo octets (answered d request (answer.TooLarge size most))
     large_put size most = by_flag request.subscribe
@@ -194,9 +198,11 @@ module _ (chronicle : Chronicle) (legal : IsLegal chronicle) where
   word_comes octets d AsksStatus (all, so) = by_room (nat_le (status_octets (status d.subs)) d.room)
     where
       by_room : (b : Bool) → DraftSo octets (cond b (puts_sized d (attribute SUBSCRIPTION_STATUS_RESPONSE (written_status (status d.subs))) (status_octets (status d.subs))) (puts_error d code.SwimaResponseTooLargeError 0 (Some d.room)))
-      by_room true =
-          (all ++ PutList (status d.subs) ∷ [], one_put all octets d (puts_sized d (attribute SUBSCRIPTION_STATUS_RESPONSE (written_status (status d.subs))) (status_octets (status d.subs))) (PutList (status d.subs)) so tt refl refl
-          (placed_on all (PutList (status d.subs)) d.subs (λ id last. refl) so.placed) so.subs)
+      by_room true = (
+        all ++ PutList (status d.subs) ∷ [],
+        one_put all octets d (puts_sized d (attribute SUBSCRIPTION_STATUS_RESPONSE (written_status (status d.subs))) (status_octets (status d.subs))) (PutList (status d.subs)) so tt refl refl
+            (placed_on all (PutList (status d.subs)) d.subs (λ id last. refl) so.placed) so.subs,
+      )
       by_room false =
           error_put all octets d (puts_error d code.SwimaResponseTooLargeError 0 (Some d.room)) (swima_error (number_of_code code.SwimaResponseTooLargeError) 0 (Some d.room)) so refl refl so.placed so.subs
   word_comes octets d (Failure code) (all, so) = (all, stays all octets d (record d { errors = d.errors ++ code ∷ [] }) so refl refl so.placed so.subs)
@@ -214,20 +220,26 @@ module _ (chronicle : Chronicle) (legal : IsLegal chronicle) where
 
   closed_by : (octets : List ℕ) (d : Draft) (attrs : List Attr) → d.attrs ≡ attrs → DraftSo octets d → ClosedSo octets (closes attrs d)
   closed_by octets d [] is so = (so, is)
-  closed_by octets d (attr ∷ attrs) is (all, so) = ((all, record {
-    sent = so.sent;
-    octets_are = so.octets_are;
-    messages = so.messages ++ record { number = next_number d.numbered; puts = so.puts } ∷ [];
-    messages_are = ap (λ (ms : List Message). ms ++ pa_message (next_number d.numbered) (attr ∷ attrs) ∷ []) so.messages_are
-    ∙ ap (λ (xs : List Attr). map filled_message so.messages ++ pa_message (next_number d.numbered) xs ∷ []) (sym is ∙ so.puts_are)
-    ∙ sym (map-append filled_message so.messages (record { number = next_number d.numbered; puts = so.puts } ∷ []));
-    puts = [];
-    puts_are = refl;
-    all_are = so.all_are ∙ puts_closed (all_puts so.sent) so.messages (record { number = next_number d.numbered; puts = so.puts });
-    put = so.put;
-    placed = so.placed;
-    subs = so.subs;
-  }), refl)
+  closed_by octets d (attr ∷ attrs) is (all, so) = (
+    (
+      all,
+      record {
+        sent = so.sent;
+        octets_are = so.octets_are;
+        messages = so.messages ++ record { number = next_number d.numbered; puts = so.puts } ∷ [];
+        messages_are = ap (λ (ms : List Message). ms ++ pa_message (next_number d.numbered) (attr ∷ attrs) ∷ []) so.messages_are
+            ∙ ap (λ (xs : List Attr). map filled_message so.messages ++ pa_message (next_number d.numbered) xs ∷ []) (sym is ∙ so.puts_are)
+            ∙ sym (map-append filled_message so.messages (record { number = next_number d.numbered; puts = so.puts } ∷ []));
+        puts = [];
+        puts_are = refl;
+        all_are = so.all_are ∙ puts_closed (all_puts so.sent) so.messages (record { number = next_number d.numbered; puts = so.puts });
+        put = so.put;
+        placed = so.placed;
+        subs = so.subs;
+      },
+    ),
+    refl,
+  )
 
   closed_so : (octets : List ℕ) (d : Draft) → DraftSo octets d → ClosedSo octets (closed d)
   closed_so octets d so = closed_by octets d d.attrs refl so
@@ -268,19 +280,19 @@ module _ (chronicle : Chronicle) (legal : IsLegal chronicle) where
     next_is last seen at report was below is = record {
       all = now.all ++ PutNext held.request report ∷ [];
       so = one_put now.all octets d (renewed c d held.request.id (answer.Report report)) (PutNext held.request report) now.so
-      (record {
-        last = last;
-        was = was;
-        seen = seen;
-        place = at;
-        most = d.room;
-        is = is;
-        whole = successive_reports (front chronicle at) held.request last report (point_of (front chronicle seen)) d.room (fronts_are_legal chronicle at legal) below is;
-      })
-      refl refl
-      (placed_reported now.all (PutNext held.request report) held.request report (λ id last. refl) d.subs
-      (reach_below (front chronicle at) (fronts_are_legal chronicle at legal) (next_request held.request (reach_of last) (point_of (front chronicle seen))) d.room report is) now.only.0 now.so.placed)
-      ((subs_stay d.subs now.so.subs).reported_so held.request.id (reach_of report));
+          (record {
+            last = last;
+            was = was;
+            seen = seen;
+            place = at;
+            most = d.room;
+            is = is;
+            whole = successive_reports (front chronicle at) held.request last report (point_of (front chronicle seen)) d.room (fronts_are_legal chronicle at legal) below is;
+          })
+          refl refl
+          (placed_reported now.all (PutNext held.request report) held.request report (λ id last. refl) d.subs
+          (reach_below (front chronicle at) (fronts_are_legal chronicle at legal) (next_request held.request (reach_of last) (point_of (front chronicle seen))) d.room report is) now.only.0 now.so.placed)
+          ((subs_stay d.subs now.so.subs).reported_so held.request.id (reach_of report));
       left = others_placed now.all (PutNext held.request report) held.request report (λ id last. refl) items now.different.0 now.left.1;
       only = only_reported items d.subs held.request.id (reach_of report) now.only.1;
       different = now.different.1;
@@ -300,10 +312,10 @@ module _ (chronicle : Chronicle) (legal : IsLegal chronicle) where
         by_room true = record {
           all = now.all ++ PutError (swima_error (number_of_code code.SwimaResponseTooLargeError) held.request.id (Some most)) ∷ [];
           so = one_put now.all octets d (puts_error (record d { subs = ended d.subs held.request.id }) code.SwimaResponseTooLargeError held.request.id (Some most))
-          (PutError (swima_error (number_of_code code.SwimaResponseTooLargeError) held.request.id (Some most))) now.so tt refl refl
-          (placed_on now.all (PutError (swima_error (number_of_code code.SwimaResponseTooLargeError) held.request.id (Some most))) (ended d.subs held.request.id) (λ id last. refl)
-          (all_ended (Placed now.all) held.request.id d.subs now.so.placed))
-          ((subs_stay d.subs now.so.subs).ended_so held.request.id);
+              (PutError (swima_error (number_of_code code.SwimaResponseTooLargeError) held.request.id (Some most))) now.so tt refl refl
+              (placed_on now.all (PutError (swima_error (number_of_code code.SwimaResponseTooLargeError) held.request.id (Some most))) (ended d.subs held.request.id) (λ id last. refl)
+              (all_ended (Placed now.all) held.request.id d.subs now.so.placed))
+              ((subs_stay d.subs now.so.subs).ended_so held.request.id);
           left = placed_on now.all (PutError (swima_error (number_of_code code.SwimaResponseTooLargeError) held.request.id (Some most))) items (λ id last. refl) now.left.1;
           only = only_ended items d.subs held.request.id now.only.1;
           different = now.different.1;

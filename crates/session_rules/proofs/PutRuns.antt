@@ -10,7 +10,7 @@ use Rattle.swima_subs.specs.declared.waiting.Waiting.{Waiting}
 use Rattle.swima_subs.specs.Subscriptions.{AreDifferent, ended, fulfilled_to, has_id, is_held, reported}
 use Rattle.collector_core.specs.Chronicle.{Chronicle}
 use Rattle.session_rules.specs.Answering.{reach_of}
-use Rattle.session_rules.specs.SubRuns.{ArePut, Filled, IsPlaced, IsPut, Put, Sent, Sends, SendsFault, Told, all_octets, all_puts, last_after, last_for, puts_of, sent_octets}
+use Rattle.session_rules.specs.SubRuns.{ArePut, Filled, IsPlaced, IsPut, Put, Sent, Sends, SendsFault, Reported, all_octets, all_puts, last_after, last_for, puts_of, sent_octets}
 
 -- ---- one more
 
@@ -42,7 +42,7 @@ put_after chronicle earlier (first ∷ later) put are is = (
 pub put_more : (chronicle : Chronicle) (puts : List Put) (put : Put) → ArePut chronicle [] puts → IsPut chronicle puts put → ArePut chronicle [] (puts ++ put ∷ [])
 put_more chronicle puts put are is = put_after chronicle [] puts put are is
 
-last_from : (id : ℕ) (last : Option Told) (puts : List Put) (put : Put) → fold (last_after id) last (puts ++ put ∷ []) ≡ last_after id (fold (last_after id) last puts) put
+last_from : (id : ℕ) (last : Option Reported) (puts : List Put) (put : Put) → fold (last_after id) last (puts ++ put ∷ []) ≡ last_after id (fold (last_after id) last puts) put
 last_from id last [] put = refl
 last_from id last (first ∷ later) put = last_from id (last_after id last first) later put
 
@@ -89,11 +89,11 @@ all_ended P id (held ∷ later) all = by_test (not (has_id id held)) (all_ended 
     by_test false rest = rest
 
 -- What was put is of no subscription.
-pub placed_on : (puts : List Put) (put : Put) (subs : List Waiting) → ((id : ℕ) (last : Option Told) → last_after id last put ≡ last) → AllByRecursion (Placed puts) subs → AllByRecursion (Placed (puts ++ put ∷ [])) subs
+pub placed_on : (puts : List Put) (put : Put) (subs : List Waiting) → ((id : ℕ) (last : Option Reported) → last_after id last put ≡ last) → AllByRecursion (Placed puts) subs → AllByRecursion (Placed (puts ++ put ∷ [])) subs
 placed_on puts put subs other all = all_or (Placed puts) (Placed (puts ++ put ∷ [])) subs (λ held placed place is. let there = placed place is in (there.0, last_more held.request.id puts put ∙ other held.request.id (last_for held.request.id puts) ∙ there.1, there.2, there.3)) all
 
 -- What was put is a report for the subscription of a request.
-module _ (puts : List Put) (put : Put) (request : Request) (report : Report) (after : (id : ℕ) (last : Option Told) → last_after id last put ≡ cond (id == request.id) (Some (request, report)) last) where
+module _ (puts : List Put) (put : Put) (request : Request) (report : Report) (after : (id : ℕ) (last : Option Reported) → last_after id last put ≡ cond (id == request.id) (Some (request, report)) last) where
   last_other : (id : ℕ) → (id == request.id) ≡ false → last_for id (puts ++ put ∷ []) ≡ last_for id puts
   last_other id other = last_more id puts put ∙ after id (last_for id puts) ∙ cond-false (id == request.id) (Some (request, report)) (last_for id puts) other
 

@@ -65,18 +65,24 @@ module _ (chronicle : Chronicle) (legal : IsLegal chronicle) where
   -- ---- a batch that is answered
 
   draft_so : (c : ServeConfig) (octets : List ℕ) (s : Stand) → StandSo octets s → ClosedSo chronicle legal octets (draft c s)
-  draft_so c octets s so = ((all_puts so.sent, record {
-    sent = so.sent;
-    octets_are = so.octets_are;
-    messages = [];
-    messages_are = refl;
-    puts = [];
-    puts_are = refl;
-    all_are = sym (append-nil (all_puts so.sent));
-    put = so.put;
-    placed = so.placed;
-    subs = so.subs;
-  }), refl)
+  draft_so c octets s so = (
+    (
+      all_puts so.sent,
+      record {
+        sent = so.sent;
+        octets_are = so.octets_are;
+        messages = [];
+        messages_are = refl;
+        puts = [];
+        puts_are = refl;
+        all_are = sym (append-nil (all_puts so.sent));
+        put = so.put;
+        placed = so.placed;
+        subs = so.subs;
+      },
+    ),
+    refl,
+  )
 
   drafts_come : (c : ServeConfig) (octets : List ℕ) (s : Stand) (messages : List Message) → StandSo octets s → Comes (at_places chronicle) (ClosedSo chronicle legal) octets (drafts c s messages)
   drafts_come c octets s messages so =
@@ -88,7 +94,7 @@ module _ (chronicle : Chronicle) (legal : IsLegal chronicle) where
   draft_sent octets d ((all, so), closed) =
       let none : so.puts ≡ [] = none_put put_attribute so.puts (sym so.puts_are ∙ closed) in
       let puts : all ≡ all_puts (so.sent ++ Sends kinds.Cdata so.messages ∷ []) =
-          so.all_are ∙ ap (λ (ps : List Put). all_puts so.sent ++ (puts_of so.messages ++ ps)) none ∙ sym (all_append so.sent (Sends kinds.Cdata so.messages ∷ [])) in
+      so.all_are ∙ ap (λ (ps : List Put). all_puts so.sent ++ (puts_of so.messages ++ ps)) none ∙ sym (all_append so.sent (Sends kinds.Cdata so.messages ∷ [])) in
       record {
         sent = so.sent ++ Sends kinds.Cdata so.messages ∷ [];
         octets_are = ap₂ (λ (os : List ℕ) (ms : List Message). os ++ written (client_batch kinds.Cdata ms)) so.octets_are so.messages_are ∙ sym (octets_append so.sent (Sends kinds.Cdata so.messages));

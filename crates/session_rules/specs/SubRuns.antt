@@ -87,17 +87,17 @@ all_puts (SendsFault fault ∷ later) = all_puts later
 -- ---- runs
 
 -- A report for a subscription, with the request that established that.
-abbrev pub Told : Type 0
-Told = Request × Report
+abbrev pub Reported : Type 0
+Reported = Request × Report
 
 -- The last report for the subscription of an ID, after one more attribute.
-abbrev pub last_after : ℕ → Option Told → Put → Option Told
+abbrev pub last_after : ℕ → Option Reported → Put → Option Reported
 last_after id last (PutFirst request report) = if id == request.id then Some (request, report) else last
 last_after id last (PutNext request report) = if id == request.id then Some (request, report) else last
 last_after id last other = last
 
 -- The last report for it among attributes.
-abbrev pub last_for : ℕ → List Put → Option Told
+abbrev pub last_for : ℕ → List Put → Option Reported
 last_for id puts = fold (last_after id) None puts
 
 -- The report is what the desk answered to the request, at a place.

@@ -80,8 +80,8 @@ module _ (terms : Terms) (chronicle : Chronicle) (mirror : Held) (j : Joined) wh
   follows_same None turns piece no_turns no_piece = (
     follow_mirror (following (record j { up = j.up ++ turns; carried_up = j.carried_up ++ piece })),
     ap (λ (k : Joined). world_of terms chronicle (follow_mirror (following (record j { up = j.up ++ turns; carried_up = j.carried_up ++ piece }))) k)
-    (ap₂ (λ (ts : List Turn) (os : List ℕ). record j { up = j.up ++ ts; carried_up = j.carried_up ++ os }) no_turns no_piece
-    ∙ ap₂ (λ (ts : List Turn) (os : List ℕ). record j { up = ts; carried_up = os }) (append-nil j.up) (append-nil j.carried_up)),
+        (ap₂ (λ (ts : List Turn) (os : List ℕ). record j { up = j.up ++ ts; carried_up = j.carried_up ++ os }) no_turns no_piece
+        ∙ ap₂ (λ (ts : List Turn) (os : List ℕ). record j { up = ts; carried_up = os }) (append-nil j.up) (append-nil j.carried_up)),
   )
   follows_same (Some end) turns piece no_turns no_piece = (mirror, refl)
 
@@ -108,7 +108,7 @@ session_less terms chronicle mirror j (octet ∷ octets) down up_is down_is some
     omega (arith, less, rest)
 session_less terms chronicle mirror j [] (octet ∷ octets) up_is down_is some =
     let same = follows_same terms chronicle mirror j (validator_end j) (turns_of (used j.up (up_waits (world_of terms chronicle mirror j) j))) (up_waits (world_of terms chronicle mirror j) j)
-        (ap (λ (os : List ℕ). turns_of (used j.up os)) up_is ∙ ap (λ (os : List ℕ). turns_of os) (take_none (MOST - octets_in j.up))) up_is in
+    (ap (λ (os : List ℕ). turns_of (used j.up os)) up_is ∙ ap (λ (os : List ℕ). turns_of os) (take_none (MOST - octets_in j.up))) up_is in
     subst (λ (w : World). left (all_down w).0 < left_in (Some j)) (sym same.1) (down_less terms chronicle same.0 j octet octets down_is)
 session_less terms chronicle mirror j [] [] up_is down_is some = absurd cc
 
