@@ -14,9 +14,11 @@
 //! | `words.rt`, `header.rt`, `line.rt` | lines and words, the first line, and those after it | `Script` |
 //! | `playing.rt` | a script that is being played | `Played` |
 //! | `texts.rt` | the lines that are printed | `Replay` |
+//! | `laws.rt` | one text fits each script | `OneText` |
 #![tactic(auto)]
 
 mod header;
+pub mod laws;
 mod line;
 mod playing;
 mod script;
