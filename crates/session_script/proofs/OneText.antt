@@ -87,8 +87,8 @@ entered_one : (said : Line) → ((stamp : List ℕ) (w : World) (change : Edit) 
 entered_one said made p one other (told, this, is_this) (also, that, is_that) =
     let stamps : this.stamp ≡ that.stamp = stamp_one (p.changes + 1) this.stamp that.stamp this.stamped that.stamped in
     let same : told ≡ also =
-        this.does ∙ made this.stamp p.world this.change this.changes ∙ ap (λ (s : List ℕ). makes said s p.world) stamps
-        ∙ sym (made that.stamp p.world that.change that.changes) ∙ sym that.does in
+    this.does ∙ made this.stamp p.world this.change this.changes ∙ ap (λ (s : List ℕ). makes said s p.world) stamps
+    ∙ sym (made that.stamp p.world that.change that.changes) ∙ sym that.does in
     is_this ∙ ap (λ (t : Told). told_in (p.changes + 1) t) same ∙ sym is_that
 
 played_one : (p : Playing) (said : Line) (one other : Played) → IsPlayed p said one → IsPlayed p said other → one ≡ other
@@ -148,5 +148,5 @@ script_one goes_on (Some parts) one other (header, is, this) (also, is_also, tha
 pub one_replay_text : OneReplayText
 one_replay_text octets text other how also this that =
     let same : record { text = text; ending = how } ≡ record { text = other; ending = also } =
-        script_one (nat_lt SCRIPT_OCTETS (length octets)) (split_once 10 (take SCRIPT_OCTETS octets)) (record { text = text; ending = how }) (record { text = other; ending = also }) this that in
+    script_one (nat_lt SCRIPT_OCTETS (length octets)) (split_once 10 (take SCRIPT_OCTETS octets)) (record { text = text; ending = how }) (record { text = other; ending = also }) this that in
     (ap (λ (a : Answer). a.text) same, ap (λ (a : Answer). a.ending) same)
