@@ -116,7 +116,7 @@ AllOne Next = (p : Playing) (octets : List ℕ) (one other : Answer) → Next p 
 plays_line_one : (Next : Playing → List ℕ → Answer → Type 0) → AllOne Next → (number : ℕ) (p : Playing) (after : List ℕ) (said : Option Line) (one other : Answer)
     → PlaysLine Next number p after said one → PlaysLine Next number p after said other → one ≡ other
 plays_line_one Next all number p after None one other this that = this ∙ sym that
-plays_line_one Next all number p after (Some said) one other (made, played, rest, next, is) (also, replayed, more, then_next, is_also) =
+plays_line_one Next all number p after (Some said) one other (made, played, (rest, next, is)) (also, replayed, (more, then_next, is_also)) =
     let same : made ≡ also = played_one p said made also played replayed in
     let rests : rest ≡ more = all also.0 after rest more (subst (λ (m : Played). Next m.0 after rest) same next) then_next in
     is ∙ ap₂ (λ (m : Played) (a : Answer). after_text m.1 a) same rests ∙ sym is_also

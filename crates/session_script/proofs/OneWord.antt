@@ -1,11 +1,9 @@
 -- A line has one meaning: its words spell one value each.
 use Rattle.std.proofs.Common.{◌≡◌, ℕ, ◌<◌, ◌^◌, ◌++◌, List, [], ◌∷◌, Option, Some, None, Ok, refl, sym, ap, ap₂, subst, ◌∙◌, pos}
 use Rattle.std.specs.Prelude.{codes}
-use Rattle.jiff.specs.Types.{DateTime}
 use Rattle.jiff_core.proofs.DateLemmas.{epoch_day_injective}
 use Rattle.jiff_core.proofs.DateTimeLemmas.{civil_nanos_injective, time_nanos_injective}
 use Rattle.swima_model.specs.declared.record.Content.{Content}
-use Rattle.wire_base.specs.declared.values.moment.Moment.{Moment}
 use Rattle.wire_base.specs.Stamp.{IsStampAt, digits, moment_text}
 use Rattle.line_words.specs.Reading.{FindsExactly, IsNumber}
 use Rattle.line_words.proofs.Finding.{content_same, found_one, one_hex, one_number, one_text}
@@ -38,11 +36,11 @@ header_one (a ∷ b ∷ []) one other this that = this ∙ sym that
 header_one (a ∷ b ∷ c ∷ []) one other this that = this ∙ sym that
 header_one (a ∷ b ∷ c ∷ d ∷ []) one other this that = this ∙ sym that
 header_one (a ∷ b ∷ c ∷ d ∷ e ∷ []) one other this that = this ∙ sym that
-header_one (name ∷ epoch ∷ cap ∷ max ∷ kind ∷ subscribe ∷ []) one other (e, is_e, c, is_c, m, is_m, this) (f, is_f, d, is_d, n, is_n, that) =
+header_one (name ∷ epoch ∷ most ∷ room ∷ kind ∷ subscribe ∷ []) one other (e, is_e, (c, is_c, (m, is_m, this))) (f, is_f, (d, is_d, (n, is_n, that))) =
     this
     ∙ ap (λ (k : Option ℕ). named name (header_by k c m (kind_of kind) (answer_of subscribe))) (within_one 1 4294967295 epoch e f is_e is_f)
-    ∙ ap (λ (k : Option ℕ). named name (header_by f k m (kind_of kind) (answer_of subscribe))) (within_one 1 4096 cap c d is_c is_d)
-    ∙ ap (λ (k : Option ℕ). named name (header_by f d k (kind_of kind) (answer_of subscribe))) (within_one 64 16000000 max m n is_m is_n)
+    ∙ ap (λ (k : Option ℕ). named name (header_by f k m (kind_of kind) (answer_of subscribe))) (within_one 1 4096 most c d is_c is_d)
+    ∙ ap (λ (k : Option ℕ). named name (header_by f d k (kind_of kind) (answer_of subscribe))) (within_one 64 16000000 room m n is_m is_n)
     ∙ sym that
 header_one (a ∷ b ∷ c ∷ d ∷ e ∷ f ∷ g ∷ more) one other this that = this ∙ sym that
 
@@ -51,7 +49,7 @@ line_one [] one other this that = this ∙ sym that
 line_one (name ∷ []) one other this that = this ∙ sym that
 line_one (name ∷ number ∷ []) one other (n, is_n, this) (m, is_m, that) = this ∙ ap (numbered name) (number_one number n m is_n is_m) ∙ sym that
 line_one (name ∷ ident ∷ body ∷ []) one other (c, is_c, this) (d, is_d, that) = this ∙ ap (creates name) (content_one ident body c d is_c is_d) ∙ sym that
-line_one (name ∷ id ∷ ident ∷ body ∷ []) one other (n, is_n, c, is_c, this) (m, is_m, d, is_d, that) =
+line_one (name ∷ id ∷ ident ∷ body ∷ []) one other (n, is_n, (c, is_c, this)) (m, is_m, (d, is_d, that)) =
     this ∙ ap₂ (λ (k : Option ℕ) (e : Option Content). alters name k e) (number_one id n m is_n is_m) (content_one ident body c d is_c is_d) ∙ sym that
 line_one (a ∷ b ∷ c ∷ d ∷ e ∷ more) one other this that = this ∙ sym that
 
