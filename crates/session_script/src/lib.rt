@@ -24,3 +24,4 @@ mod texts;
 mod words;
 
 pub use script::{MOST_SCRIPT_OCTETS, replay_answer};
+pub use words::number_within;
