@@ -1,13 +1,19 @@
 -- The day, step by step.
-use Rattle.std.proofs.Common.{◌≡◌, ◌∙◌, ℕ, zero, suc, ◌+◌, ◌++◌, List, [], ◌∷◌, refl, sym, ap, subst, append_assoc, append-nil, arith}
+use Rattle.std.proofs.Common.{◌≡◌, ◌∙◌, ℕ, zero, suc, ◌+◌, ◌++◌, List, [], ◌∷◌, Result, Ok, refl, sym, ap, subst, append_assoc, append-nil, arith}
+use Rattle.std.specs.Prelude.{OnOk}
+use Rattle.wire_base.specs.Stamp.{IsStampAt}
+use Rattle.collector_core.specs.declared.book.edit.Edit.{Edit}
 use Rattle.swima_model.specs.declared.record.Content.{Content}
 use Rattle.session_world.specs.declared.telling.Telling.{Telling}
-use Rattle.session_world.specs.Lines.{Told}
-use Rattle.session_world.specs.Standing.{StandsFor}
+use Rattle.session_world.specs.Lines.{Told, enters}
+use Rattle.session_world.specs.Standing.{Does, StandsFor, WorldView}
 use Rattle.session_world.specs.World.{World}
+use Rattle.session_world.proofs.Joining.{on_ok}
+use Rattle.session_script.specs.declared.line.Line.{Line}
+use Rattle.session_script.specs.Replay.{Changes, IsEntered}
 use Rattle.session_day.specs.declared.day.Day.{Day}
-use Rattle.session_day.specs.Day.{AreChanged, IsChanged}
-use Rattle.session_day.specs.Days.{Steps}
+use Rattle.session_day.specs.Day.{AreChanged, IsChanged, first_session, last_sessions, morning}
+use Rattle.session_day.specs.Days.{Acts, FollowsFirst, IsMorning, PlaysDay, Steps}
 use Rattle.session_day.specs.Package.{package_content, packages}
 
 -- ---- packages
@@ -67,10 +73,33 @@ changed_all count number left before after none changing w stands =
     let all : AreChanged count 40 1 w (so.w, so.so_far ++ []) = so.goes (so.w, []) (subst (λ (k : ℕ). AreChanged count k number so.w (so.w, [])) (sym none) (changes_none count number so.w)) in
     ((so.w, so.so_far ++ []), all, (so.stands, (so.told ∙ ap (λ (told : List Telling). before.told ++ told) (sym (append-nil so.so_far)), so.carried)))
 
--- ---- the last sessions
+-- One change that a line says, with its stamp.
+pub changed_so : {T E : Type 0} (said : Line) (second : ℕ) (stamp : List ℕ) (change : Edit) (before after : Day) (result : Result T E)
+    → IsStampAt second (Ok stamp) → Changes said stamp change → OnOk result (Does (enters change) before.world before.told after.world after.told) → after.carried ≡ before.carried
+    → OnOk result (Steps (IsEntered said second) before after)
+changed_so said second stamp change before after result stamped changes done carried =
+    on_ok result (λ does w stands.
+    let to = does w stands in
+    (enters change w, record { stamp = stamp; stamped = stamped; change = change; changes = changes; does = refl }, (to.0, (to.1, carried)))) done
 
--- What was told of them.
-pub last_told : (before one two three : List Telling) → ((before ++ one) ++ two) ++ three ≡ before ++ ((((one ++ two) ++ []) ++ []) ++ three)
-last_told before one two three =
-    ap (λ (told : List Telling). told ++ three) (append_assoc before one two) ∙ append_assoc before (one ++ two) three
-    ∙ ap (λ (told : List Telling). before ++ (told ++ three)) (sym (append-nil (one ++ two)) ∙ sym (append-nil ((one ++ two) ++ [])))
+-- ---- sessions
+
+-- A line of which nothing is told, whatever was told before.
+pub untold : (line : World → Told) (before after : WorldView) (told : List Telling) → ((w : World) → (line w).1 ≡ []) → Does line before [] after [] → Does line before told after told
+untold line before after told none does = λ w stands. ((does w stands).0, sym (append-nil told) ∙ ap (λ (ts : List Telling). told ++ ts) (sym (none w)))
+
+-- ---- the whole day
+
+pub played : (count : ℕ) (day first changed last : Day) → IsMorning count day → FollowsFirst day first → Steps (AreChanged count 40 1) first changed → Acts last_sessions changed last → PlaysDay count last
+played count day first changed last is follows steps ends =
+    let one = follows.0 (morning count) is.world in
+    let two = steps (first_session count).0 one.0 in
+    let three = ends.0 two.0.0 two.2.0 in
+    record {
+      changed = two.0;
+      are = two.1;
+      world = three.0;
+      told = three.1 ∙ ap (λ (ts : List Telling). ts ++ (last_sessions two.0.0).1) (two.2.1 ∙ ap (λ (ts : List Telling). ts ++ two.0.1) (one.1 ∙ ap (λ (ts : List Telling). ts ++ (first_session count).1) is.told))
+          ∙ append_assoc (first_session count).1 two.0.1 (last_sessions two.0.0).1;
+      carried = ends.1 ∙ two.2.2 ∙ follows.1 (morning count) is.world is.carried;
+    }

@@ -1,7 +1,7 @@
 -- What the calls of `make` do to the day.
-use Rattle.std.specs.Prelude.{◌≡◌, ◌++◌, ℕ, List, [], ◌∷◌}
+use Rattle.std.specs.Prelude.{◌≡◌, ◌++◌, ℕ, []}
 use Rattle.session_world.specs.Lines.{Told, and_on, opens, runs}
-use Rattle.session_world.specs.Standing.{StandsFor}
+use Rattle.session_world.specs.Standing.{Does, StandsFor}
 use Rattle.session_world.specs.World.{World, carried_up}
 use Rattle.session_day.specs.declared.day.Day.{Day}
 use Rattle.session_day.specs.Day.{AreChanged, first_session, last_sessions, morning}
@@ -12,19 +12,20 @@ pub record IsMorning (count : ℕ) (day : Day) : Type 0 where
   pub told : day.told ≡ []
   pub carried : day.carried ≡ []
 
--- It goes on as one of these ways of going on says.
+-- What is done to the world, and what is told of it. No octets are kept.
+abbrev pub Acts : (World → Told) → Day → Day → Type 0
+Acts act before after = Does act before.world before.told after.world after.told × (after.carried ≡ before.carried)
+
+-- One of these things is done.
 abbrev pub Steps : (World → Told → Type 0) → Day → Day → Type 0
 Steps Goes before after = (w : World) → StandsFor before.world w
     → (told : Told) × Goes w told × (StandsFor after.world told.0 × (after.told ≡ before.told ++ told.1) × (after.carried ≡ before.carried))
 
 -- The first session, whose octets are kept.
 abbrev pub FollowsFirst : Day → Day → Type 0
-FollowsFirst before after = (w : World) → StandsFor before.world w → before.carried ≡ []
-    → StandsFor after.world (and_on (opens w) runs).0 × (after.told ≡ before.told ++ (and_on (opens w) runs).1) × (after.carried ≡ carried_up (and_on (opens w) runs).0)
-
--- The sessions after the changes.
-abbrev pub Ends : Day → Day → Type 0
-Ends before after = (w : World) → StandsFor before.world w → StandsFor after.world (last_sessions w).0 × (after.told ≡ before.told ++ (last_sessions w).1) × (after.carried ≡ before.carried)
+FollowsFirst before after =
+    Does (λ w. and_on (opens w) runs) before.world before.told after.world after.told
+    × ((w : World) → StandsFor before.world w → before.carried ≡ [] → after.carried ≡ carried_up (and_on (opens w) runs).0)
 
 -- The whole day.
 pub record PlaysDay (count : ℕ) (day : Day) : Type 0 where

@@ -1,5 +1,5 @@
 -- The tags of packages, as calls within the crate make them.
-use Rattle.std.specs.Prelude.{◌≡◌, ◌≤◌, ◌++◌, ◌∷◌, [], ℕ, List, Option, Some, None, codes, pos, replicate}
+use Rattle.std.specs.Prelude.{◌≡◌, ◌≤◌, ◌++◌, ◌∷◌, [], ℕ, List, Some, None, codes, length, pos, replicate}
 use Rattle.cbor_det.specs.Term.{depth, no_pairs}
 use Rattle.cbor_det.specs.View.{pairs_view}
 use Rattle.coswid_codec.specs.Items.{tag_item}
@@ -68,6 +68,12 @@ pub record AreDescribed (letters : ℕ) (metas : List SoftwareMeta) : Type 0 whe
   pub meta : SoftwareMeta
   pub one : metas ≡ meta ∷ []
   pub is : IsDescription (replicate letters 97) meta
+
+-- The tag has a software identifier, which a record holds.
+pub record HasIdentifier (g : Tag) : Type 0 where
+  pub text : List ℕ
+  pub identifier : identifier_of g ≡ Some text
+  pub within : length text ≤ 65535
 
 -- The tag of a package: how it is written, and its software identifier.
 pub record IsPackage (place version letters : ℕ) (g : Tag) : Type 0 where

@@ -2,15 +2,15 @@
 //! last one.
 
 ghost use Rattle.std.specs.Prelude.{◌≡◌, ◌≤◌, ◌+◌, IfOk, OnOk};
-ghost use Rattle.session_world.specs.World.{World as WorldValue};
-ghost use Rattle.session_day.specs.Day.{AreChanged, IsChanged};
+ghost use Rattle.session_day.specs.Day.{AreChanged, IsChanged, last_sessions};
 ghost use Rattle.session_day.specs.Package.{package_content};
 ghost use Rattle.session_script.specs.Replay.{IsEntered};
 ghost use Rattle.session_script.specs.declared.line.Line.TheVariants as said;
-ghost use Rattle.session_day.specs.Days.{Ends, FollowsFirst, IsMorning, PlaysDay, Steps};
+ghost use Rattle.session_day.specs.Days.{Acts, FollowsFirst, IsMorning, PlaysDay, Steps};
 
 use crate::package::{next_number, number_of, package};
-use collector_core::{Book, Edit};
+use collector_core::Edit;
+use session_script::begin_book;
 use session_world::{Tellings, Terms, World};
 use std::alloc::Global;
 use swima_model::Kind;
@@ -66,14 +66,12 @@ fn morning(alloc: Global, count: u32) -> Result<Day, Memory>
         x = next_number(x);
         base.push(package(alloc, number, 0, x)?)?;
     }
-    match Book::new(alloc, 1, 1024, base.as_slice()) {
-        Ok(book) => Ok(Day {
-            world: World::new(alloc, TERMS, book, Kind::Full),
-            told: List::new(alloc),
-            carried: List::new(alloc),
-        }),
-        Err(_) => Err(Memory),
-    }
+    let book = begin_book(alloc, 1, 1024, base.as_slice())?;
+    Ok(Day {
+        world: World::new(alloc, TERMS, book, Kind::Full),
+        told: List::new(alloc),
+        carried: List::new(alloc),
+    })
 }
 
 impl Day {
@@ -149,7 +147,7 @@ impl Day {
 
     /// A session that is cut in the middle of the report, and another.
     fn end(&mut self, alloc: Global) -> Result<(), Memory>
-        ensures ends { OnOk result (Ends self.old self.new) }
+        ensures ends { OnOk result (Acts last_sessions self.old self.new) }
     {
         self.world.open(alloc)?;
         self.world.round(alloc, &mut self.told)?;

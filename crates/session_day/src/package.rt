@@ -6,12 +6,12 @@ ghost use Rattle.coswid_codec.specs.Items.{entity_pairs, meta_pairs, tag_item};
 ghost use Rattle.coswid_codec.specs.SizesFit.{SizesFit};
 ghost use Rattle.coswid_tag.specs.Identifier.{identifier_of};
 ghost use Rattle.session_day.specs.Package.{content_by, letters_of, next_number, number_of, package_item, package_name};
-ghost use Rattle.session_day.specs.Packages.{AreDescribed, AreMakers, IsDescription, IsMaker, IsPackage, IsTagOf};
+ghost use Rattle.session_day.specs.Packages.{AreDescribed, AreMakers, HasIdentifier, IsDescription, IsMaker, IsPackage, IsTagOf};
 
 use cbor_det::Pairs;
 use coswid_codec::write_tag;
 use coswid_tag::{
-    CodeValue, CodeValues, Entities, Entity, SoftwareMeta, SoftwareMetas, Tag, TagId,
+    CodeValue, Entities, Entity, IdentRefused, SoftwareMeta, SoftwareMetas, Tag, TagId,
     software_identifier,
 };
 use std::alloc::Global;
@@ -42,16 +42,9 @@ pub fn package(alloc: Global, place: u32, version: u32, number: u32) -> Result<C
     ensures content { IfOk result (λ made. made ≡ content_by place version number) }
 {
     let tag = package_tag(alloc, place, version, number)?;
-    let Ok(identifier) = software_identifier(alloc, &tag) else {
-        return Err(Memory);
-    };
+    let ident = identifier(alloc, &tag)?;
     let octets = write_tag(alloc, &tag)?;
-    let Ok(ident) = Ident::new(alloc, identifier.as_slice()) else {
-        return Err(Memory);
-    };
-    let Ok(body) = Body::new(alloc, octets.as_slice()) else {
-        return Err(Memory);
-    };
+    let body = Body::from_octets(alloc, octets.as_slice())?;
     Ok(Content {
         model: Model { pen: 0, kind: 2 },
         source: 0,
@@ -59,6 +52,18 @@ pub fn package(alloc: Global, place: u32, version: u32, number: u32) -> Result<C
         locator: Locator::empty(alloc),
         body,
     })
+}
+
+/// The software identifier of a tag that has one, which is not too long.
+fn identifier(alloc: Global, tag: &Tag) -> Result<Ident, Memory>
+    requires some { HasIdentifier tag.now }
+    ensures identifier { IfOk result (λ made. identifier_of tag.now ≡ Some made) }
+{
+    match software_identifier(alloc, tag) {
+        Ok(text) => Ident::from_octets(alloc, text.as_slice()),
+        Err(IdentRefused::Memory) => Err(Memory),
+        Err(_) => unreachable!(),
+    }
 }
 
 /// The tag of a package.

@@ -12,16 +12,19 @@
 //! |---|---|---|
 //! | `script.rt` | a script, line by line | `Replay` |
 //! | `words.rt`, `header.rt`, `line.rt` | lines and words, the first line, and those after it | `Script` |
+//! | `inventory.rt` | the inventory that a world begins with | |
 //! | `playing.rt` | a script that is being played | `Played` |
 //! | `texts.rt` | the lines that are printed | `Replay` |
 #![tactic(auto)]
 
 mod header;
+mod inventory;
 mod line;
 mod playing;
 mod script;
 mod texts;
 mod words;
 
+pub use inventory::begin_book;
 pub use script::{MOST_SCRIPT_OCTETS, replay_answer};
 pub use words::number_within;
