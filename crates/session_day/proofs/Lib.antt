@@ -1,3 +1,4 @@
-pub mod Packed
 pub mod Sizes
+pub mod Packed
+pub mod Contents
 pub mod Daily

@@ -114,12 +114,21 @@ module _ (place version letters : ℕ) (g : Tag) (makers : List Entity) (metas :
   pub packed : IsPackage place version letters g
   packed = record { item = item_is; depth = subst (λ (t : Term). depth t ≤ 64) (sym item_is) shallow; sizes = sizes_fit; identifier = identifier_is }
 
+-- The tag with these fields is that of the package.
+pub package_packed : (place version letters : ℕ) (g : Tag) (name software release : List ℕ) (makers : List Entity) (metas : List SoftwareMeta) → name ≡ package_name place → software ≡ package_name place → release ≡ codes "1"
+    → AreMakers makers → AreDescribed letters metas → IsTagOf name software makers metas release version g → IsPackage place version letters g
+package_packed place version letters g name software release makers metas one other is are described fields =
+    packed place version letters g makers metas are described
+    (subst (λ (n : List ℕ). IsTagOf n (package_name place) makers metas (codes "1") version g) one
+    (subst (λ (s : List ℕ). IsTagOf name s makers metas (codes "1") version g) other
+    (subst (λ (r : List ℕ). IsTagOf name software makers metas r version g) is fields)))
+
 -- ---- lists of one
 
 pub one_maker : (before makers : List Entity) (e : Entity) → before ≡ [] → makers ≡ before ++ e ∷ [] → IsMaker e → AreMakers makers
 one_maker before makers e none more is = record { maker = e; one = more ∙ ap (λ (es : List Entity). es ++ e ∷ []) none; is = is }
 
-pub one_description : (letters : ℕ) (before metas : List SoftwareMeta) (m : SoftwareMeta) (text : List ℕ) → before ≡ [] → metas ≡ before ++ m ∷ [] → IsDescription text m → text ≡ replicate letters 97
+pub one_description : (letters : ℕ) (before metas : List SoftwareMeta) (m : SoftwareMeta) (summary : List ℕ) → before ≡ [] → metas ≡ before ++ m ∷ [] → IsDescription summary m → summary ≡ replicate letters 97
     → AreDescribed letters metas
-one_description letters before metas m text none more is same =
+one_description letters before metas m summary none more is same =
     record { meta = m; one = more ∙ ap (λ (ms : List SoftwareMeta). ms ++ m ∷ []) none; is = subst (λ (t : List ℕ). IsDescription t m) same is }
