@@ -18,6 +18,7 @@
 #   change  a record is altered
 #   read    the latest event is asked for
 #   both    a record is altered, and what came after the last event is asked for, in turns
+#   events  a record is altered, and the latest hundred events of 4096 are asked for, in turns
 #
 # Where: `alone` is the book itself. A number is that many threads, each with a pass of one shelf,
 # which share what is done.
@@ -53,9 +54,11 @@ lowest() {
 }
 
 {
-    for row in 'change alone 1' 'change 1 1' 'read alone 1' 'read 1 1' 'both 1 1' 'both 2 2' 'both 4 4'; do
+    for row in 'change alone 1' 'change 1 1' 'read alone 1' 'read 1 1' 'both 1 1' 'both 2 2' 'both 4 4' \
+        'events 1 1' 'events 2 2' 'events 4 4'; do
         read -r task where threads <<<"$row"
         times=$((400000 / threads))
+        if [ "$task" = events ]; then times=$((40000 / threads)); fi
         printf '%s\t%s\t%s\t%s\t%s\n' "$task" "$where" $((times * threads)) "$(lowest "$where" "$task" 0)" "$(lowest "$where" "$task" "$times")"
     done
 } | awk -F '\t' -v runs="$runs" '

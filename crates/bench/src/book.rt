@@ -207,7 +207,7 @@ pub(crate) fn answers(book: &Book, request: &Request, times: u32) -> Result<u64,
     Ok(counted)
 }
 
-/// A request for the whole records of 100 software identifiers, of so many records.
+/// A request for the whole records of 100 software identifiers, of that many records.
 fn targeted(alloc: Global, records: u32) -> Result<Request, Trouble> {
     let mut request = latest(alloc, 0);
     let apart = records / TARGETS;

@@ -5,28 +5,32 @@
 //! - `batches SIZE large`, `batches SIZE small`: a feed of one batch of 16 MiB, or of batches of 8
 //!   octets, in pieces of that many octets;
 //! - `shelf alone TASK TIMES`, `shelf THREADS TASK TIMES`: a book alone, or on a shelf in 1, 2 or 4
-//!   threads; the tasks are `change`, `read` and `both`;
+//!   threads; the tasks are `change`, `read` and `both`, and on a shelf `events`;
 //! - `sessions first RECORDS SIZE`: the first session over a book, in pieces of that many octets;
 //! - `sessions alone RECORDS`: the same report, without a session;
 //! - `sessions update RECORDS EVENTS TIMES`: that many sessions more, each after that many events;
 //! - `sessions looks RECORDS TIMES`: that many idle turns of a collector with 16 subscriptions;
 //! - `sources ITEMS CHANGES QUIET`: sweeps over a source of that many items, then of that many
 //!   changes, and then that many quiet ones;
+//! - `lines items COUNT`, `lines digits COUNT`: that many lines on standard input, as a source reads
+//!   them, or as the digits of a tag each;
 //! - `cbor read`, `cbor write`, `cbor feed SIZE`: the items on standard input, one after another;
 //! - `links read`, `links check`: the tags on standard input as a list, and the findings on it;
 //! - `tags read`, `tags write`, `tags both`: the tags on standard input, one after another.
 //!
 //! Where nothing is printed, standard error has the reason.
 //!
-//! It stands on `collector_session`, `validator_session` and `session_rules`, on `source_set`,
-//! `book_lock`, `collector_core`, `validator_core`, `swima_request` and `swima_model`, on
-//! `pb_batch`, on `coswid_links`, `coswid_codec`, `coswid_tag` and `cbor_det`, and on `wire_base`.
+//! It stands on `collector_session`, `validator_session` and `session_rules`, on `source_lines`,
+//! `source_set`, `book_lock`, `collector_core`, `validator_core`, `swima_request` and `swima_model`,
+//! on `pb_batch`, on `coswid_links`, `coswid_codec`, `coswid_tag` and `cbor_det`, on `wire_base`, and
+//! on `hex` and `memchr`.
 #![tactic(auto)]
 
 mod batches;
 mod book;
 mod cbor;
 mod figures;
+mod lines;
 mod links;
 mod looks;
 mod reading;
@@ -125,6 +129,8 @@ fn figure(rt: &HostRuntime, words: &[&str]) -> Result<u64, Trouble> {
             number(changes)?,
             number(quiet)?,
         ),
+        ["lines", "items", count] => lines::items(rt, number(count)?),
+        ["lines", "digits", count] => lines::digits(rt, number(count)?),
         ["cbor", "read"] => cbor::read(rt),
         ["cbor", "write"] => cbor::write(rt),
         ["cbor", "feed", piece] => cbor::feed(rt, size(piece)?),

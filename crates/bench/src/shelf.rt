@@ -1,9 +1,10 @@
 //! A book on a shelf, beside the same book alone. It has 1,000 records, of which the first is
-//! altered, and a log that keeps one event. So changes and answers are as quick as they can be.
+//! altered, and a log that keeps one event. So changes and answers are as quick as they can be. For
+//! the task `events` its log is as long as it may be.
 
-ghost use Rattle.std.specs.Prelude.{◌≡◌, true};
+ghost use Rattle.std.specs.Prelude.{◌≡◌, ◌≤◌, true};
 
-use crate::book::{STAMP, alterations, answers, book_of, content, count_of, latest};
+use crate::book::{KEPT, STAMP, alterations, answers, book_of, content, count_of, latest};
 use crate::trouble::Trouble;
 use book_lock::{Pass, Shelf};
 use collector_core::{Book, Edit};
@@ -27,6 +28,8 @@ pub(crate) enum Task {
     Read,
     /// Each in turns.
     Both,
+    /// An alteration and then the latest hundred events, in turns.
+    Events,
 }
 
 impl Task {
@@ -36,7 +39,28 @@ impl Task {
             "change" => Ok(Task::Change),
             "read" => Ok(Task::Read),
             "both" => Ok(Task::Both),
+            "events" => Ok(Task::Events),
             _ => Err(Trouble::Words),
+        }
+    }
+
+    /// How many events the log keeps.
+    fn kept(self) -> u32
+        ensures some { 1 ≤ result }
+        ensures few { result ≤ 4096 }
+    {
+        match self {
+            Task::Change | Task::Read | Task::Both => 1,
+            Task::Events => KEPT,
+        }
+    }
+
+    /// The first event that is asked for, before anything is done. After a change a log of one
+    /// event is asked what came after the last.
+    fn earliest(self) -> u32 {
+        match self {
+            Task::Change | Task::Read | Task::Events => 1,
+            Task::Both => u32::MAX,
         }
     }
 }
@@ -58,14 +82,16 @@ pub(crate) fn done<R: Threads + Wait + Sync>(
 
 /// Does a task that many times on a book alone.
 fn alone(alloc: Global, task: Task, times: u32) -> Result<u64, Trouble> {
-    let mut book = small_book(alloc)?;
+    let mut book = small_book(alloc, task)?;
+    let request = latest(alloc, task.earliest());
     match task {
         Task::Change => alterations(alloc, &mut book, times),
-        Task::Read => answers(&book, &latest(alloc, 1), times),
+        Task::Read => answers(&book, &request, times),
         Task::Both => {
             let changed = alterations(alloc, &mut book, times)?;
-            Ok(changed.saturating_add(answers(&book, &latest(alloc, u32::MAX), times)?))
+            Ok(changed.saturating_add(answers(&book, &request, times)?))
         }
+        Task::Events => Err(Trouble::Words),
     }
 }
 
@@ -77,7 +103,7 @@ fn shared<R: Threads + Wait + Sync>(
     task: Task,
     times: u32,
 ) -> Result<u64, Trouble> {
-    let book = small_book(alloc)?;
+    let book = small_book(alloc, task)?;
     let Ok((shelf, pass)) = Shelf::open(alloc, book) else {
         return Err(Trouble::Memory);
     };
@@ -89,10 +115,10 @@ fn shared<R: Threads + Wait + Sync>(
     }
 }
 
-/// The book that is measured.
-fn small_book(alloc: Global) -> Result<Book, Trouble> {
-    let mut book = book_of(alloc, RECORDS, 1)?;
-    alterations(alloc, &mut book, 1)?;
+/// The book that is measured, with a full log.
+fn small_book(alloc: Global, task: Task) -> Result<Book, Trouble> {
+    let mut book = book_of(alloc, RECORDS, task.kept())?;
+    alterations(alloc, &mut book, task.kept())?;
     Ok(book)
 }
 
@@ -159,15 +185,10 @@ fn work<R: Wait>(
     requires may { pass.may_change ≡ true }
 {
     let other = content(alloc, &[0; 65])?;
-    // The log keeps one event, so after a change it is asked what came after the last.
-    let earliest = match task {
-        Task::Both => u32::MAX,
-        Task::Change | Task::Read => 1,
-    };
-    let request = latest(alloc, earliest);
+    let mut request = latest(alloc, task.earliest());
     let mut done: u64 = 0;
     for _ in 0..times {
-        let more = once(wait, shelf, &mut pass, task, &other, &request)?;
+        let more = once(wait, shelf, &mut pass, task, &other, &mut request)?;
         done = done.saturating_add(more);
     }
     Ok(done)
@@ -180,17 +201,20 @@ fn once<R: Wait>(
     pass: &mut Pass,
     task: Task,
     other: &Content,
-    request: &Request,
+    request: &mut Request,
 ) -> Result<u64, Trouble>
     requires here { pass.old.shelf ≡ shelf.now }
     requires may { pass.old.may_change ≡ true }
     ensures here { pass.new.shelf ≡ shelf.now }
     ensures may { pass.new.may_change ≡ true }
 {
+    if let Task::Events = task {
+        request.earliest = shelf.point(wait, pass).eid.saturating_sub(99).max(1);
+    }
     match task {
         Task::Change => change(wait, shelf, pass, other),
         Task::Read => count_of(shelf.ask(wait, pass, request, u32::MAX)),
-        Task::Both => {
+        Task::Both | Task::Events => {
             let changed = change(wait, shelf, pass, other)?;
             let read = count_of(shelf.ask(wait, pass, request, u32::MAX))?;
             Ok(changed.saturating_add(read))

@@ -24,6 +24,8 @@ pub(crate) enum Trouble {
     Tag,
     /// Octets are no batch.
     Batch,
+    /// Octets are no line that is wanted.
+    Line,
     /// The book refused what was asked of it.
     Book,
     /// A session did what it was not meant to do.
@@ -38,12 +40,14 @@ the words are none of these:
   bench book RECORDS answer|targets|events|change|rename TIMES
   bench book RECORDS first|middle|last|delete TIMES
   bench shelf alone|1|2|4 change|read|both TIMES
+  bench shelf 1|2|4 events TIMES
   bench sessions first RECORDS SIZE
   bench sessions alone RECORDS
   bench sessions update RECORDS EVENTS TIMES
   bench sessions looks RECORDS TIMES
   bench batches SIZE large|small
   bench sources ITEMS CHANGES QUIET
+  bench lines items|digits COUNT
   bench cbor read|write
   bench cbor feed SIZE
   bench links read|check
@@ -58,6 +62,7 @@ impl fmt::Display for Trouble {
             Trouble::Item => f.write_str("an item was refused"),
             Trouble::Tag => f.write_str("a tag was refused"),
             Trouble::Batch => f.write_str("a batch was refused"),
+            Trouble::Line => f.write_str("a line was missing or refused"),
             Trouble::Book => f.write_str("the book refused an answer or a change"),
             Trouble::Session => f.write_str("a session wrote, or ended, where it should wait"),
             Trouble::Memory => f.write_str("out of memory"),

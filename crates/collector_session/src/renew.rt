@@ -24,8 +24,8 @@ use wire_base::Memory;
 /// The most messages of a batch.
 const BATCH_MESSAGES: usize = 64;
 
-/// Fulfils the subscriptions of earlier batches, in one message after the answers. Where the answers
-/// are as many messages as a batch has at most, they wait for the next batch.
+/// Fulfils the subscriptions of earlier batches, in one message after the answers. Where the
+/// answers are as many messages as a batch has at most, they wait for the next batch.
 pub(crate) fn renew<D: Desk>(
     alloc: Global,
     desk: &mut D,

@@ -26,7 +26,7 @@ fn established(alloc: Global, count: u32) -> Subs {
     subs
 }
 
-/// The IDs of the requests that are told of, and how many they are; `None` where memory ran out.
+/// The IDs of the requests that are listed, and how many they are; `None` where memory ran out.
 fn first_told(alloc: Global, subs: &Subs) -> Option<(u32, usize)> {
     let told = subs.status(alloc).ok()?;
     let first = told.get(0)?;

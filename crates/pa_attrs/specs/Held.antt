@@ -10,13 +10,13 @@ use Rattle.pa_attrs.specs.Stream.{More, Bad, Whole, front_of}
 
 -- The octets that are held.
 abbrev pub octets_of_held : Held → List ℕ
-octets_of_held held = take held.begun held.header ++ held.value.items
+octets_of_held held = take held.header_len held.header ++ held.value.items
 
 -- Octets of the value come after all of those of the header.
 pub record IsInOrder (held : Held) : Type 0 where
   pub size : length held.header ≡ HEADER
-  pub within : held.begun ≤ HEADER
-  pub first : held.begun < HEADER → held.value.items ≡ []
+  pub within : held.header_len ≤ HEADER
+  pub first : held.header_len < HEADER → held.value.items ≡ []
 
 -- What becomes of octets that are held, and of a piece after them.
 abbrev pub Holds : List ℕ → List ℕ → Result (Option (Attr × ℕ)) (Refused AttrFault) → List ℕ → Type 0

@@ -20,7 +20,7 @@ use wire_base::{List, Memory, Refused};
 #[derive(Debug, Drop)]
 pub(crate) struct Held {
     header: [u8; 12],
-    begun: usize,
+    header_len: usize,
     value: Vec<u8>,
 }
 
@@ -32,7 +32,7 @@ impl Held {
     {
         Held {
             header: [0; 12],
-            begun: 0,
+            header_len: 0,
             value: Vec::new(alloc),
         }
     }
@@ -43,7 +43,7 @@ impl Held {
         requires within { length (octets_of_held self.now) ≤ MOST_OCTETS }
         ensures len { result ≡ length (octets_of_held self.now) }
     {
-        self.begun + self.value.len()
+        self.header_len + self.value.len()
     }
 
     /// The header; `None` where not all of it is there.
@@ -51,7 +51,7 @@ impl Held {
         requires order { IsInOrder self.now }
         ensures header { result ≡ header_held (octets_of_held self.now) }
     {
-        if self.begun < HEADER_OCTETS {
+        if self.header_len < HEADER_OCTETS {
             return None;
         }
         Some(self.header)
@@ -66,11 +66,11 @@ impl Held {
         ensures holds { Holds (octets_of_held self.old) piece.now result (octets_of_held self.new) }
     {
         let mut header = self.header;
-        let first = begin_header(&mut header, self.begun, piece);
-        let begun = self.begun + first;
+        let first = begin_header(&mut header, self.header_len, piece);
+        let begun = self.header_len + first;
         if begun < HEADER_OCTETS {
             self.header = header;
-            self.begun = begun;
+            self.header_len = begun;
             return Ok(None);
         }
         let (_, rest) = piece.split_at(first);
@@ -78,7 +78,7 @@ impl Held {
             Ok(said) => {
                 let more = take_value(&mut self.value, rest, said.length as usize - HEADER_OCTETS)?;
                 self.header = header;
-                self.begun = HEADER_OCTETS;
+                self.header_len = HEADER_OCTETS;
                 if HEADER_OCTETS + self.value.len() < said.length as usize {
                     return Ok(None);
                 }
@@ -86,7 +86,7 @@ impl Held {
             }
             Err(fault) => {
                 self.header = header;
-                self.begun = HEADER_OCTETS;
+                self.header_len = HEADER_OCTETS;
                 Err(Refused::Fault(fault))
             }
         }
@@ -100,7 +100,7 @@ impl Held {
     {
         let alloc = *self.value.allocator();
         let value = mem::replace(&mut self.value, Vec::new(alloc));
-        self.begun = 0;
+        self.header_len = 0;
         Attr {
             noskip: said.noskip,
             vendor: said.vendor,

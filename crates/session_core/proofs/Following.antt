@@ -117,7 +117,7 @@ module _ (c : FollowConfig) (mirror : Held) (turns : List Turn) (octets : List �
   right so history honest was answers =
       elim so [
         | inl s ↦ stays_right_in_sessions history mirror c turns (octets ++ core.end.out) (stand_of core.end.standing now) honest was answers (s.gives nobody)
-        | inr f ↦ stays_right_in_parts history mirror c turns (octets ++ core.end.out) (notes_of core.end.standing.notes now) honest was answers (f.breaks nobody)
+        | inr f ↦ stays_right_in_parts.whole history mirror c turns (octets ++ core.end.out) (notes_of core.end.standing.notes now) honest was answers (f.breaks nobody)
       ]
 
 -- ---- the session

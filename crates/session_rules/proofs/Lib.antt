@@ -1,8 +1,14 @@
 pub mod WorkedSessions
 pub mod Desking
 pub mod Ends
+pub mod Kept
 pub mod AnySession
 pub mod Meaning
 pub mod Wanted
 pub mod Running
 pub mod Placing
+pub mod Coming
+pub mod PutRuns
+pub mod DraftRuns
+pub mod SessionRuns
+pub mod Limit

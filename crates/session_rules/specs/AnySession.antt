@@ -8,9 +8,9 @@ use Rattle.swima_model.specs.declared.report.Report.TheVariants.{Inventory, Even
 use Rattle.swima_model.specs.History.{History, IsHonest, Answers}
 use Rattle.validator_core.specs.Held.{Held}
 use Rattle.validator_core.specs.Right.{IsRight}
-use Rattle.session_talk.specs.Keeping.{NotesAre}
+use Rattle.session_talk.specs.Keeping.{BreaksWith, NotesAre}
 use Rattle.session_rules.specs.declared.config.FollowConfig.{FollowConfig}
-use Rattle.session_rules.specs.Following.{Notes, Stand}
+use Rattle.session_rules.specs.Following.{Notes, Stand, nothing_noted}
 use Rattle.session_rules.specs.FollowRules as following
 use Rattle.session_rules.specs.Transcripts.{nobody, Follows, FollowsInPart}
 
@@ -33,7 +33,10 @@ abbrev pub StaysRightInSessions : Type 0
 StaysRightInSessions = (history : History) (mirror : Held) (c : FollowConfig) (turns : List Turn) (octets : List ℕ) (stand : Stand) → IsHonest history → IsRight history mirror
     → NotesAre nobody (NotesAnswer history mirror.kind) (following.session c mirror turns) [] → Follows mirror c turns octets stand → IsRight history stand.notes.mirror
 
--- So where memory ran out on the way.
-abbrev pub StaysRightInParts : Type 0
-StaysRightInParts = (history : History) (mirror : Held) (c : FollowConfig) (turns : List Turn) (octets : List ℕ) (notes : Notes) → IsHonest history → IsRight history mirror
-    → NotesAre nobody (NotesAnswer history mirror.kind) (following.session c mirror turns) [] → FollowsInPart mirror c turns octets notes → IsRight history notes.mirror
+-- So where memory ran out on the way, of the reports that it took until then. This is so in
+-- particular where each report of the whole session answers from the history.
+pub record StaysRightInParts : Type 0 where
+  pub until : (history : History) (mirror : Held) (c : FollowConfig) (turns : List Turn) (octets : List ℕ) (notes : Notes) → IsHonest history → IsRight history mirror
+      → BreaksWith nobody (NotesAnswer history mirror.kind) (nothing_noted mirror) (following.session c mirror turns) [] octets notes → IsRight history notes.mirror
+  pub whole : (history : History) (mirror : Held) (c : FollowConfig) (turns : List Turn) (octets : List ℕ) (notes : Notes) → IsHonest history → IsRight history mirror
+      → NotesAre nobody (NotesAnswer history mirror.kind) (following.session c mirror turns) [] → FollowsInPart mirror c turns octets notes → IsRight history notes.mirror

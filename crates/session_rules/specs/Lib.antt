@@ -20,3 +20,4 @@ pub mod Meaning
 pub mod AnySession
 pub mod Wanted
 pub mod SubRun
+pub mod SubRuns

@@ -1,5 +1,5 @@
 -- What the transcripts mean, as laws over all sessions.
-use Rattle.std.specs.Prelude.{◌≡◌, ℕ, true, List, [], length}
+use Rattle.std.specs.Prelude.{◌≡◌, ◌<◌, ℕ, true, List, [], None, length}
 use Rattle.wire_base.specs.Turns.{Turn}
 use Rattle.validator_core.specs.Held.{Held}
 use Rattle.collector_core.specs.declared.chronicle.Entry.{Entry}
@@ -13,7 +13,8 @@ use Rattle.session_rules.specs.ServeRules as serving
 use Rattle.session_rules.specs.Serving.{Notes, Stand}
 use Rattle.session_rules.specs.Following.{Notes as FollowNotes, Stand as FollowStand}
 use Rattle.session_rules.specs.FollowRules as following
-use Rattle.session_rules.specs.Transcripts.{Serves, ServesInPart, served, served_places, Follows, FollowsInPart, followed, nobody}
+use Rattle.session_hear.specs.Hearing.{octets_in}
+use Rattle.session_rules.specs.Transcripts.{Serves, ServesInPart, serve_end, served, served_places, Follows, FollowsInPart, follow_end, followed, nobody}
 
 -- At the same places a collector writes the same octets, and stands the same.
 abbrev pub OneOutcome : Type 0
@@ -60,3 +61,10 @@ FollowedPartContinues = (mirror : Held) (c : FollowConfig) (turns : List Turn) (
 -- While the mark of its mirror is set, each request of a validator is for the inventory.
 abbrev pub MarkedAsksForAll : Type 0
 MarkedAsksForAll = (c : FollowConfig) (s : FollowStand) → s.notes.mirror.off ≡ true → (following.next_request c s).earliest ≡ 0
+
+-- A session that is not over has taken fewer octets than its limit allows.
+pub record SessionsTakeAtMost : Type 0 where
+  pub serves : (chronicle : Chronicle) (c : ServeConfig) (turns : List Turn) (places : List ℕ) → 0 < c.octets
+      → serve_end (served chronicle c turns places) ≡ None → octets_in turns < c.octets
+  pub follows : (mirror : Held) (c : FollowConfig) (turns : List Turn) → 0 < c.octets
+      → follow_end (followed mirror c turns) ≡ None → octets_in turns < c.octets

@@ -1,6 +1,7 @@
 -- The run of a subscription's reports, by its place (RFC 8412, section 3.8.5). A report that is put
 -- for a subscription sets its place to what it consulted, and nothing else changes a place. From a
--- place of the current epoch a report of events goes on with all that match, none skipped or doubled.
+-- place of the current epoch a report of events goes on with all that match, none skipped or
+-- doubled.
 use Rattle.std.specs.Prelude.{◌≡◌, ◌⊎◌, ◌<◌, ◌≤◌, ◌+◌, ◌^◌, ℕ, List, [], ◌∷◌, ◌++◌, None, All, Contains}
 use Rattle.swima_model.specs.declared.event.Event.{Event}
 use Rattle.swima_model.specs.declared.report.Kind.{Kind}
@@ -29,8 +30,8 @@ use Rattle.session_rules.specs.Serving.{Draft}
 abbrev pub PlacesStay : List Waiting → List Waiting → Type 0
 PlacesStay before after = All (λ (held : Waiting). Contains before held ⊎ (held.place ≡ None)) after
 
--- A report was put into the batch, and the subscription of the ID was fulfilled up to what the report
--- consulted. All other places stay.
+-- A report was put into the batch, and the subscription of the ID was fulfilled up to what the
+-- report consulted. All other places stay.
 pub record PutsFor (id : ℕ) (before after : Draft) : Type 0 where
   pub report : Report
   pub put : after.attrs ≡ before.attrs ++ report_attribute report ∷ []

@@ -1,7 +1,7 @@
 -- What a validator asks for, in every session: what the mirror wants that is noted at that time.
 -- So after a gap each request is for the inventory, in this session and in the next ones, until a
 -- report clears the mark.
-use Rattle.std.specs.Prelude.{◌≡◌, ◌⊎◌, ℕ, List, [], ◌∷◌, ◌++◌}
+use Rattle.std.specs.Prelude.{◌≡◌, ◌⊎◌, ◌<◌, ◌^◌, ◌==◌, ◌&&◌, ℕ, false, List, [], ◌∷◌, ◌++◌}
 use Rattle.std.specs.List.{AllByRecursion}
 use Rattle.wire_base.specs.Turns.{Turn}
 use Rattle.swima_request.specs.declared.request.Request.{Request}
@@ -38,8 +38,9 @@ pub record AsksNot (octets : List ℕ) : Type 0 where
   pub is : octets ≡ written (server_batch kind messages)
   pub none : AllByRecursion AsksNothing messages
 
--- A batch with one request, in its last message: for what the mirror wants, and in its kind.
-pub record AsksFor (mirror : Held) (octets : List ℕ) : Type 0 where
+-- A batch with one request, in its last message: for what the mirror wants, in its kind and without
+-- targets. It clears nothing, and subscribes where the configuration says so and its ID is 1.
+pub record AsksFor (c : FollowConfig) (mirror : Held) (octets : List ℕ) : Type 0 where
   pub kind : BatchKind
   pub answers : List Message
   pub number : ℕ
@@ -48,14 +49,18 @@ pub record AsksFor (mirror : Held) (octets : List ℕ) : Type 0 where
   pub none : AllByRecursion AsksNothing answers
   pub wants : request.earliest ≡ earliest_of (want mirror)
   pub of_kind : request.kind ≡ mirror.kind
+  pub of_all : request.targets ≡ []
+  pub clears_nothing : request.clear ≡ false
+  pub subscribes : request.subscribe ≡ (c.subscribe && (request.id == 1))
 
-abbrev pub AsksOf : Notes → List ℕ → Type 0
-AsksOf notes octets = AsksFor notes.mirror octets ⊎ AsksNot octets
+abbrev pub AsksOf : FollowConfig → Notes → List ℕ → Type 0
+AsksOf c notes octets = AsksFor c notes.mirror octets ⊎ AsksNot octets
 
--- The mirror that was noted last is the one that the end holds.
-abbrev pub NotesMirror : Notes → Stand → Type 0
-NotesMirror notes stand = notes.mirror ≡ stand.notes.mirror
+-- The mirror that was noted last is the one that the end holds, and its requests are counted in
+-- four octets.
+abbrev pub StandsSo : Notes → Stand → Type 0
+StandsSo notes stand = (notes.mirror ≡ stand.notes.mirror) × (stand.asked < 2 ^ 32)
 
 -- Each batch of a session is such a batch, and after it the mirror is the one that was noted last.
 abbrev pub RequestsAreWanted : Type 0
-RequestsAreWanted = (c : FollowConfig) (mirror : Held) (turns : List Turn) → Writes AsksOf NotesMirror (nothing_noted mirror) (session c mirror turns)
+RequestsAreWanted = (c : FollowConfig) (mirror : Held) (turns : List Turn) → Writes (AsksOf c) StandsSo (nothing_noted mirror) (session c mirror turns)

@@ -24,7 +24,7 @@ use Rattle.session_rules.specs.Vectors.{empty_cdata, empty_sdata, no_records, on
 use Rattle.session_rules.specs.Worked.{at, created_one, no_software, record_one, serving, subscribed}
 use Rattle.session_rules.specs.WorkedFaults.{changed, error_with}
 
--- A collector that holds these subscriptions, after its first CDATA. None of them was fulfilled yet.
+-- A collector that holds these subscriptions, after its first CDATA.
 abbrev pub holding : List Waiting → Stand
 holding subs = record begin { subs = subs }
 
@@ -102,7 +102,8 @@ pub record SubscriptionsAreListed : Type 0 where
 
 -- ---- reports that are too large (section 3.8.5)
 
--- The collector, once a record was created whose identifier has 7 octets. The report of that has 65.
+-- The collector, once a record was created whose identifier has 7 octets. The report of that has
+-- 65.
 abbrev pub long_record : Record
 long_record = record record_one { content = record record_one.content { ident = 0x61 ∷ 0x61 ∷ 0x61 ∷ 0x61 ∷ 0x61 ∷ 0x61 ∷ 0x61 ∷ [] } }
 

@@ -3,9 +3,10 @@
 
 ghost use Rattle.session_rules.specs.AnySession.{StaysRightInParts, StaysRightInSessions};
 ghost use Rattle.session_rules.specs.Meaning.{FollowedIsASession, FollowedIsSo, FollowedPartContinues, LaterEntriesChangeNoPart, LaterEntriesChangeNothing};
-ghost use Rattle.session_rules.specs.Meaning.{MarkedAsksForAll, OneOutcome, ServedIsASession, ServedIsSo, ServedPartContinues};
+ghost use Rattle.session_rules.specs.Meaning.{MarkedAsksForAll, OneOutcome, ServedIsASession, ServedIsSo, ServedPartContinues, SessionsTakeAtMost};
 ghost use Rattle.session_rules.specs.Wanted.{RequestsAreWanted};
 ghost use Rattle.session_rules.specs.SubRun.{PlacesFollowReports, ReportsGoOn, SuccessiveReports};
+ghost use Rattle.session_rules.specs.SubRuns.{SessionsAreRuns};
 ghost use Rattle.session_rules.specs.Worked.{DoubledIsAskedThrice, HeaderIsTorn, InventoryIsAdopted, InventoryIsServed, OtherVersionIsRefused, SubscriptionIsFollowed, SubscriptionIsFulfilled, TurnsAreTaken};
 ghost use Rattle.session_rules.specs.WorkedEnds.{IdleTurnsEnd, LastOctetsEnd, PeerEnds, RequestsAreAnswered, RetriesAreHeard, RetriesCross, TooLargeIsAnswered};
 ghost use Rattle.session_rules.specs.WorkedEnds.{ValidatorAnswers, ValidatorEnds, ValidatorHearsErrors, ValidatorRetries, WantedReportsEnd};
@@ -57,13 +58,19 @@ pub fn followed_part_continues()
     ensures law { FollowedPartContinues }
 {}
 
+/// A session that is not over has taken fewer octets than its limit allows, at either end.
+pub fn sessions_take_at_most()
+    ensures law { SessionsTakeAtMost }
+{}
+
 /// A report that is put for a subscription sets its place to what the report consulted, and nothing
 /// else changes a place.
 pub fn places_follow_reports()
     ensures law { PlacesFollowReports }
 {}
 
-/// A report of events goes on from a place of its epoch with all that match, none skipped or doubled.
+/// A report of events goes on from a place of its epoch with all that match, none skipped or
+/// doubled.
 pub fn reports_go_on()
     ensures law { ReportsGoOn }
 {}
@@ -71,6 +78,12 @@ pub fn reports_go_on()
 /// Of two successive reports of events in one epoch, the later goes on where the earlier stopped.
 pub fn successive_reports()
     ensures law { SuccessiveReports }
+{}
+
+/// In a whole session the first report of a subscription answers its request, and each later one
+/// goes on where the last that was written stopped.
+pub fn sessions_are_runs()
+    ensures law { SessionsAreRuns }
 {}
 
 /// While the mark of its mirror is set, each request of a validator is for the inventory.
@@ -148,8 +161,9 @@ pub fn subscriptions_are_listed()
     ensures law { SubscriptionsAreListed }
 {}
 
-/// A subscription waits for the next batch where its report has no room beside others, or where the
-/// answers are as many messages as a batch may have. It ends where its report is too large by itself.
+/// A subscription waits for the next batch where its report has no room beside others, or where
+/// the answers are as many messages as a batch may have. It ends where its report is too large by
+/// itself.
 pub fn subscription_waits()
     ensures law { SubscriptionWaits }
 {}

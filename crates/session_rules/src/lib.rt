@@ -21,8 +21,9 @@
 //! | `Following`, `Taking`, `FollowRules` | the validator: its standing, what it takes, its rules |
 //! | `Transcripts` | octets, record and end of a session, as functions of its turns |
 //! | `Clauses` | what a call says that goes on with a session |
-//! | `Meaning` | what the transcripts mean: one outcome, whole and broken-off sessions |
+//! | `Meaning` | what the transcripts mean: one outcome, whole and broken-off sessions, limits |
 //! | `SubRun` | the run of a subscription's reports, by its place |
+//! | `SubRuns` | these runs in a whole session, by what is written in it |
 //! | `AnySession` | a mirror that follows an honest collector stays right |
 //! | `Wanted` | each request of a validator asks for what its mirror wants |
 //! | `Vectors`, `Worked`, `WorkedFaults`, `WorkedSubscriptions`, `WorkedEnds` | worked sessions |

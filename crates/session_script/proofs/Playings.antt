@@ -23,7 +23,7 @@ use Rattle.session_script.specs.Replay.{Changes, Enters, IsPlayed, Playing, tell
 pub stamp_is : (secs number : ℕ) (made : Result (List ℕ) ClockRange) (text : List ℕ) → secs ≡ number → made ≡ Ok text → IsStampAt secs made → IsStampAt number (Ok text)
 stamp_is secs number made text same is at = subst (λ (k : ℕ). IsStampAt k (Ok text)) same (subst (λ (m : Result (List ℕ) ClockRange). IsStampAt secs m) is at)
 
--- What a call of the world told is printed of a line that does what the call did.
+-- What a call of the world reported is printed of a line that does what the call did.
 pub played : (said : Line) (act : World → Told) (before : PlayingView) (world : WorldView) (told told_after : List Telling) (result : Result (List ℕ) Memory)
     → ((p : Playing) → IsPlayed p said (told_in p.changes (act p.world))) → told ≡ [] → Does act before.world told world told_after → IfOk result (λ (text : List ℕ). text ≡ flat_map telling_line told_after)
     → IfOk result (λ (text : List ℕ). (p : Playing) → StandsFor before p → PlaysSo p said text (record { world = world; changes = before.changes }))
@@ -37,7 +37,7 @@ played said act before world told told_after (Ok text) is none does text_is = λ
     }
 played said act before world told told_after (Err memory) is none does text_is = tt
 
--- A change was entered, and what was told of it is printed of its line.
+-- A change was entered, and what was reported of it is printed of its line.
 entered_text : (said : Line) (stamp : List ℕ) (change : Edit) (before after : PlayingView) (text : List ℕ) → Acts (enters change) before.world after.world text → IsStampAt (before.changes + 1) (Ok stamp)
     → Changes said stamp change → ((p : Playing) → Enters p said (told_in (p.changes + 1) (enters change p.world)) → IsPlayed p said (told_in (p.changes + 1) (enters change p.world)))
     → after.changes ≡ before.changes + 1 → (p : Playing) → StandsFor before p → PlaysSo p said text after

@@ -29,6 +29,6 @@ abbrev pub PlaysOne : Playing → List ℕ → List ℕ → Bool → PlayingView
 PlaysOne p octets out false after out_after = LineIs (words_of octets) None × (out_after ≡ out)
 PlaysOne p octets out true after out_after = (said : Line) × LineIs (words_of octets) (Some said) × ((text : List ℕ) × (out_after ≡ out ++ text) × PlaysSo p said text after)
 
--- What a call of the world told, as it is printed.
+-- What a call of the world reported, as it is printed.
 abbrev pub Acts : (World → Told) → WorldView → WorldView → List ℕ → Type 0
 Acts act before after text = (w : World) → WorldStandsFor before w → WorldStandsFor after (act w).0 × (text ≡ flat_map telling_line (act w).1)

@@ -58,7 +58,7 @@ end_words (end.IdleOut turns) = codes "idle-out" ∷ decimal turns ∷ []
 end_words end.Enough = codes "enough" ∷ []
 end_words end.Memory = codes "memory" ∷ []
 
--- A line of what is told.
+-- A line of what is reported.
 abbrev pub telling_line : Telling → List ℕ
 telling_line (Refused error) = text_line (codes "book" ∷ book_words error)
 telling_line (Took point count answer) = took point count answer

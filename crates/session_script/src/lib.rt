@@ -3,8 +3,8 @@
 //!
 //! It stands on `session_world` for the world that a script changes, on `session_rules` and
 //! `collector_core` for what is printed of ends and refusals, on `command_text` for the lines of
-//! mirrors, and on `validator_core`, `swima_model`, `wire_base` and `hex`. The command `replay` rests
-//! on this clause of `replay_answer`:
+//! mirrors, on `line_words` for the values of words, and on `validator_core`, `swima_model`,
+//! `wire_base` and `hex`. The command `replay` rests on this clause of `replay_answer`:
 //!
 //! - `told`: what is printed, and how it ends, is what `ReplayTells` says of all octets of the input.
 //!
@@ -27,4 +27,3 @@ mod words;
 
 pub use inventory::begin_book;
 pub use script::{MOST_SCRIPT_OCTETS, replay_answer};
-pub use words::number_within;

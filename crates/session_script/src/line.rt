@@ -1,13 +1,14 @@
 //! The lines of a script after the first.
 
 ghost use Rattle.std.specs.Prelude.{◌≡◌, IfOk, map};
-ghost use Rattle.session_script.specs.Script.{IsContent, IsMade, IsShort, LineIs, alone, alters, body_of, creates, epoch_line, numbered, with_number, words_of};
+ghost use Rattle.line_words.specs.Reading.{Finds};
+ghost use Rattle.session_script.specs.Script.{IsContent, LineIs, alone, alters, creates, epoch_line, numbered, with_number, words_of};
 
-use crate::words::{is_word, number_of, words_of};
-use hex::FromHexError;
+use crate::words::{is_word, words_of};
+use line_words::{bounded, read_number, read_octets, read_text};
 use std::alloc::Global;
-use swima_model::{Body, Content, Ident, Locator, LongRefused, Model};
-use wire_base::{Memory, TextRefused, read_escaped};
+use swima_model::{Content, Locator, Model};
+use wire_base::Memory;
 
 /// A line.
 #[derive(Debug, Drop)]
@@ -56,11 +57,11 @@ fn line_of(alloc: Global, words: &[&[u8]]) -> Result<Option<Line>, Memory>
 {
     match words {
         [name] => Ok(alone(name)),
-        [name, number] => Ok(numbered(name, number_of(number))),
+        [name, number] => Ok(numbered(name, read_number(number))),
         [name, ident, digits] => Ok(creates(name, content_of(alloc, ident, digits)?)),
         [name, id, ident, digits] => {
             let content = content_of(alloc, ident, digits)?;
-            Ok(alters(name, number_of(id), content))
+            Ok(alters(name, read_number(id), content))
         }
         _ => Ok(None),
     }
@@ -150,12 +151,15 @@ fn alters(name: &[u8], id: Option<u32>, content: Option<Content>) -> Option<Line
 
 /// The content of a record, by the text of its identifier and the digits of its body.
 fn content_of(alloc: Global, ident: &[u8], digits: &[u8]) -> Result<Option<Content>, Memory>
-    ensures content { IfOk result (λ content. IsContent ident.now digits.now content) }
+    ensures content { Finds (IsContent ident.now digits.now) result }
 {
-    let Some(ident) = ident_of(alloc, ident)? else {
+    let Some(ident) = read_text(alloc, ident)? else {
         return Ok(None);
     };
-    let Some(body) = body_of(alloc, digits)? else {
+    let Some(octets) = read_octets(alloc, digits)? else {
+        return Ok(None);
+    };
+    let Some(body) = bounded(alloc, octets.as_slice())? else {
         return Ok(None);
     };
     Ok(Some(Content {
@@ -165,43 +169,4 @@ fn content_of(alloc: Global, ident: &[u8], digits: &[u8]) -> Result<Option<Conte
         locator: Locator::empty(alloc),
         body,
     }))
-}
-
-/// The identifier whose text the word is.
-fn ident_of(alloc: Global, word: &[u8]) -> Result<Option<Ident>, Memory>
-    ensures ident { IfOk result (λ ident. IsShort 65535 word.now ident) }
-{
-    match read_escaped(alloc, word) {
-        Ok(octets) => within(Ident::new(alloc, octets.as_slice())),
-        Err(TextRefused::Fault { .. }) => Ok(None),
-        Err(TextRefused::Memory) => Err(Memory),
-    }
-}
-
-/// The body whose digits the word is, where a dash is the empty body.
-fn body_of(alloc: Global, word: &[u8]) -> Result<Option<Body>, Memory>
-    ensures body { IfOk result (λ body. body ≡ body_of word.now) }
-{
-    if is_word(word, "-") {
-        return Ok(Some(Body::empty(alloc)));
-    }
-    if word.is_empty() {
-        return Ok(None);
-    }
-    match hex::decode(alloc, word) {
-        Ok(octets) => within(Body::new(alloc, octets.as_slice())),
-        Err(FromHexError::OutOfMemory) => Err(Memory),
-        Err(_) => Ok(None),
-    }
-}
-
-/// What was made, if its octets are within the limit.
-fn within<T>(made: Result<T, LongRefused>) -> Result<Option<T>, Memory>
-    ensures made { IfOk result (λ some. IsMade made some) }
-{
-    match made {
-        Ok(made) => Ok(Some(made)),
-        Err(LongRefused::TooLong { .. }) => Ok(None),
-        Err(LongRefused::Memory) => Err(Memory),
-    }
 }

@@ -14,7 +14,7 @@ use session_world::{Telling, Tellings};
 use std::alloc::Global;
 use wire_base::{List, Memory, Octets};
 
-/// What is told, a line for each.
+/// What is reported, a line for each.
 pub fn told_text(alloc: Global, told: &Tellings) -> Result<Octets, Memory>
     ensures text { IfOk result (λ made. made ≡ flat_map telling_line told.now) }
 {
@@ -26,7 +26,7 @@ pub fn told_text(alloc: Global, told: &Tellings) -> Result<Octets, Memory>
     Ok(out)
 }
 
-/// A line of what is told.
+/// A line of what is reported.
 fn telling_line(alloc: Global, told: Telling) -> Result<Octets, Memory>
     ensures line { IfOk result (λ made. made ≡ telling_line told) }
 {

@@ -4,10 +4,11 @@ ghost use Rattle.std.specs.Prelude.{◌≡◌, ◌==◌, ◌<◌, IfOk, IfSome, 
 ghost use Rattle.std.specs.List.{position};
 ghost use Rattle.std.specs.Option.{option_map};
 ghost use Rattle.std.specs.Str.{bytes_eq};
-ghost use Rattle.session_script.specs.Script.{IsNumber, IsNumberWithin, split_once, within, words_of};
+ghost use Rattle.session_script.specs.Script.{IsNumberWithin, split_once, within, words_of};
 
+use line_words::{Words, read_number};
 use std::alloc::Global;
-use wire_base::{Memory, TextRefused, read_decimal};
+use wire_base::Memory;
 
 /// The octets before the first `separator`, and those after it; `None` where there is none.
 pub fn split_once(octets: &[u8], separator: u8) -> Option<(&[u8], &[u8])>
@@ -27,23 +28,19 @@ fn place_of(octets: &[u8], wanted: u8) -> Option<usize>
     octets.iter().position(|octet| *octet == wanted)
 }
 
-/// The words of a line, which stand between single spaces. No line of a script has more than six:
-/// all after the sixth space is one word more.
+/// The words of a line, which stand between single spaces: at most seven.
 pub fn words_of(alloc: Global, line: &[u8]) -> Result<Vec<&[u8]>, Memory>
-    ensures words { IfOk result (λ words. map (λ word. word.now) words.items ≡ words_of line.now) }
+    ensures words { IfOk result (λ found. map (λ word. word.now) found.items ≡ words_of line.now) }
 {
-    let mut words = Vec::new(alloc);
-    let mut rest = line;
-    for _ in 0..6_u32 {
-        let Some((word, after)) = split_once(rest, b' ') else {
-            words.push(rest)?;
-            return Ok(words);
+    let mut words = Words::new(line);
+    let mut found = Vec::new(alloc);
+    for _ in 0..7_u32 {
+        let Some(word) = words.next() else {
+            return Ok(found);
         };
-        words.push(word)?;
-        rest = after;
+        found.push(word)?;
     }
-    words.push(rest)?;
-    Ok(words)
+    Ok(found)
 }
 
 /// Whether a word is this one.
@@ -53,22 +50,11 @@ pub fn is_word(word: &[u8], wanted: &str) -> bool
     word == wanted.as_bytes()
 }
 
-/// The number that a word is, if it is one.
-pub fn number_of(word: &[u8]) -> Option<u32>
-    ensures number { IsNumber word.now result }
-{
-    match read_decimal(word) {
-        Ok(number) => Some(number),
-        Err(TextRefused::Fault { .. }) => None,
-        Err(TextRefused::Memory) => None,
-    }
-}
-
 /// The number that a word is, if it is one and not below `least` or above `most`.
 pub fn number_within(word: &[u8], least: u32, most: u32) -> Option<u32>
     ensures number { IsNumberWithin least most word.now result }
 {
-    match number_of(word) {
+    match read_number(word) {
         None => None,
         Some(number) => within(number, least, most),
     }

@@ -2,7 +2,7 @@
 use Rattle.std.proofs.Common.{ℕ, List, [], ◌∷◌, inl, inr, sym, subst}
 use Rattle.session_talk.specs.Talk.{Talk, Done, Ask, Write, Note, and_then, each}
 use Rattle.session_talk.specs.Course.{Answers, Gives, Breaks}
-use Rattle.session_talk.specs.Keeping.{Keeps, NotesAre}
+use Rattle.session_talk.specs.Keeping.{BreaksWith, Keeps, NotesAre}
 
 module _ {Q : Type 0} {R : Q → Type 0} {N : Type 0} (given kept : N → Type 0) where
   -- A talk and the talk after it.
@@ -32,18 +32,35 @@ module _ {Q : Type 0} {R : Q → Type 0} {N : Type 0} (given kept : N → Type 0
 
   -- A talk that breaks off.
   pub keeps_breaks : {A : Type 0} (then_so : A → Type 0) (answers : Answers Q R) (last : N) (talk : Talk Q R N A) (places out : List ℕ) (noted : N)
-      → kept last → Keeps given kept then_so talk → NotesAre answers given talk places → Breaks answers last talk places out noted → kept noted
-  keeps_breaks then_so answers last (Done x) places out noted so keeps notes breaks = subst kept (sym breaks.2) so
-  keeps_breaks then_so answers last (Ask question talk) [] out noted so keeps notes breaks = subst kept (sym breaks.2) so
-  keeps_breaks then_so answers last (Ask question talk) (place ∷ places) out noted so keeps notes breaks =
-      keeps_breaks then_so answers last (talk (answers place question)) places out noted so (keeps (answers place question)) notes breaks
-  keeps_breaks then_so answers last (Write octets talk) places out noted so keeps notes breaks =
+      → kept last → Keeps given kept then_so talk → BreaksWith answers given last talk places out noted → kept noted
+  keeps_breaks then_so answers last (Done x) places out noted so keeps breaks = subst kept (sym breaks.2) so
+  keeps_breaks then_so answers last (Ask question talk) [] out noted so keeps breaks = subst kept (sym breaks.2) so
+  keeps_breaks then_so answers last (Ask question talk) (place ∷ places) out noted so keeps breaks =
+      keeps_breaks then_so answers last (talk (answers place question)) places out noted so (keeps (answers place question)) breaks
+  keeps_breaks then_so answers last (Write octets talk) places out noted so keeps breaks =
       elim breaks [
         | inl stops ↦ subst kept (sym stops.2) so
-        | inr goes ↦ keeps_breaks then_so answers last talk places goes.0 noted so keeps notes goes.2
+        | inr goes ↦ keeps_breaks then_so answers last talk places goes.0 noted so keeps goes.2
       ]
-  keeps_breaks then_so answers last (Note note talk) places out noted so keeps notes breaks =
+  keeps_breaks then_so answers last (Note note talk) places out noted so keeps breaks =
       elim breaks [
         | inl stops ↦ subst kept (sym stops.2) so
-        | inr goes ↦ keeps_breaks then_so answers note talk places out noted (keeps notes.0).0 (keeps notes.0).1 notes.1 goes
+        | inr goes ↦ keeps_breaks then_so answers note talk places out noted (keeps goes.0).0 (keeps goes.0).1 goes.1
+      ]
+
+module _ {Q : Type 0} {R : Q → Type 0} {N A : Type 0} (answers : Answers Q R) (given : N → Type 0) where
+  -- Where each note of the whole talk is so, each note is that it made until it broke off.
+  pub breaks_with : (last : N) (talk : Talk Q R N A) (places out : List ℕ) (noted : N) → NotesAre answers given talk places → Breaks answers last talk places out noted → BreaksWith answers given last talk places out noted
+  breaks_with last (Done x) places out noted notes breaks = breaks
+  breaks_with last (Ask question talk) [] out noted notes breaks = breaks
+  breaks_with last (Ask question talk) (place ∷ places) out noted notes breaks = breaks_with last (talk (answers place question)) places out noted notes breaks
+  breaks_with last (Write octets talk) places out noted notes breaks =
+      elim breaks [
+        | inl stops ↦ inl stops
+        | inr goes ↦ inr (goes.0, goes.1, breaks_with last talk places goes.0 noted notes goes.2)
+      ]
+  breaks_with last (Note note talk) places out noted notes breaks =
+      elim breaks [
+        | inl stops ↦ inl stops
+        | inr goes ↦ inr (notes.0, breaks_with note talk places out noted notes.1 goes)
       ]

@@ -134,7 +134,7 @@ drop_within n xs = elim (cases_lt n (length xs)) [
       ap (λ (k : ℕ). drop k xs) same ∙ drop_all (length xs) xs (omega arith) ∙ sym (drop_all n xs (omega (arith, more)))
 ]
 
--- All that was taken later was told.
+-- All that was taken later was reported.
 pub told_all : (told now : List Telling) (index n before : ℕ) (taken slice reports : List TakenValue) → told ≡ now ++ map taken_telling (take index taken) → length taken ≤ index → taken ≡ drop n slice → n ≡ min before (length slice)
     → slice ≡ reports → told ≡ now ++ map taken_telling (drop before reports)
 told_all told now index n before taken slice reports is all back least same =

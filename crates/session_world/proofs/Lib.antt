@@ -5,3 +5,4 @@ pub mod Following
 pub mod Entering
 pub mod Joining
 pub mod Rounds
+pub mod Emptying

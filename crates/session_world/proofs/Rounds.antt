@@ -51,6 +51,14 @@ down_waits_are view w stands = by_joined w.terms w.chronicle w.mirror view.joine
     by_joined terms chronicle mirror (Some v) None by = absurd by
     by_joined terms chronicle mirror (Some v) (Some j) by = sym (down_is terms chronicle mirror v j by (ap (λ (f : List ℕ × Stand). f.0) (following_is terms chronicle mirror v j by)))
 
+-- What waits is read from the session, where one is open, and it is what waits in the world.
+pub waiting : (waits : WorldView → List ℕ) (waits_in : World → List ℕ) → ((view : WorldView) (w : World) → StandsFor view w → waits view ≡ waits_in w)
+    → {joined : Option JoinedView} (inside view : WorldView) (octets : List ℕ) → octets ≡ waits (record inside { joined = joined }) → inside.joined ≡ joined → inside ≡ view
+    → (octets ≡ waits view) × ((w : World) → StandsFor view w → octets ≡ waits_in w)
+waiting waits waits_in are inside view octets is open same =
+    let here : octets ≡ waits view = is ∙ ap (λ (j : Option JoinedView). waits (record inside { joined = j })) (sym open) ∙ ap waits same in
+    (here, λ w stands. here ∙ are view w stands)
+
 -- ---- one line and another, or the same line in other words
 
 pub does_same : (one other : World → Told) (view next : WorldView) (told told_after : List Telling) → ((w : World) → StandsFor view w → one w ≡ other w) → Does one view told next told_after → Does other view told next told_after
@@ -137,7 +145,7 @@ most_rounds = refl
 
 -- ---- a run
 
--- What was told first.
+-- What was reported first.
 abbrev pub ahead : List Telling → Told → Told
 ahead front told = (told.0, front ++ told.1)
 

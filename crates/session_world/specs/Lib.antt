@@ -2,3 +2,4 @@ pub mod World
 pub mod Lines
 pub mod Standing
 pub mod Tellings
+pub mod Meaning

@@ -1,4 +1,4 @@
--- What the lines of a script do to a world, and what is told of each. `waits` and `show` do
+-- What the lines of a script do to a world, and what is reported of each. `waits` and `show` do
 -- nothing: they print what waits and the mirror.
 use Rattle.std.specs.Prelude.{◌-◌, ◌^◌, ◌&&◌, ℕ, zero, suc, Bool, true, false, List, [], ◌∷◌, ◌++◌, Option, Some, None, length, drop, take, map, unwrap_or, nat_lt, if◌then◌else◌}
 use Rattle.wire_base.specs.Turns.{Turn, Idle, turns_of}
@@ -22,7 +22,7 @@ use Rattle.session_world.specs.declared.telling.Telling.{Telling}
 use Rattle.session_world.specs.declared.telling.Telling.TheVariants.{Refused, Took, CollectorEnds, ValidatorEnds}
 use Rattle.session_world.specs.World.{World, Joined, MOST, opened, serve_config, following, collector_end, validator_end, up_waits, down_waits, waits_up, waits_down}
 
--- A world, and what was told on the way to it.
+-- A world, and what was reported on the way to it.
 abbrev pub Told : Type 0
 Told = World × List Telling
 
@@ -56,7 +56,7 @@ cuts w = (record w { joined = None }, [])
 
 -- ---- what the ends hear
 
--- An end tells how it ended, once.
+-- An end reports how it ended, once.
 abbrev pub ends : (SessionEnd → Telling) → Option SessionEnd → List Telling
 ends tell None = []
 ends tell (Some end) = tell end ∷ []

@@ -58,8 +58,8 @@ pub record StandsFor (view : WorldView) (w : World) : Type 0 where
   pub mirror : view.mirror ≡ w.mirror
   pub joined : JoinedBy w.terms w.chronicle w.mirror view.joined w.joined
 
--- For each world that it stood for, it stands for what a line makes of it, and what is told of the
--- line was told after what was told before.
+-- For each world that it stood for, it stands for what a line makes of it, and what is reported of
+-- the line comes after what was reported before.
 abbrev pub Does : (World → Told) → WorldView → List Telling → WorldView → List Telling → Type 0
 Does line before told after told_after = (w : World) → StandsFor before w → StandsFor after (line w).0 × (told_after ≡ told ++ (line w).1)
 

@@ -1,4 +1,4 @@
--- What calls within the crate tell.
+-- What calls within the crate report.
 use Rattle.std.specs.Prelude.{◌≡◌, ◌≢◌, ◌++◌, ◌^◌, ℕ, Bool, true, false, List, [], ◌∷◌, Option, Some, None, Result, Ok, Err, nat_lt, if◌then◌else◌}
 use Rattle.swima_model.specs.declared.report.Report.{Report}
 use Rattle.swima_model.specs.Size.{report_count}
@@ -28,8 +28,8 @@ ended_by (turn.Over by) over = (over ≡ Some by) × (by ≡ end.Memory → ⊥)
 abbrev pub counted : ℕ → Option ℕ
 counted number = if nat_lt number (2 ^ 32) then Some number else None
 
--- What a mirror told of a report that it took once more, and holds then; nothing of one with too
--- many records.
+-- What is reported where a mirror takes a report once more, and what it holds then. Nothing is of
+-- a report with too many records.
 abbrev pub TookBy : Bool → Held → Report → List Telling → Held → List Telling → Type 0
 TookBy true before report told after told_after = (after ≡ (judge before report).1) × (told_after ≡ told ++ Took (point_in report) (report_count report) (judge before report).0 ∷ [])
 TookBy false before report told after told_after = (after ≡ before) × (told_after ≡ told)
@@ -37,7 +37,7 @@ TookBy false before report told after told_after = (after ≡ before) × (told_a
 abbrev pub TookAgain : Held → Report → List Telling → Held → List Telling → Type 0
 TookAgain before report told after told_after = TookBy (nat_lt (report_count report) (2 ^ 32)) before report told after told_after
 
--- What is told of a change, by what came of it. Memory did not run out.
+-- What is reported of a change, by what came of it. Memory did not run out.
 abbrev pub ToldOf : {T : Type 0} → Result T BookError → List Telling → List Telling → Type 0
 ToldOf (Ok value) told told_after = told_after ≡ told
 ToldOf (Err error) told told_after = (error ≢ unmade.Memory) × (told_after ≡ told ++ Refused error ∷ [])

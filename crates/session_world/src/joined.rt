@@ -180,7 +180,7 @@ impl Joined {
         }
     }
 
-    /// Tells the reports that the mirror took, except the first `before`.
+    /// Puts the reports that the mirror took, except the first `before`, at the end of `told`.
     fn tell_taken(&self, before: usize, told: &mut Tellings) -> Result<(), Memory>
         ensures told { OnOk result (told.new ≡ told.old ++ map taken_telling (drop before self.now.follow.end.standing.notes.reports)) }
     {

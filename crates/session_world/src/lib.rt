@@ -7,7 +7,7 @@
 //!
 //! - `begins` of `World::new`: it stands for the world of each chronicle that the book stands for.
 //! - `does` of `enter`, `open`, `cut`, `up`, `down`, `round`, `run`, `idle` and `again`: for each
-//!   world that it stood for, it stands for what the line makes of it, and what is told is told.
+//!   world that it stood for, it stands for what the line makes of it, and reports what that does.
 //! - `waits` of `waiting_up` and `waiting_down`, `session` of `is_open`, and `mirror`: what waits,
 //!   whether a session is open, and what is held.
 //! - `noted` of `run_noting`: the octets that a run carries to the validator.
@@ -19,17 +19,20 @@
 //! | `world.rt` | the world, and a call for each line of a script |
 //! | `joined.rt` | a session in it: both ends |
 //! | `terms.rt` | what its sessions keep to |
-//! | `telling.rt` | what is told of a line |
+//! | `telling.rt` | what is reported of a line |
+//! | `laws.rt` | what the lines mean, proved |
 //!
 //! | file of `specs/` | what it says |
 //! |---|---|
 //! | `World` | the world, and what waits in it |
-//! | `Lines` | what each line does to it, and what is told |
+//! | `Lines` | what each line does to it, and what is reported |
 //! | `Standing` | for which worlds the code stands, and what a call does |
-//! | `Tellings` | what calls within the crate tell |
+//! | `Tellings` | what calls within the crate report |
+//! | `Meaning` | after a run nothing waits |
 #![tactic(auto)]
 
 mod joined;
+pub mod laws;
 mod telling;
 mod terms;
 mod world;

@@ -1,4 +1,4 @@
-//! What is told of the lines of a script.
+//! What is reported of the lines of a script.
 
 use collector_core::BookError;
 use session_rules::SessionEnd;
@@ -6,7 +6,7 @@ use swima_model::Point;
 use validator_core::Taken;
 use wire_base::{List, Memory, TryCopy};
 
-/// What is told of a line.
+/// What is reported of a line.
 #[derive(Clone, Copy, Debug, PartialEq, Eq)]
 pub enum Telling {
     /// The inventory refused the change.
@@ -32,5 +32,5 @@ impl TryCopy for Telling {
     }
 }
 
-/// What is told, in order.
+/// What is reported, in order.
 pub type Tellings = List<Telling>;

@@ -77,7 +77,7 @@ impl World {
         }
     }
 
-    /// Changes the inventory, or tells why it refuses the change.
+    /// Changes the inventory, or reports why it refuses the change.
     pub fn enter(&mut self, edit: Edit<'_>, told: &mut Tellings) -> Result<(), Memory>
         requires stamped { IsStamped edit }
         ensures does { DoesOk (enters edit.entry) self.old told.old self.new told.new result }
@@ -245,7 +245,7 @@ impl World {
     }
 }
 
-/// Tells why the inventory refused a change, if it did, unless memory ran out.
+/// Reports why the inventory refused a change, if it did, unless memory ran out.
 fn tell_refusal(done: Result<Changed, BookError>, told: &mut Tellings) -> Result<(), Memory>
     ensures told { OnOk result (ToldOf done told.old told.new) }
 {

@@ -1,5 +1,4 @@
 pub mod Feeds
-pub mod Wording
 pub mod Finding
 pub mod OneItem
 pub mod LinesOf

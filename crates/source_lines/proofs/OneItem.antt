@@ -4,12 +4,13 @@ use Rattle.swima_model.specs.declared.record.Content.{Content}
 use Rattle.swima_model.specs.declared.record.Model.{Model}
 use Rattle.source_set.specs.Items.{is_failed}
 use Rattle.source_lines.specs.LineItems.{AreDescribed, AreTagged, IsDescribed, IsItem, IsKey, IsTagged, Say, Says, SaysAfter}
-use Rattle.source_lines.specs.Reading.{IsPackage}
-use Rattle.source_lines.specs.Words.{words}
+use Rattle.line_words.specs.Words.{words}
+use Rattle.line_words.proofs.Finding.{one_hex, one_number, one_text}
+use Rattle.source_lines.specs.Package.{IsPackage}
 use Rattle.source_lines.specs.declared.line_item.Keyed.{Keyed}
 use Rattle.source_set.specs.declared.told.Told.{Told}
 use Rattle.source_set.specs.declared.told.Told.TheVariants as told
-use Rattle.source_lines.proofs.Finding.{one_hex, one_key, one_package, one_text}
+use Rattle.source_lines.proofs.Finding.{one_package}
 
 -- ---- one content
 
@@ -29,7 +30,7 @@ one_tagged_of key locator digits one other a b =
     let octets = one_hex digits a.octets b.octets a.hex b.hex in
     let tag = one_package b.octets _ _ (subst (λ (o : List ℕ). IsPackage o (record { ident = one.content.ident; body = one.content.body })) octets a.tag) b.tag in
     record {
-      key = one_key key one.key other.key a.number b.number;
+      key = one_number key one.key other.key a.number b.number;
       content =
           content_same one.content other.content (a.model ∙ sym b.model) (a.source ∙ sym b.source) tag.0
           (one_text 65535 locator one.content.locator other.content.locator a.place b.place) tag.1;
@@ -39,7 +40,7 @@ one_described_of : (key ident locator digits : List ℕ) (one other : Keyed) →
 one_described_of key ident locator digits one other a b =
     let octets = one_hex digits a.octets b.octets a.hex b.hex in
     record {
-      key = one_key key one.key other.key a.number b.number;
+      key = one_number key one.key other.key a.number b.number;
       content =
           content_same one.content other.content (a.model ∙ sym b.model) (a.source ∙ sym b.source)
           (one_text 65535 ident one.content.ident other.content.ident a.name b.name)
@@ -63,7 +64,7 @@ one_described (k ∷ i ∷ l ∷ []) one other a b = absurd a
 one_described (k ∷ i ∷ l ∷ d ∷ more ∷ others) one other a b = absurd a
 
 one_at : (rest : List (List ℕ)) (one other : ℕ) → IsKey rest one → IsKey rest other → one ≡ other
-one_at (word ∷ []) one other a b = one_key word one other a b
+one_at (word ∷ []) one other a b = one_number word one other a b
 one_at [] one other a b = absurd a
 one_at (word ∷ more ∷ others) one other a b = absurd a
 

@@ -5,8 +5,8 @@ use Rattle.std.specs.Prelude.{codes}
 use Rattle.std.specs.Str.{bytes_eq}
 use Rattle.std.proofs.lemmas.Slice.Eq.{bytes_eq-Decides}
 use Rattle.source_lines.specs.LineItems.{IsAlone, IsDescribed, IsGone, IsTagged, Say, Says, SaysAfter, added, changed}
-use Rattle.source_lines.specs.Reading.{Finds, FindsExactly}
-use Rattle.source_lines.specs.Words.{words}
+use Rattle.line_words.specs.Reading.{Finds, FindsExactly}
+use Rattle.line_words.specs.Words.{words}
 use Rattle.source_lines.specs.declared.line_item.Keyed.{Keyed}
 use Rattle.source_set.specs.declared.told.Told.{Told}
 use Rattle.source_set.specs.declared.told.Told.TheVariants as told

@@ -1,4 +1,3 @@
-pub mod Words
-pub mod Reading
+pub mod Package
 pub mod LineItems
 pub mod Lines

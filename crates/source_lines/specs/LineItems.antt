@@ -1,9 +1,8 @@
 -- The items that lines are.
 use Rattle.std.specs.Prelude.{◌≡◌, ◌⊎◌, ◌≤◌, ℕ, List, [], ◌∷◌, codes, length}
-use Rattle.std.specs.Fmt.{decimal}
-use Rattle.wire_base.specs.Texts.{IsU32, Spells}
-use Rattle.source_lines.specs.Reading.{IsHex, IsPackage, IsText, IsWithin}
-use Rattle.source_lines.specs.Words.{words}
+use Rattle.line_words.specs.Reading.{IsHex, IsNumber, IsText, IsWithin}
+use Rattle.line_words.specs.Words.{words}
+use Rattle.source_lines.specs.Package.{IsPackage}
 use Rattle.source_lines.specs.declared.line_item.Keyed.{Keyed}
 use Rattle.source_set.specs.declared.told.Told.{Told}
 use Rattle.source_set.specs.declared.told.Told.TheVariants as told
@@ -13,7 +12,7 @@ use Rattle.source_set.specs.declared.told.Told.TheVariants as told
 -- A key, a locator, and the octets of a tag. The record has the tag's software identifier and its
 -- canonical octets, in the data model of CoSWID tags (RFC 8412, section 3.4.2).
 pub record AreTagged (key locator digits : List ℕ) (keyed : Keyed) : Type 0 where
-  pub number : Spells decimal IsU32 key keyed.key
+  pub number : IsNumber key keyed.key
   pub place : IsText 65535 locator keyed.content.locator
   pub octets : List ℕ
   pub hex : IsHex digits octets
@@ -23,7 +22,7 @@ pub record AreTagged (key locator digits : List ℕ) (keyed : Keyed) : Type 0 wh
 
 -- A key, a software identifier, a locator and a body.
 pub record AreDescribed (key ident locator digits : List ℕ) (keyed : Keyed) : Type 0 where
-  pub number : Spells decimal IsU32 key keyed.key
+  pub number : IsNumber key keyed.key
   pub name : IsText 65535 ident keyed.content.ident
   pub place : IsText 65535 locator keyed.content.locator
   pub octets : List ℕ
@@ -51,7 +50,7 @@ changed keyed = told.Change keyed.key keyed.content
 
 -- The words after `gone` are a key.
 abbrev pub IsKey : List (List ℕ) → ℕ → Type 0
-IsKey (word ∷ []) key = Spells decimal IsU32 word key
+IsKey (word ∷ []) key = IsNumber word key
 IsKey other key = ⊥
 
 -- The first word and those after it say the item.

@@ -2,11 +2,11 @@
 
 ghost use Rattle.std.specs.Prelude.{◌≡◌, List, ℕ, None, Some};
 ghost use Rattle.std.specs.Option.{option_map};
+ghost use Rattle.line_words.specs.Reading.{Finds, FindsExactly};
 ghost use Rattle.source_lines.specs.LineItems.{AreTagged, AreDescribed, IsAlone, IsDescribed, IsGone, IsTagged, Says, added, changed};
-ghost use Rattle.source_lines.specs.Reading.{Finds, FindsExactly};
 
-use crate::reading::{bounded, read_key, read_octets, read_package, read_text};
-use crate::words::Words;
+use crate::package::read_package;
+use line_words::{Words, bounded, read_number, read_octets, read_text};
 use source_set::Told;
 use std::alloc::Global;
 use swima_model::{Content, Model};
@@ -79,7 +79,7 @@ fn of_tag(alloc: Global, words: &mut Words<'_>) -> Result<Option<Keyed>, Memory>
 fn tagged(alloc: Global, key: &[u8], locator: &[u8], digits: &[u8]) -> Result<Option<Keyed>, Memory>
     ensures tag { Finds (AreTagged key.now locator.now digits.now) result }
 {
-    let Some(key) = read_key(key) else {
+    let Some(key) = read_number(key) else {
         return Ok(None);
     };
     let Some(locator) = read_text(alloc, locator)? else {
@@ -129,7 +129,7 @@ fn described(
 ) -> Result<Option<Keyed>, Memory>
     ensures xml { Finds (AreDescribed key.now ident.now locator.now digits.now) result }
 {
-    let Some(key) = read_key(key) else {
+    let Some(key) = read_number(key) else {
         return Ok(None);
     };
     let Some(ident) = read_text(alloc, ident)? else {
@@ -164,7 +164,7 @@ fn of_key(words: &mut Words<'_>) -> Option<Told>
         return None;
     };
     Some(Told::Gone {
-        key: read_key(key)?,
+        key: read_number(key)?,
     })
 }
 

@@ -1,6 +1,5 @@
 -- A source is asked for one item more.
 use Rattle.std.proofs.Common.{◌≡◌, inl, inr, ℕ, ◌+◌, ◌<◌, arith, length, length-append, Bool, true, false, Result, Ok, Err, List, [], ◌∷◌, ◌++◌, Option, None, Some, refl, sym, ap, ◌∙◌, subst, append_assoc}
-use Rattle.std.specs.Prelude.{map}
 use Rattle.std.proofs.lemmas.List.{append-nil, map-append}
 use Rattle.std.proofs.lemmas.Option.{none-some}
 use Rattle.collector_core.specs.declared.chronicle.Mark.{Mark}
@@ -43,7 +42,7 @@ known_more : (keys : List Held) (dones : List Done) (done : Done) → AreKnown k
 known_more keys [] done all is = (is, tt)
 known_more keys (first ∷ dones) done all is = (all.0, known_more (leaves keys first.id first.item) dones done all.1 is)
 
--- So many items were reported and done.
+-- That many items were reported and done.
 module _ {B D : Type 0} (reports : B → List Told → Type 0) (stands : D → Chronicle → Type 0) (went : D → List Mark → D → Type 0) (stamp : List ℕ) where
   abbrev pub SoFar : ℕ → Stand B D → Stand B D → ℕ → Type 0
   SoFar number before middle count = (run : List Told) × (dones : List Done) × (length run ≡ count) × Asked reports stands went stamp number before middle run dones

@@ -1,5 +1,5 @@
 -- Keys put in order of the identifiers of their records.
-use Rattle.std.proofs.Common.{◌≡◌, filter, inl, inr, ℕ, ◌<◌, ◌≤◌, eqb, leb, ltb, cond, not, ◌&&◌, Bool, true, false, List, [], ◌∷◌, length, Less, Equal, Greater, is_lt, nat_cmp, refl, sym, ap, ap₂, ◌∙◌, subst, arith, leb-true, leb-false, eq-eqb, ne_eqb, eqb-true}
+use Rattle.std.proofs.Common.{◌≡◌, filter, inl, inr, ℕ, ◌<◌, ◌≤◌, eqb, leb, ltb, cond, not, ◌&&◌, Bool, true, false, List, [], ◌∷◌, Less, Equal, Greater, is_lt, nat_cmp, refl, sym, ap, ap₂, ◌∙◌, subst, arith, leb-true, leb-false, eq-eqb, ne_eqb, eqb-true}
 use Rattle.std.specs.List.Sorted.{IsNonDecreasingBy, IsStableByKey, ties}
 use Rattle.std.proofs.lemmas.Bool.{cases_lt, cond_both, cond-true, cond-false}
 use Rattle.std.proofs.lemmas.Bool.Decides.{nat_tests}

@@ -1,13 +1,12 @@
 -- Where a call of a source failed, and how its count of faults rose.
-use Rattle.std.proofs.Common.{◌≡◌, ◌≢◌, inl, inr, ℕ, ◌<◌, eqb, Bool, true, false, List, [], Option, None, Some, Result, Ok, Err, get_or, length, set, refl, sym, ap, ◌∙◌, subst, arith, eq-eqb}
-use Rattle.std.specs.Prelude.{◌==◌}
+use Rattle.std.proofs.Common.{◌≡◌, ◌≢◌, inl, inr, ℕ, ◌<◌, Bool, true, false, List, Option, None, Some, Result, Ok, Err, get_or, length, set, refl, sym, ap, ◌∙◌, subst, arith, eq-eqb}
 use Rattle.std.proofs.lemmas.Bool.{cases_eq, ne_eqb}
 use Rattle.std.proofs.lemmas.List.{get_or-set_other, get_or-set_same, get_or_default, length-set}
 use Rattle.wire_base.specs.Outside.{HasCause}
 use Rattle.collector_core.specs.declared.chronicle.Mark.{Mark}
 use Rattle.collector_core.specs.declared.error.BookError.TheVariants as refused
 use Rattle.collector_core.specs.Chronicle.{Chronicle}
-use Rattle.source_set.specs.Asking.{Asks, AsksOnce, Does, HasCauseAt, Hears, Refused, Stand, Stops, asked_failed, is_failure, left_by, numbered, stop_of}
+use Rattle.source_set.specs.Asking.{Asks, HasCauseAt, Hears, Refused, Stand, Stops, asked_failed, is_failure, left_by, numbered, stop_of}
 use Rattle.source_set.specs.Doing.{Place}
 use Rattle.source_set.specs.Items.{is_failed}
 use Rattle.source_set.specs.Sweeping.{HaveCauses}
@@ -15,8 +14,6 @@ use Rattle.source_set.specs.declared.doing.Undone.{Undone}
 use Rattle.source_set.specs.declared.doing.Undone.TheVariants as undone
 use Rattle.source_set.specs.declared.seat.Seat.{Seat}
 use Rattle.source_set.specs.declared.seat.Stop.{Stop}
-use Rattle.source_set.specs.declared.swept.SweepError.{SweepError}
-use Rattle.source_set.specs.declared.swept.SweepError.TheVariants as swept
 use Rattle.source_set.specs.declared.told.Told.{Told}
 use Rattle.source_set.specs.declared.told.Told.TheVariants as told
 

@@ -1,5 +1,5 @@
 -- What a source reports is something to be done, or not.
-use Rattle.std.proofs.Common.{◌≡◌, ℕ, Bool, true, false, List, [], Result, Ok, Err, refl, sym, subst}
+use Rattle.std.proofs.Common.{ℕ, Bool, List, Result, Err, refl, sym, subst}
 use Rattle.collector_core.specs.declared.chronicle.Mark.{Mark}
 use Rattle.collector_core.specs.Chronicle.{Chronicle}
 use Rattle.source_set.specs.Asking.{Hears, IsItem, NoItem, Refused, Stand}

@@ -1,15 +1,12 @@
 -- The keys that a source holds, and what it said of them last.
-use Rattle.std.proofs.Common.{◌≡◌, ◌≢◌, ◌⊎◌, inl, inr, ℕ, ◌+◌, ◌<◌, ◌≤◌, eqb, leb, ltb, cond, Bool, true, false, List, [], ◌∷◌, ◌++◌, Option, None, Some, Less, Equal, Greater, nat_cmp, refl, sym, ap, ap₂, ◌∙◌, subst, arith, eq-eqb, ne_eqb}
-use Rattle.std.specs.List.{fold}
+use Rattle.std.proofs.Common.{◌≡◌, ◌≢◌, inl, inr, ℕ, eqb, leb, ltb, cond, Bool, true, false, List, [], ◌∷◌, None, Some, Less, Equal, Greater, nat_cmp, refl, sym, ap, ◌∙◌, subst, ne_eqb}
 use Rattle.std.specs.Ordering.{is_eq}
 use Rattle.std.specs.declared.cmp.Ordering.{Ordering}
 use Rattle.std.proofs.lemmas.Bool.{cases_eq}
 use Rattle.std.proofs.lemmas.Option.{none-some}
-use Rattle.swima_model.specs.declared.record.Content.{Content}
-use Rattle.source_set.specs.Deeds.{Alters, Creates, Deed, Deletes, GivesUp, deletions}
 use Rattle.source_set.specs.Keys.{Held, by_id, id_at, ids, put, with_key, without}
-use Rattle.source_set.specs.Records.{IsAmong, content_after}
-use Rattle.source_set.proofs.KeyLaws.{find_at, found, itself, leave_at, put_at}
+use Rattle.source_set.specs.Records.{IsAmong}
+use Rattle.source_set.proofs.KeyLaws.{find_at, itself, leave_at, put_at}
 
 -- ---- one key and another
 

@@ -30,7 +30,7 @@ stopped_here (Ok done) number stopped count is less = absurd cc
 stopped_here (Err stop) number stopped count is less = omega (arith, stopped_same stopped number stop is, less)
 
 module _ {B D : Type 0} (reports : B → List Told → Type 0) (stands : D → Chronicle → Type 0) (went : D → List Mark → D → Type 0) (stamp : List ℕ) where
-  -- So many of the sources were asked; whatever the others do then, all were asked in order.
+  -- That many of the sources were asked; whatever the others do then, all were asked in order.
   abbrev pub Leads : ℕ → List (Seat B) → D → Swept → List (Seat B) → D → Swept → Type 0
   Leads count seats first swept now desk counts =
       (later : List (Seat B)) (last : D) (total : Swept) (result : Result Unit Stopped)

@@ -1,5 +1,5 @@
 -- Keys put among others, and taken out again.
-use Rattle.std.proofs.Common.{◌≡◌, ℕ, eqb, ltb, cond, Bool, List, [], ◌∷◌, Option, None, Some, Less, Equal, Greater, nat_cmp, refl, sym, ap, ap₂, ◌∙◌, arith}
+use Rattle.std.proofs.Common.{◌≡◌, ℕ, cond, Bool, List, [], ◌∷◌, None, Some, Less, Equal, Greater, nat_cmp, refl, sym, ap, ap₂, ◌∙◌, arith}
 use Rattle.std.specs.Ordering.{is_eq, match_ordering}
 use Rattle.std.specs.declared.cmp.Ordering.{Ordering}
 use Rattle.std.proofs.lemmas.Bool.{le-ltb, eq-eqb}

@@ -1,12 +1,11 @@
 -- Each key that a source holds has its record, and no other record of the source is left.
-use Rattle.std.proofs.Common.{◌≡◌, ◌≢◌, ◌⊎◌, inl, inr, filter, ℕ, ◌+◌, ◌<◌, ◌≤◌, max, length, cond, Bool, true, false, List, [], ◌∷◌, ◌++◌, Option, None, Some, refl, sym, ap, ◌∙◌, subst, arith, append_assoc}
+use Rattle.std.proofs.Common.{◌≡◌, ◌⊎◌, inl, inr, filter, ℕ, ◌+◌, ◌≤◌, max, length, cond, Bool, true, false, List, [], ◌∷◌, ◌++◌, Option, None, Some, refl, sym, ap, ◌∙◌, subst, arith}
 use Rattle.std.specs.List.{fold}
 use Rattle.std.specs.Option.{option_map}
 use Rattle.std.proofs.lemmas.List.Sums.{fold-append}
 use Rattle.std.proofs.lemmas.Option.{none-some}
 use Rattle.swima_model.specs.declared.event.Action.{Action}
 use Rattle.swima_model.specs.declared.event.Action.TheVariants.{Alteration, Creation, Deletion}
-use Rattle.swima_model.specs.declared.event.Event.{Event}
 use Rattle.swima_model.specs.declared.record.Content.{Content}
 use Rattle.swima_model.specs.declared.record.Record.{Record}
 use Rattle.swima_model.specs.Live.{record_of}
@@ -23,10 +22,10 @@ use Rattle.source_set.specs.Asking.{AreKnown, items_of}
 use Rattle.source_set.specs.Deeds.{Alters, Creates, Deed, Deletes, Done, GivesUp, Make, added_to, addition, alteration, deeds, deletion, deletions, does, gives_up, keys_after, leaves}
 use Rattle.source_set.specs.Doing.{IsKnown}
 use Rattle.source_set.specs.Keys.{Held, by_id, id_at, without}
-use Rattle.source_set.specs.Records.{AreRecorded, IsAmong, KeysAreRecorded, as_record, content_after, created, told_after}
+use Rattle.source_set.specs.Records.{IsAmong, KeysAreRecorded, as_record, content_after, created, told_after}
 use Rattle.source_set.specs.declared.told.Told.{Told}
 use Rattle.source_set.specs.declared.told.Told.TheVariants as told
-use Rattle.source_set.proofs.Recording.{First, Fresh, MakesOne, deeds_are_recorded, first, further, known_record}
+use Rattle.source_set.proofs.Recording.{Fresh, MakesOne, deeds_are_recorded, first, further, known_record}
 use Rattle.source_set.proofs.Reflecting.{Reflects, altered_key, created_key, deleted_key, ended_keys}
 
 -- ---- the number after deeds

@@ -6,6 +6,7 @@ pub mod Asked
 pub mod Hearing
 pub mod Causing
 pub mod InOrder
+pub mod Whole
 pub mod Recording
 pub mod HeldKeys
 pub mod Reflecting

@@ -1,20 +1,19 @@
 -- An item of a source is done by the changes that it asks for.
 use Rattle.std.proofs.Common.{◌≡◌, ℕ, ◌+◌, ◌<◌, List, [], ◌∷◌, ◌++◌, Option, None, Some, Result, Ok, Err, length, take, drop, get_or, refl, sym, ap, ◌∙◌, subst}
-use Rattle.std.specs.Prelude.{map}
 use Rattle.std.proofs.lemmas.List.{append-nil, drop_more, map-append, take_more}
 use Rattle.swima_model.specs.declared.record.Content.{Content}
 use Rattle.collector_core.specs.declared.chronicle.Mark.{Mark}
 use Rattle.collector_core.specs.declared.error.BookError.{BookError}
 use Rattle.collector_core.specs.Chronicle.{Chronicle, extended}
-use Rattle.collector_core.specs.Desks.{State, alters_not, creates_not, deletes_not, entries}
-use Rattle.source_set.specs.Deeds.{Alters, Creates, Deed, Deletes, added_to, addition, alteration, deletion, deletions}
-use Rattle.source_set.specs.Doing.{CreatesOne, Once, Performs, Place, Refuses, Works, addition_not, alteration_not, deletion_not, first_not}
+use Rattle.collector_core.specs.Desks.{alters_not, creates_not, deletes_not, entries}
+use Rattle.source_set.specs.Deeds.{Alters, Deletes, added_to, addition, alteration, deletion, deletions}
+use Rattle.source_set.specs.Doing.{CreatesOne, Once, Performs, Refuses, Works, addition_not, alteration_not, deletion_not, first_not}
 use Rattle.source_set.specs.Keys.{Held, by_id, id_at, with_key, without, without_all}
 use Rattle.source_set.specs.declared.doing.Undone.{Undone}
 use Rattle.source_set.specs.declared.doing.Undone.TheVariants as undone
 use Rattle.source_set.specs.declared.swept.Swept.{Swept}
 use Rattle.source_set.specs.declared.told.Told.TheVariants as told
-use Rattle.source_set.proofs.Working.{works_more, works_none}
+use Rattle.source_set.proofs.Working.{works_more}
 
 module _ {D : Type 0} (stands : D → Chronicle → Type 0) (went : D → List Mark → D → Type 0) (stamp : List ℕ)
     (stays : (desk : D) → went desk [] desk)

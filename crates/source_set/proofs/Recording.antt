@@ -1,11 +1,9 @@
 -- What deeds leave of the record of an identifier.
-use Rattle.std.proofs.Common.{◌≡◌, inl, inr, filter, ℕ, ◌+◌, ◌<◌, ◌≤◌, eqb, cond, Bool, true, false, List, [], ◌∷◌, ◌++◌, Option, None, Some, refl, sym, ap, ◌∙◌, subst, arith, append_assoc, eq-eqb, ne_eqb, eqb-true}
-use Rattle.std.specs.Prelude.{◌==◌}
+use Rattle.std.proofs.Common.{◌≡◌, inl, inr, filter, ℕ, ◌+◌, ◌≤◌, eqb, cond, Bool, true, false, List, [], ◌∷◌, ◌++◌, Option, None, Some, refl, sym, ap, ◌∙◌, append_assoc, eq-eqb, ne_eqb, eqb-true}
 use Rattle.std.specs.List.{fold}
 use Rattle.std.specs.Option.{option_map}
 use Rattle.std.proofs.lemmas.Bool.{cases_eq}
 use Rattle.std.proofs.lemmas.List.{append-nil}
-use Rattle.swima_model.specs.declared.event.Action.{Action}
 use Rattle.swima_model.specs.declared.event.Event.{Event}
 use Rattle.swima_model.specs.declared.record.Content.{Content}
 use Rattle.swima_model.specs.declared.record.Record.{Record}
@@ -18,10 +16,10 @@ use Rattle.swima_model.specs.History.{Epoch}
 use Rattle.swima_model.specs.Live.{live}
 use Rattle.collector_core.specs.Chronicle.{Chronicle, current, epoch_after, extended, live_now}
 use Rattle.collector_core.specs.Desks.{entries, owned}
-use Rattle.collector_core.specs.Standing.{IsDeletion, alteration, creation, deletion}
+use Rattle.collector_core.specs.Standing.{alteration, creation, deletion}
 use Rattle.collector_core.proofs.Chronicles.{current_more}
 use Rattle.source_set.specs.Deeds.{Alters, Creates, Deed, Deletes, GivesUp, Make}
-use Rattle.source_set.specs.Records.{DeedsAreRecorded, IsOf, LeftAlone, as_record, content_after, created}
+use Rattle.source_set.specs.Records.{DeedsAreRecorded, IsOf, LeftAlone, as_record, content_after}
 
 abbrev named : ℕ → Content → Record
 named id content = record { id = id; content = content }

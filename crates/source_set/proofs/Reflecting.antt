@@ -1,19 +1,14 @@
 -- What the keys of a source say of the records that its deeds leave.
-use Rattle.std.proofs.Common.{◌≡◌, ◌≢◌, ◌⊎◌, inl, inr, ℕ, ◌+◌, ◌<◌, ◌≤◌, eqb, cond, Bool, true, false, List, [], ◌∷◌, ◌++◌, Option, None, Some, refl, sym, ap, ◌∙◌, subst, arith, eq-eqb, ne_eqb}
-use Rattle.std.specs.Prelude.{map}
+use Rattle.std.proofs.Common.{◌≡◌, ◌≢◌, ◌⊎◌, inl, inr, ℕ, ◌+◌, ◌<◌, ◌≤◌, eqb, cond, Bool, true, false, List, [], ◌∷◌, Option, None, Some, refl, sym, ap, ◌∙◌, arith, eq-eqb, ne_eqb}
 use Rattle.std.specs.List.{fold}
 use Rattle.std.proofs.lemmas.Bool.{cases_eq}
 use Rattle.std.proofs.lemmas.Option.{none-some}
 use Rattle.swima_model.specs.declared.record.Content.{Content}
-use Rattle.source_set.specs.Deeds.{Alters, Creates, Deed, Deletes, GivesUp, addition, added_to, alteration, deletion, deletions, does, gives_up, leaves}
-use Rattle.source_set.specs.Doing.{IsKnown}
+use Rattle.source_set.specs.Deeds.{Deletes, deletions}
 use Rattle.source_set.specs.Keys.{Held, by_id, id_at, ids, with_key, without}
-use Rattle.source_set.specs.Records.{IsAmong, content_after, created, told_after}
-use Rattle.source_set.specs.declared.told.Told.{Told}
-use Rattle.source_set.specs.declared.told.Told.TheVariants as told
+use Rattle.source_set.specs.Records.{IsAmong, content_after}
 use Rattle.source_set.proofs.HeldKeys.{Once, gone_without, key_sorted, once_put, once_without, other_put, other_without}
 use Rattle.source_set.proofs.KeyLaws.{found}
-use Rattle.source_set.proofs.Recording.{Fresh}
 
 -- A source holds these keys, said this of each key, and its deeds leave this of each identifier.
 -- The identifiers that were made are below a number.

@@ -1,8 +1,7 @@
 -- How a source is asked, and what is done of what it reports.
-use Rattle.std.specs.Prelude.{◌≡◌, ◌==◌, ◌<◌, ◌≤◌, ◌⊎◌, ℕ, Bool, true, false, List, [], ◌∷◌, ◌++◌, Option, Some, None, Result, Ok, Err, length, map}
+use Rattle.std.specs.Prelude.{◌≡◌, ◌==◌, ◌<◌, ◌⊎◌, ℕ, Bool, true, false, List, [], ◌∷◌, ◌++◌, Option, Some, None, Result, Ok, Err, length, map}
 use Rattle.wire_base.specs.Outside.{HasCause}
 use Rattle.collector_core.specs.declared.chronicle.Mark.{Mark}
-use Rattle.collector_core.specs.declared.error.BookError.{BookError}
 use Rattle.collector_core.specs.declared.error.BookError.TheVariants as refused
 use Rattle.collector_core.specs.Chronicle.{Chronicle}
 use Rattle.source_set.specs.Deeds.{Done, deeds, does, gives_up, keys_after, leaves}

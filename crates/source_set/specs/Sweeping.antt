@@ -3,7 +3,9 @@ use Rattle.std.specs.Prelude.{◌≡◌, ◌+◌, ◌<◌, ◌⊎◌, ℕ, Bool,
 use Rattle.std.specs.Option.{option_map}
 use Rattle.collector_core.specs.declared.chronicle.Mark.{Mark}
 use Rattle.collector_core.specs.Chronicle.{Chronicle}
-use Rattle.source_set.specs.Asking.{Asks, HasCauseAt, Tries, asked_failed, is_failure, stand}
+use Rattle.source_set.specs.Asking.{Asks, HasCauseAt, Tries, is_failure, stand}
+use Rattle.source_set.specs.Deeds.{Deed}
+use Rattle.source_set.specs.Doing.{Works}
 use Rattle.source_set.specs.declared.seat.Seat.{Seat}
 use Rattle.source_set.specs.declared.seat.Stop.{Stop}
 use Rattle.source_set.specs.declared.set.Kept.{Kept}
@@ -121,3 +123,8 @@ module _ {B D : Type 0} (reports : B → List Told → Type 0) (stands : D → C
   Sweeps before after desk left swept (Ok done) = SweepsSeats before.kept (row before.seats desk nothing) (row after.seats left swept) (Ok tt) × (after.kept ≡ None)
   Sweeps before after desk left swept (Err why) = (stopped : Stopped) × SweepsSeats before.kept (row before.seats desk nothing) (row after.seats left swept) (Err stopped)
       × (why ≡ stopped.stop.error) × (after.kept ≡ kept_of stopped.source stopped.stop.item)
+
+  -- All that a sweep did was done one after another, and counted: of the entries that came
+  -- meanwhile, the desk's own are those of these deeds, in order.
+  abbrev pub WorksInAll : D → D → Swept → Type 0
+  WorksInAll before after swept = (deeds : List Deed) × Works stands went stamp before after nothing swept deeds

@@ -3,7 +3,7 @@
 ghost use Rattle.std.specs.Prelude.{◌≡◌, ◌≤◌, true, IfOk, length};
 ghost use Rattle.wire_base.specs.Outside.{HasCause};
 ghost use Rattle.wire_base.specs.Stamp.{IsStamp};
-ghost use Rattle.source_set.specs.Sweeping.{AsksAll, DoesKept, HaveCauses, IsSeated, Sweeps, SweepsSeats, fresh, is_failed_at, is_source_failed, kept_of, row, seated, stopped_failed, sweep_failed};
+ghost use Rattle.source_set.specs.Sweeping.{AsksAll, DoesKept, HaveCauses, IsSeated, Sweeps, SweepsSeats, WorksInAll, fresh, is_failed_at, is_source_failed, kept_of, row, seated, stopped_failed, sweep_failed};
 
 use crate::keys::Keys;
 use crate::seat::{Seat, Stop, ask, do_item};
@@ -77,6 +77,7 @@ impl<S: TagSource> Sources<S> {
         requires stamp { IsStamp stamp.now }
         ensures swept { Sweeps S.reports D.stands D.went stamp.now
             self.old self.new desk.old desk.new result.0 result.1 }
+        ensures works { WorksInAll S.reports D.stands D.went stamp.now desk.old desk.new result.0 }
         ensures causes { HaveCauses S.faults self.old.seats self.new.seats
             (λ number. is_failed_at number result.1) }
         ensures cause { HasCause self.old.faults self.new.faults (sweep_failed result.1) }

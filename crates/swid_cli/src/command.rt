@@ -4,8 +4,8 @@ ghost use Rattle.std.specs.Prelude.{◌≡◌, ◌↔◌, IsSome, IfSome, map};
 ghost use Rattle.swid_cli.specs.Commands.{Says};
 ghost use Rattle.swid_cli.specs.Words.{IsCommandLine};
 
+use line_words::read_number;
 use session_day::{FEWEST_PACKAGES, MOST_PACKAGES};
-use session_script::number_within;
 use swima_model::Kind;
 
 /// A command that waits for nobody.
@@ -48,8 +48,10 @@ pub(crate) fn command_of(words: &[&str]) -> Option<Command>
 
 /// `make` with the count of packages that a word is, if it is one.
 fn make_of(word: &str) -> Option<Command> {
-    match number_within(word.as_bytes(), FEWEST_PACKAGES, MOST_PACKAGES) {
-        Some(count) => Some(Command::Make(count)),
-        None => None,
+    match read_number(word.as_bytes()) {
+        Some(count) if FEWEST_PACKAGES <= count && count <= MOST_PACKAGES => {
+            Some(Command::Make(count))
+        }
+        _ => None,
     }
 }

@@ -17,8 +17,8 @@ pub fn subs_stay()
     ensures law { SubsStay }
 {}
 
-/// Where the point of the same epoch is later than a place, events are asked for from the next event
-/// identifier on.
+/// Where the point of the same epoch is later than a place, events are asked for from the next
+/// event identifier on.
 pub fn next_is_after()
     ensures law { NextIsAfter }
 {}

@@ -58,8 +58,8 @@ impl Subs {
         self.held.is_empty()
     }
 
-    /// The subscription at a place, counted from 0; `None` exactly where fewer are held. It takes no
-    /// memory.
+    /// The subscription at a place, counted from 0; `None` exactly where fewer are held. It takes
+    /// no memory.
     pub fn get(&self, index: usize) -> Option<&Waiting>
         ensures item { option_copied result ≡ slice_get self.now index }
     {
@@ -76,8 +76,8 @@ impl Subs {
     /// A request: it ends all subscriptions first where it has the flag Clear Subscriptions, and
     /// establishes one where it has the flag Subscribe (RFC 8412, sections 3.8.1 and 3.8.3).
     ///
-    /// `Reused` comes exactly where the ID is held then, and `Denied` exactly where it is not and 16
-    /// are held. At `Memory` no subscription is established; those that were ended stay so.
+    /// `Reused` comes exactly where the ID is held then, and `Denied` exactly where it is not and
+    /// 16 are held. At `Memory` no subscription is established; those that were ended stay so.
     pub fn apply(&mut self, request: &Request) -> SubAnswer
         ensures applied { Applied self.old request.now result self.new }
     {
@@ -138,8 +138,8 @@ impl Subs {
         Ok(())
     }
 
-    /// The subscription of the ID was fulfilled up to a point (RFC 8412, section 3.8.5). It takes no
-    /// memory.
+    /// The subscription of the ID was fulfilled up to a point (RFC 8412, section 3.8.5). It takes
+    /// no memory.
     pub fn reported(&mut self, id: u32, point: Point)
         ensures reported { self.new ≡ reported self.old id point }
     {

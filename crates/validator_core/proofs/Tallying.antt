@@ -70,7 +70,7 @@ module _ (base : List Record) (before : List Event) (event : Event) (now : Tally
       ap (λ (n : ℕ). length (but event.subject.id (live base before)) + n) (e ∙ ap (λ (o : Option Record). length (option_to_list o)) found)
       ∙ count_of_one event.subject.id (live base before) rises ∙ sym is.count
 
-  pub gone_octets : (gone : ℕ) → gone ≡ records_octets (option_to_list held) → records_octets (but event.subject.id (live base before)) + gone ≡ now.octets
+  pub gone_octets : (gone : ℕ) → gone ≡ records_octets (option_to_list held) → records_octets (but event.subject.id (live base before)) + gone ≡ now.octet_count
   gone_octets gone e =
       ap (λ (n : ℕ). records_octets (but event.subject.id (live base before)) + n) (e ∙ ap (λ (o : Option Record). records_octets (option_to_list o)) found)
       ∙ octets_of_one event.subject.id (live base before) rises ∙ sym is.octets
@@ -90,7 +90,7 @@ module _ (base : List Record) (before : List Event) (event : Event) (now : Tally
       (mentions : (id : ℕ) → get nat_cmp after.mentions id ≡ cond (is_at (nat_cmp event.subject.id) id) (Some put) (get nat_cmp now.mentions id))
       (come gone : ℕ × ℕ) (came : (come.0 ≡ length (option_to_list (by_mention None (Some event)))) × (come.1 ≡ records_octets (option_to_list (by_mention None (Some event)))))
       (went : (gone.0 ≡ length (option_to_list held)) × (gone.1 ≡ records_octets (option_to_list held)))
-      (count : after.count + gone.0 ≡ now.count + come.0) (octets : after.octets + gone.1 ≡ now.octets + come.1) where
+      (count : after.count + gone.0 ≡ now.count + come.0) (octets : after.octet_count + gone.1 ≡ now.octet_count + come.1) where
     more : live (live base before) (event ∷ []) ≡ live base (before ++ event ∷ [])
     more = live_more base before (event ∷ []) (base_rises base before now is)
 
@@ -125,7 +125,7 @@ module _ (base : List Record) (before : List Event) (event : Event) (now : Tally
       );
     }
 
-    pub fit : (said : Option Taken) → false ≡ is_contradiction event.action held event.subject.content → said ≡ too_many after.count after.octets → Follows base before event said after
+    pub fit : (said : Option Taken) → false ≡ is_contradiction event.action held event.subject.content → said ≡ too_many after.count after.octet_count → Follows base before event said after
     fit said e large = (
       large
           ∙ ap₂ too_many tally_after.count tally_after.octets
@@ -136,7 +136,7 @@ module _ (base : List Record) (before : List Event) (event : Event) (now : Tally
 -- ---- none yet
 
 pub begins : (base : List Record) (tally : Tally) → AreKeyed tally.records.now.entries → values tally.records.now ≡ base → ((id : ℕ) → get nat_cmp tally.mentions id ≡ None)
-    → tally.count ≡ length base → tally.octets ≡ records_octets base → IsTally base [] tally
+    → tally.count ≡ length base → tally.octet_count ≡ records_octets base → IsTally base [] tally
 begins base tally keyed is none count octets =
     let up : IsStrictlyIncreasing (ids base) = subst (λ (rs : List Record). IsStrictlyIncreasing (ids rs)) is keyed.rising in
     record {
@@ -187,7 +187,7 @@ module _ (eid : ℕ) (events : List Event) (i : ℕ) (event : Event) (within : i
 -- ---- what a mirror has then
 
 pub weighed_after : (base : List Record) (events : List Event) (tally : Tally) (entries : Entries) → IsTally base events tally → AreFew tally → AreKeyed entries
-    → values_of entries ≡ live base events → AreWeighed entries tally.octets
+    → values_of entries ≡ live base events → AreWeighed entries tally.octet_count
 weighed_after base events tally entries is few keyed lives = record {
   keyed = keyed;
   few = omega (arith, few.0, is.count, ap (λ (rs : List Record). length rs) lives, length-map entries (λ (e : ℕ × Record). e.1));

@@ -21,7 +21,7 @@ pub record IsTally (base : List Record) (before : List Event) (tally : Tally) : 
   pub records : values tally.records.now ≡ base
   pub mentions : (id : ℕ) → option_copied (get nat_cmp tally.mentions id) ≡ last_mention id before
   pub count : tally.count ≡ length (live base before)
-  pub octets : tally.octets ≡ records_octets (live base before)
+  pub octets : tally.octet_count ≡ records_octets (live base before)
 
 -- What is said where that many records, or that many octets of them, are too many.
 abbrev pub too_many : ℕ → ℕ → Option Taken
@@ -29,7 +29,7 @@ too_many count octets = if is_large count octets then Some (taken.Large count oc
 
 -- Few enough to be counted in 64 bits with one more.
 abbrev pub AreFew : Tally → Type 0
-AreFew tally = (tally.count ≤ 65536) × (tally.octets ≤ 2 ^ 40)
+AreFew tally = (tally.count ≤ 65536) × (tally.octet_count ≤ 2 ^ 40)
 
 -- What was said of an event after those before it, over a tally of what is live there, is its
 -- misfit; and where that is nothing, the tally is of what is live after it.

@@ -85,7 +85,7 @@ pub struct Mirror {
     kind: Kind,
     point: Option<Point>,
     records: Keyed,
-    octets: u64,
+    octet_count: u64,
     off: bool,
 }
 
@@ -98,7 +98,7 @@ impl Model for Mirror {
 
     ghost view = { λ mirror. record { kind = mirror.kind; point = mirror.point; records = values mirror.records; off = mirror.off } };
 
-    ghost invariant = { λ mirror. AreWeighed mirror.records.entries mirror.octets };
+    ghost invariant = { λ mirror. AreWeighed mirror.records.entries mirror.octet_count };
 }
 
 impl Mirror {
@@ -110,7 +110,7 @@ impl Mirror {
             kind,
             point: None,
             records: IndexMap::new(alloc),
-            octets: 0,
+            octet_count: 0,
             off: false,
         }
     }

@@ -28,13 +28,13 @@ pub(crate) struct Tally<'a> {
     records: &'a Keyed,
     mentions: BTreeMap<u32, &'a Event>,
     count: usize,
-    octets: u64,
+    octet_count: u64,
 }
 
 impl<'a> Tally<'a> {
     /// The tally of `records`, which have that many octets, before any event. It takes no memory.
-    pub(crate) fn new(alloc: Global, records: &'a Keyed, octets: u64) -> Self
-        requires weighed { AreWeighed records.now.entries octets }
+    pub(crate) fn new(alloc: Global, records: &'a Keyed, octet_count: u64) -> Self
+        requires weighed { AreWeighed records.now.entries octet_count }
         ensures begins { IsTally (values result.records.now) [] result }
         ensures records { result.records.now.entries ≡ records.now.entries }
         ensures few { AreFew result }
@@ -43,15 +43,15 @@ impl<'a> Tally<'a> {
             records,
             mentions: BTreeMap::new(alloc),
             count: records.len(),
-            octets,
+            octet_count,
         }
     }
 
     /// How many octets the records have that are live.
-    pub(crate) fn into_octets(self) -> u64
-        ensures octets { result ≡ self.entry.octets }
+    pub(crate) fn into_octet_count(self) -> u64
+        ensures octets { result ≡ self.entry.octet_count }
     {
-        self.octets
+        self.octet_count
     }
 
     /// Follows an event that fits, or gives what is to be said of one that does not.
@@ -70,7 +70,7 @@ impl<'a> Tally<'a> {
         let come = weight(said(event));
         self.mentions.insert(event.subject.id, event)?;
         self.count = self.count + come.0 - gone.0;
-        self.octets = self.octets + come.1 - gone.1;
+        self.octet_count = self.octet_count + come.1 - gone.1;
         Ok(self.too_large())
     }
 
@@ -89,12 +89,12 @@ impl<'a> Tally<'a> {
     /// What is said where too much is live.
     fn too_large(&self) -> Option<Taken>
         requires few { self.now.count < 2 ^ 32 }
-        ensures large { result ≡ too_many self.now.count self.now.octets }
+        ensures large { result ≡ too_many self.now.count self.now.octet_count }
     {
-        if is_large(self.count, self.octets) {
+        if is_large(self.count, self.octet_count) {
             return Some(Taken::Large {
                 count: self.count as u32,
-                octets: self.octets,
+                octets: self.octet_count,
             });
         }
         None

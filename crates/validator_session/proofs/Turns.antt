@@ -14,7 +14,7 @@ use Rattle.session_rules.specs.FollowRules.{Follows, cut_off, idles, react, step
 use Rattle.session_rules.specs.Taking.{NoQuestion, NoReply}
 use Rattle.session_rules.specs.declared.config.FollowConfig.{FollowConfig}
 use Rattle.validator_session.specs.declared.inner.Inner.{Inner as Core}
-use Rattle.validator_session.specs.Core.{Turned, over_of, received_of}
+use Rattle.validator_session.specs.Core.{StandsOn, Turned, over_of, received_of}
 use Rattle.validator_session.specs.Standing.{notes_of, stand_of}
 use Rattle.validator_session.proofs.Coring.{falls, lost_one, moved, no_octets, says_one, stands}
 
@@ -58,11 +58,10 @@ module _ (core next : Core) (here : Held) (live : is_some (over_of core) ≡ fal
       over sent (received ∙ stood.received ∙ sym (no_octets turns (Idle ∷ []) refl))
       )
 
-  pub cut_stood : is_some (over_of next) ≡ true → next.end.out ≡ core.end.out → stand_of next.end.standing here ≡ cut_off before (length core.feed.feeding.octets) → Turned core here (Ended ∷ []) next here
-  cut_stood over out same mirror turns carried stood = inl (
+  pub cut_stood : is_some (over_of next) ≡ true → next.end.out ≡ core.end.out → stand_of next.end.standing here ≡ cut_off before (length core.feed.feeding.octets) → StandsOn core here (Ended ∷ []) next here
+  cut_stood over out same mirror turns carried stood =
       stands core.end.config mirror turns (Ended ∷ []) carried core here stood live next here
       (says_one core.end.config (carried ++ core.end.out) (carried ++ next.end.out) before (stand_of next.end.standing here) (Cut (length core.feed.feeding.octets))
       (stepped Ended (Cut (length core.feed.feeding.octets)) (record { out = []; is = out ∙ sym (append-nil core.end.out); gives = λ replies. (refl, refl, same) }) carried))
       (λ on. let lost : true ≡ false = sym over ∙ on in absurd cc)
       sent (received ∙ stood.received ∙ sym (no_octets turns (Ended ∷ []) refl))
-      )

@@ -74,6 +74,11 @@ pub record Fell (c : FollowConfig) (mirror : Held) (turns : List Turn) (carried 
   pub sent : core.end.standing.notes.record.sent ≡ counted_octets carried
   pub received : received_of core ≡ octets_in turns
 
+-- Wherever it stood, it stands after further turns.
+abbrev pub StandsOn : Core → Held → List Turn → Core → Held → Type 0
+StandsOn old before more new after = (mirror : Held) (turns : List Turn) (carried : List ℕ) → Stood old.end.config mirror turns carried old before
+    → Stood old.end.config mirror (turns ++ more) carried new after
+
 -- Wherever it stood, it stands after further turns, or memory ran out.
 abbrev pub Turned : Core → Held → List Turn → Core → Held → Type 0
 Turned old before more new after = (mirror : Held) (turns : List Turn) (carried : List ℕ) → Stood old.end.config mirror turns carried old before

@@ -4,7 +4,7 @@ ghost use Rattle.std.specs.Prelude.{◌≡◌, ◌<◌, ◌≤◌, ◌-◌, ◌+
 ghost use Rattle.std.specs.Option.{option_copied};
 ghost use Rattle.session_rules.specs.declared.end.Turn.TheVariants as comes;
 ghost use Rattle.validator_core.specs.Held.{Held};
-ghost use Rattle.validator_session.specs.Core.{Fell, Rests, Stood, Turned, over_of, received_of, turn_of, weight};
+ghost use Rattle.validator_session.specs.Core.{Fell, Rests, StandsOn, Stood, Turned, over_of, received_of, turn_of, weight};
 ghost use Rattle.validator_session.specs.Noting.{IsNoted};
 ghost use Rattle.wire_base.specs.Turns.{Ended, Idle, Turn as LinkTurn, turns_of};
 
@@ -82,7 +82,7 @@ impl FollowCore {
 
     /// Hears that the link has ended.
     pub fn link_ended(&mut self) -> SessionEnd
-        ensures turned { (mirror : Held) → is_some (over_of self.old) ≡ false → Turned self.old mirror (Ended ∷ []) self.new mirror }
+        ensures stood { (mirror : Held) → is_some (over_of self.old) ≡ false → StandsOn self.old mirror (Ended ∷ []) self.new mirror }
         ensures rests { (mirror : Held) → Rests self.old mirror (comes.Over result) self.new mirror }
         ensures over { over_of self.new ≡ Some result }
         ensures config { self.new.end.config ≡ self.old.end.config }

@@ -5,7 +5,7 @@ ghost use Rattle.std.specs.Option.{option_copied};
 ghost use Rattle.session_rules.specs.declared.end.SessionEnd.TheVariants as end;
 ghost use Rattle.session_rules.specs.declared.end.Turn.TheVariants as comes;
 ghost use Rattle.validator_core.specs.Held.{Held};
-ghost use Rattle.validator_session.specs.Core.{Fell, IsCore, Rests, Stood, Turned, over_of, received_of, spends, turn_of, weight};
+ghost use Rattle.validator_session.specs.Core.{Fell, IsCore, Rests, StandsOn, Stood, Turned, over_of, received_of, spends, turn_of, weight};
 ghost use Rattle.wire_base.specs.Turns.{Ended, Idle, Turn as LinkTurn, turns_of};
 
 use crate::counts::{octets_more, one_more};
@@ -148,7 +148,7 @@ impl Inner {
     /// Hears that the link has ended.
     pub(crate) fn link_ended(&mut self) -> SessionEnd
         requires core { IsCore self.old }
-        ensures turned { (mirror : Held) → is_some (over_of self.old) ≡ false → Turned self.old mirror (Ended ∷ []) self.new mirror }
+        ensures stood { (mirror : Held) → is_some (over_of self.old) ≡ false → StandsOn self.old mirror (Ended ∷ []) self.new mirror }
         ensures rests { (mirror : Held) → Rests self.old mirror (comes.Over result) self.new mirror }
         ensures over { over_of self.new ≡ Some result }
         ensures config { self.new.end.config ≡ self.old.end.config }

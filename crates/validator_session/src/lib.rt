@@ -2,8 +2,9 @@
 //!
 //! It stands on `session_rules` for the definitions of what a validator does, on `session_hear` for
 //! the loop over a piece, on `session_words` for what messages say, and on `validator_core` for the
-//! mirror. The crates above rest on `turned` of `FollowCore::hear`, `idle` and `link_ended`:
-//! wherever the core stood in a session, it stands there after further turns (`specs/Core.antt`).
+//! mirror. The crates above rest on `turned` of `FollowCore::hear` and `idle`, and on `stood` of
+//! `link_ended`: wherever the core stood in a session, it stands there after further turns, or at
+//! the first two memory ran out (`specs/Core.antt`).
 //!
 //! | file | what it holds |
 //! |---|---|

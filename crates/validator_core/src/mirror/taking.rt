@@ -82,7 +82,7 @@ impl Mirror {
         }
         let ordered = in_order(records.into_list()?);
         self.records = keyed(alloc, ordered)?;
-        self.octets = octets;
+        self.octet_count = octets;
         self.point = Some(point);
         self.off = false;
         Ok(Taken::Adopted)
@@ -153,14 +153,14 @@ impl Mirror {
             ≡ (answer, self.new)) }
         ensures unchanged { OnErr result (self.new ≡ self.old) }
     {
-        let mut tally = Tally::new(*self.records.allocator(), &self.records, self.octets);
+        let mut tally = Tally::new(*self.records.allocator(), &self.records, self.octet_count);
         if let Some(misfit) = first_misfit(&mut tally, held.eid, events.as_slice())? {
             self.off = true;
             return Ok(misfit);
         }
-        let octets = tally.into_octets();
+        let octets = tally.into_octet_count();
         follow(&mut self.records, held.eid, events.into_list()?)?;
-        self.octets = octets;
+        self.octet_count = octets;
         self.point = Some(Point {
             epoch: held.epoch,
             eid: consulted,

@@ -1,20 +1,16 @@
--- The words so far, and those of what is left, are those of the line.
-use Rattle.std.proofs.Common.{ℕ, ◌≡◌, ◌-◌, ◌+◌, ◌++◌, suc, refl, sym, arith, ap, ◌∙◌, map}
-use Rattle.session_script.proofs.Wording.{last_put, rest_put, texts, word_put}
-use Rattle.session_script.specs.Script.{words_to}
+-- The words so far, and those that are left, are those of the line.
+use Rattle.std.proofs.Common.{◌++◌, ◌∙◌, [], ◌∷◌, ap, arith, length, length-append}
+use Rattle.session_script.proofs.Wording.{no_more, seven_put, texts, word_put}
 use Rattle.session_script.proofs.words.words_of.Goals as goal
 
 pub returns-in_default : goal.returns-in_default
-returns-in_default c =
-    let one : 6 - c.loop.counter ≡ suc (6 - (c.loop.counter + 1)) = omega (arith, c.loop-test.true) in
-    record { words = ap texts c.in_ok-push.ensures.items ∙ last_put _ _ one c.loop.words.items c.loop.rest.now _ c.loop.invariant c.loop.rest refl c.in_default.ensures.parts }
+returns-in_default c = record { words = no_more _ _ _ c.loop.invariant.0 c.in_default.ensures.word.0 (omega (arith, c.loop.invariant.1, c.loop-test.true)) }
 
 pub loop-preserved : goal.loop-preserved
-loop-preserved c =
-    let one : 6 - c.loop.counter ≡ suc (6 - (c.loop.counter + 1)) = omega (arith, c.loop-test.true) in
-    ap (λ ws. texts ws ++ words_to (6 - (c.loop.counter + 1)) c.in-Some.after.now) c.in_ok-push-2.ensures.items ∙ word_put _ _ one c.loop.words.items c.loop.rest.now _ c.loop.invariant c.in-Some.word c.in-Some.after.now c.in-Some.ensures.parts
+loop-preserved c = (
+  ap (λ found. texts found ++ c.next.new.self) c.in_ok-push.ensures.items ∙ word_put _ _ _ c.loop.invariant.0 c.in-Some.word _ c.in-Some.ensures.word,
+  omega (arith, ap length c.in_ok-push.ensures.items, length-append c.loop.found.items (c.in-Some.word ∷ []), c.loop.invariant.1),
+)
 
 pub returns : goal.returns
-returns c =
-    let none : 6 - c.loop.counter ≡ 0 = omega (arith, c.loop-test.false) in
-    record { words = ap texts c.in_ok-push-3.ensures.items ∙ rest_put _ none c.loop.words.items c.loop.rest.now _ c.loop.invariant c.loop.rest refl }
+returns c = record { words = seven_put _ _ _ c.loop.invariant.0 (omega (arith, c.loop.invariant.1, c.loop-test.false)) }

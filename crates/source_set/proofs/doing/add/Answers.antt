@@ -1,4 +1,4 @@
-use Rattle.std.proofs.Common.{◌≡◌, ℕ, List, Option, ap, refl, sym, ◌∙◌, subst}
+use Rattle.std.proofs.Common.{ℕ, List, Option, ap, refl, sym, ◌∙◌, subst}
 use Rattle.std.specs.Option.{IsSome}
 use Rattle.source_set.specs.Keys.{Held, id_at, with_key, without}
 use Rattle.source_set.proofs.KeyLaws.{back, found, twice}

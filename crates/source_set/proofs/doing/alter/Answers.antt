@@ -1,7 +1,6 @@
 use Rattle.std.proofs.Common.{ℕ, ap, refl}
 use Rattle.collector_core.specs.Desks as desks
 use Rattle.source_set.specs.Deeds.{Alters}
-use Rattle.source_set.specs.declared.swept.Swept.{Swept}
 use Rattle.source_set.proofs.Working.{refuses, takes_after, works_once, works_refused}
 use Rattle.source_set.proofs.doing.alter.Goals as goal
 

@@ -2,7 +2,6 @@ use Rattle.std.proofs.Common.{ℕ, ap, sym, subst, refl}
 use Rattle.collector_core.specs.Desks as desks
 use Rattle.collector_core.specs.Standing.{IsCreation}
 use Rattle.source_set.specs.Deeds.{Creates}
-use Rattle.source_set.specs.declared.swept.Swept.{Swept}
 use Rattle.source_set.proofs.Working.{refuses, takes_after, works_once, works_refused}
 use Rattle.source_set.proofs.doing.create.Goals as goal
 

@@ -1,4 +1,4 @@
--- So many items were reported and done.
+-- That many items were reported and done.
 use Rattle.std.proofs.Common.{◌≡◌, false, true}
 use Rattle.source_set.specs.Asking.{HasCauseAt}
 use Rattle.source_set.proofs.Asked.{SoFar}

@@ -1,4 +1,4 @@
-use Rattle.std.proofs.Common.{◌∙◌, ◌++◌}
+use Rattle.std.proofs.Common.{◌∙◌}
 use Rattle.source_set.specs.Deeds.{does, gives_up}
 use Rattle.source_set.proofs.Working.{given_up, works_more}
 use Rattle.source_set.proofs.seat.do_item.Goals as goal

@@ -1,4 +1,4 @@
-use Rattle.std.proofs.Common.{◌≡◌, ◌<◌, ◌≤◌, arith, false, length, refl, sym}
+use Rattle.std.proofs.Common.{◌<◌, ◌≤◌, arith, false, length, refl, sym}
 use Rattle.source_set.proofs.Causing.{asks_names, causes_one}
 use Rattle.source_set.proofs.InOrder.{leads_all, leads_more, leads_stopped, same_more}
 use Rattle.source_set.proofs.set.ask_all.Goals as goal

@@ -1,5 +1,5 @@
 -- The first sources were asked, and the others are as they were.
-use Rattle.std.proofs.Common.{◌≡◌, drop, false, length, true}
+use Rattle.std.proofs.Common.{◌≡◌, drop, false, true}
 use Rattle.source_set.specs.Sweeping.{HaveCauses}
 use Rattle.source_set.proofs.InOrder.{Leads}
 use Rattle.source_set.proofs.set.ask_all.Given as goal

@@ -1,4 +1,4 @@
--- What was told so far.
+-- What was reported so far.
 use Rattle.std.proofs.Common.{◌≡◌, ◌++◌, map, take}
 use Rattle.session_world.specs.Tellings.{taken_telling}
 use Rattle.session_world.proofs.joined.Joined.tell_taken.Given as goal

@@ -1,6 +1,7 @@
-use Rattle.std.proofs.Common.{◌<◌, arith, length, refl, subst, sym, ap, ◌∙◌, Err, Ok}
+use Rattle.std.proofs.Common.{◌<◌, arith, length, refl, subst, sym, Err, Ok}
 use Rattle.source_set.specs.Sweeping.{IsSeated, nothing, row}
 use Rattle.source_set.proofs.InOrder.{kept_seated, swept_seen, swept_within}
+use Rattle.source_set.proofs.Whole.{seats_work}
 use Rattle.source_set.proofs.set.Sources.sweep.Goals as goal
 
 pub invariant_of-self-in-Err : goal.invariant_of-self-in-Err
@@ -31,3 +32,13 @@ returns-in-Err-clause-swept g c =
       refl,
       c.keep.ensures.kept,
     )
+
+pub returns-in-Ok-clause-works : goal.returns-in-Ok-clause-works
+returns-in-Ok-clause-works g c =
+    seats_work g.S.TagSource.reports g.D.Desk.stands g.D.Desk.went c.args.stamp.now g.met.D.Desk.stays g.met.D.Desk.follows g.met.D.Desk.carries c.take-kept.result (row c.self.inside.seats.items c.args.desk.now nothing)
+    (row c.sweep_seats.new.seats.items c.sweep_seats.new.desk c.sweep_seats.new.swept) (Ok tt) c.in-Ok.ensures.swept
+
+pub returns-in-Err-clause-works : goal.returns-in-Err-clause-works
+returns-in-Err-clause-works g c =
+    seats_work g.S.TagSource.reports g.D.Desk.stands g.D.Desk.went c.args.stamp.now g.met.D.Desk.stays g.met.D.Desk.follows g.met.D.Desk.carries c.take-kept.result (row c.self.inside.seats.items c.args.desk.now nothing)
+    (row c.sweep_seats.new.seats.items c.sweep_seats.new.desk c.sweep_seats.new.swept) (Err c.in-Err.field-0) c.in-Err.ensures.swept

@@ -17,5 +17,5 @@ invariant_of-self-2 c =
     c.in_ok-follow.ensures.live
     ∙ ap (λ (es : List Event). live records (events_above c.args.held.eid es)) (c.in_ok-into_list.ensures.list ∙ sym c.as_slice.ensures.items)
     ∙ ap (λ (es : Entries). live (values_of es) (events_above c.args.held.eid c.as_slice.result.now)) (sym c.new-tally.ensures.records) in
-    subst (λ (octets : ℕ). AreWeighed c.follow.new.records.entries octets) (sym c.into_octets-octets.ensures.octets)
+    subst (λ (octets : ℕ). AreWeighed c.follow.new.records.entries octets) (sym c.into_octet_count-octets.ensures.octets)
     (weighed_after _ _ _ _ (c.in_ok-misfit.ensures.tally c.in_default.is) (c.in_ok-misfit.ensures.few c.in_default.is) c.follow.ensures.keyed lives)

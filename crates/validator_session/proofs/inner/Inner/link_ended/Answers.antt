@@ -9,8 +9,8 @@ use Rattle.validator_session.specs.Standing.{stand_of}
 use Rattle.validator_session.proofs.Turns.{cut_stood}
 use Rattle.validator_session.proofs.inner.Inner.link_ended.Goals as goal
 
-pub returns-clause-turned : goal.returns-clause-turned
-returns-clause-turned c mirror live =
+pub returns-clause-stood : goal.returns-clause-stood
+returns-clause-stood c mirror live =
     let s : Stand = stand_of c.args.self.now.end.standing mirror in
     let next : Inner = record c.args.self.now { end = record c.args.self.now.end { standing = record c.args.self.now.end.standing { over = Some c.cut_end-by.result } } } in
     cut_stood c.args.self.now next mirror live refl refl refl refl refl

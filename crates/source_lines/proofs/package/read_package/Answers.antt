@@ -1,5 +1,5 @@
 use Rattle.source_lines.proofs.Finding.{finds_package, no_package_behind, no_tag_found}
-use Rattle.source_lines.proofs.reading.read_package.Goals as goal
+use Rattle.source_lines.proofs.package.read_package.Goals as goal
 
 pub returns-then-used-octets : goal.returns-then-used-octets
 returns-then-used-octets c = record { whole = no_package_behind c.args.octets.now c.in-Ok.tag c.in-Ok.used c.in-Ok.ensures.found c.if-used-octets.true }

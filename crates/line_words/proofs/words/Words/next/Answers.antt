@@ -1,8 +1,8 @@
 use Rattle.std.proofs.Common.{◌≡◌, ℕ, List, ◌∷◌, Option, Some, Bor, sym, ap, ap₂, ◌∙◌}
 use Rattle.std.specs.Option.{option_map}
-use Rattle.source_lines.specs.Words.{words, words_left}
-use Rattle.source_lines.proofs.Wording.{words_found, words_missed}
-use Rattle.source_lines.proofs.words.Words.next.Goals as goal
+use Rattle.line_words.specs.Words.{words, words_left}
+use Rattle.line_words.proofs.Wording.{words_found, words_missed}
+use Rattle.line_words.proofs.words.Words.next.Goals as goal
 
 -- What is left of a line is its words.
 left_is : (left : List (List ℕ)) (rest : Option (Bor (List ℕ))) (line : Bor (List ℕ)) → words_left (option_map (λ (r : Bor (List ℕ)). r.now) rest) ≡ left → rest ≡ Some line → left ≡ words line.now

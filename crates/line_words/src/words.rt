@@ -1,7 +1,7 @@
 //! The words of a line.
 
 ghost use Rattle.std.specs.Prelude.{◌≡◌, ◌∷◌, [], MatchOption};
-ghost use Rattle.source_lines.specs.Words.{words, words_left};
+ghost use Rattle.line_words.specs.Words.{words, words_left};
 
 use memchr::memchr;
 use std::marker::Model;
@@ -15,7 +15,7 @@ pub struct Words<'a> {
 impl<'a> Model for Words<'a> {
     ghost use Rattle.std.specs.Prelude.{List, ℕ};
     ghost use Rattle.std.specs.Option.{option_map};
-    ghost use Rattle.source_lines.specs.Words.{words_left};
+    ghost use Rattle.line_words.specs.Words.{words_left};
 
     ghost Value = { List (List ℕ) };
 

@@ -1,8 +1,8 @@
 -- The words of a line, and where they are found.
-use Rattle.std.proofs.Common.{◌≡◌, ℕ, zero, suc, ◌+◌, ◌<◌, ◌≤◌, Bool, true, false, cond, List, [], ◌∷◌, Option, None, Some, length, take, drop, refl, sym, ap, ◌∙◌, arith, slice_index}
+use Rattle.std.proofs.Common.{◌≡◌, ℕ, zero, suc, ◌+◌, ◌<◌, Bool, true, false, cond, List, [], ◌∷◌, None, Some, length, take, drop, refl, ap, ◌∙◌, arith, slice_index}
 use Rattle.std.specs.Prelude.{◌==◌}
 use Rattle.memchr.specs.Find.{IsFirstByte, is_byte}
-use Rattle.source_lines.specs.Words.{onto_first, words}
+use Rattle.line_words.specs.Words.{onto_first, words}
 
 words_at : (octet : ℕ) (octets : List ℕ) (test : Bool) → (octet == 32) ≡ test → words (octet ∷ octets) ≡ cond test ([] ∷ words octets) (onto_first octet (words octets))
 unfolding words
