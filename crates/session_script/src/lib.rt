@@ -3,8 +3,9 @@
 //!
 //! It stands on `session_world` for the world that a script changes, on `session_rules` and
 //! `collector_core` for what is printed of ends and refusals, on `command_text` for the lines of
-//! mirrors, on `line_words` for the values of words, and on `validator_core`, `swima_model`,
-//! `wire_base` and `hex`. The command `replay` rests on this clause of `replay_answer`:
+//! mirrors, on `line_words` for the values of words, on `jiff` and `jiff_core` in the proof that a
+//! second has one stamp, and on `validator_core`, `swima_model`, `wire_base` and `hex`. The command
+//! `replay` rests on this clause of `replay_answer`:
 //!
 //! - `told`: what is printed, and how it ends, is what `ReplayTells` says of all octets of the input.
 //!
@@ -12,17 +13,23 @@
 //! |---|---|---|
 //! | `script.rt` | a script, line by line | `Replay` |
 //! | `words.rt`, `header.rt`, `line.rt` | lines and words, the first line, and those after it | `Script` |
+//! | `inventory.rt` | the inventory that a world begins with | |
 //! | `playing.rt` | a script that is being played | `Played` |
 //! | `texts.rt` | the lines that are printed | `Replay` |
 //! | `laws.rt` | one text fits each script | `OneText` |
 #![tactic(auto)]
 
 mod header;
+<<<<<<< HEAD
 pub mod laws;
+=======
+mod inventory;
+>>>>>>> 90645951a30ec204888b444e229165f432f9d017
 mod line;
 mod playing;
 mod script;
 mod texts;
 mod words;
 
+pub use inventory::begin_book;
 pub use script::{MOST_SCRIPT_OCTETS, replay_answer};

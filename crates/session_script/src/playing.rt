@@ -10,9 +10,10 @@ ghost use Rattle.collector_core.specs.Edits.{IsStamped};
 ghost use Rattle.session_world.specs.Lines.{enters};
 
 use crate::header::Header;
+use crate::inventory::begin_book;
 use crate::line::Line;
 use crate::texts::{told_text, waits_text};
-use collector_core::{Book, Edit};
+use collector_core::Edit;
 use command_text::mirror_text;
 use session_world::{Tellings, Terms, World};
 use std::alloc::Global;
@@ -37,13 +38,11 @@ impl Playing {
             max: header.max,
             subscribe: header.subscribe,
         };
-        match Book::new(alloc, header.epoch, header.cap as usize, &[]) {
-            Ok(book) => Ok(Playing {
-                world: World::new(alloc, terms, book, header.kind),
-                changes: 0,
-            }),
-            Err(_) => Err(Memory),
-        }
+        let book = begin_book(alloc, header.epoch, header.cap as usize, &[])?;
+        Ok(Playing {
+            world: World::new(alloc, terms, book, header.kind),
+            changes: 0,
+        })
     }
 
     /// Plays a line, and gives what is printed of it.

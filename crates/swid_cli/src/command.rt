@@ -4,6 +4,8 @@ ghost use Rattle.std.specs.Prelude.{◌≡◌, ◌↔◌, IsSome, IfSome, map};
 ghost use Rattle.swid_cli.specs.Commands.{Says};
 ghost use Rattle.swid_cli.specs.Words.{IsCommandLine};
 
+use line_words::read_number;
+use session_day::{FEWEST_PACKAGES, MOST_PACKAGES};
 use swima_model::Kind;
 
 /// A command that waits for nobody.
@@ -19,6 +21,8 @@ pub(crate) enum Command {
     Links,
     /// `replay`: play a script of both ends of sessions.
     Replay,
+    /// `make`: play the day of an endpoint with that many packages.
+    Make(u32),
 }
 
 /// The command that the words say; `None` exactly where they are no command line.
@@ -37,6 +41,17 @@ pub(crate) fn command_of(words: &[&str]) -> Option<Command>
         }),
         ["links"] => Some(Command::Links),
         ["replay"] => Some(Command::Replay),
+        ["make", count] => make_of(count),
+        _ => None,
+    }
+}
+
+/// `make` with the count of packages that a word is, if it is one.
+fn make_of(word: &str) -> Option<Command> {
+    match read_number(word.as_bytes()) {
+        Some(count) if FEWEST_PACKAGES <= count && count <= MOST_PACKAGES => {
+            Some(Command::Make(count))
+        }
         _ => None,
     }
 }

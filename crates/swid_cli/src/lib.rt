@@ -30,6 +30,7 @@
 mod command;
 pub mod laws;
 mod links;
+mod make;
 mod mirror;
 mod replay;
 mod run;

@@ -13,6 +13,7 @@ ghost use Rattle.wire_base.specs.Passing.{AddsFront};
 
 use crate::command::{Command, command_of};
 use crate::links::links;
+use crate::make::make;
 use crate::mirror::mirror;
 use crate::replay::replay;
 use crate::tag::tag;
@@ -104,6 +105,7 @@ pub fn run_plain<S: Source, K: Sink, F: Files>(
         }
         Some(Command::Links) => status(links(alloc, input, output)),
         Some(Command::Replay) => status(replay(alloc, input, output)),
+        Some(Command::Make(count)) => status(make(alloc, count, output)),
     }
 }
 

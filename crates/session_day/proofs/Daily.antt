@@ -1,0 +1,105 @@
+-- The day, step by step.
+use Rattle.std.proofs.Common.{◌≡◌, ◌∙◌, ℕ, zero, suc, ◌+◌, ◌++◌, List, [], ◌∷◌, Result, Ok, refl, sym, ap, subst, append_assoc, append-nil, arith}
+use Rattle.std.specs.Prelude.{OnOk}
+use Rattle.wire_base.specs.Stamp.{IsStampAt}
+use Rattle.collector_core.specs.declared.book.edit.Edit.{Edit}
+use Rattle.swima_model.specs.declared.record.Content.{Content}
+use Rattle.session_world.specs.declared.telling.Telling.{Telling}
+use Rattle.session_world.specs.Lines.{Told, enters}
+use Rattle.session_world.specs.Standing.{Does, StandsFor, WorldView}
+use Rattle.session_world.specs.World.{World}
+use Rattle.session_world.proofs.Joining.{on_ok}
+use Rattle.session_script.specs.declared.line.Line.{Line}
+use Rattle.session_script.specs.Replay.{Changes, IsEntered}
+use Rattle.session_day.specs.declared.day.Day.{Day}
+use Rattle.session_day.specs.Day.{AreChanged, IsChanged, first_session, last_sessions, morning}
+use Rattle.session_day.specs.Days.{Acts, FollowsFirst, IsMorning, PlaysDay, Steps}
+use Rattle.session_day.specs.Package.{package_content, packages}
+
+-- ---- packages
+
+-- One more package.
+pub packages_more : (count first n : ℕ) → packages count first n ++ package_content count (first + n) 0 ∷ [] ≡ packages count first (suc n)
+packages_more count first zero = ap (λ (k : ℕ). package_content count k 0 ∷ []) here
+  where
+    here : first + 0 ≡ first
+    here = omega (arith)
+packages_more count first (suc n) =
+    ap (λ (cs : List Content). package_content count first 0 ∷ cs) (ap (λ (k : ℕ). packages count (first + 1) n ++ package_content count k 0 ∷ []) there ∙ packages_more count (first + 1) n)
+  where
+    there : first + suc n ≡ first + 1 + n
+    there = omega (arith)
+
+-- ---- changes
+
+-- The changes before the one of this number were made.
+pub record Changing (count : ℕ) (first : World) (before after : Day) (left number : ℕ) : Type 0 where
+  pub w : World
+  pub stands : StandsFor after.world w
+  pub so_far : List Telling
+  pub told : after.told ≡ before.told ++ so_far
+  pub carried : after.carried ≡ before.carried
+  pub goes : (last : Told) → AreChanged count left number w last → AreChanged count 40 1 first (last.0, so_far ++ last.1)
+
+-- One change, and then others.
+changes_one : (count n number : ℕ) (w : World) (one others : Told) → IsChanged count number w one → AreChanged count n (number + 1) one.0 others → AreChanged count (suc n) number w (others.0, one.1 ++ others.1)
+unfolding AreChanged
+changes_one count n number w one others is are = (one, is, (others, are, refl))
+
+changes_none : (count number : ℕ) (w : World) → AreChanged count 0 number w (w, [])
+unfolding AreChanged
+changes_none count number w = refl
+
+module _ (count : ℕ) (first : World) (before : Day) where
+  pub changing_first : StandsFor before.world first → Changing count first before before 40 1
+  changing_first stands = record { w = first; stands = stands; so_far = []; told = sym (append-nil before.told); carried = refl; goes = λ last are. are }
+
+  pub changing_next : (mid after : Day) (left n number : ℕ) → left ≡ suc n → Changing count first before mid left number → Steps (IsChanged count number) mid after → Changing count first before after n (number + 1)
+  changing_next mid after left n number one so steps =
+      let step = steps so.w so.stands in
+      record {
+        w = step.0.0;
+        stands = step.2.0;
+        so_far = so.so_far ++ step.0.1;
+        told = step.2.1 ∙ ap (λ (told : List Telling). told ++ step.0.1) so.told ∙ append_assoc before.told so.so_far step.0.1;
+        carried = step.2.2 ∙ so.carried;
+        goes = λ last are. subst (λ (told : List Telling). AreChanged count 40 1 first (last.0, told)) (sym (append_assoc so.so_far step.0.1 last.1))
+            (so.goes (last.0, step.0.1 ++ last.1) (subst (λ (k : ℕ). AreChanged count k number so.w (last.0, step.0.1 ++ last.1)) (sym one) (changes_one count n number so.w step.0 last step.1 are)));
+      }
+
+pub changed_all : (count number left : ℕ) (before after : Day) → left ≡ 0 → ((w : World) → StandsFor before.world w → Changing count w before after left number) → Steps (AreChanged count 40 1) before after
+changed_all count number left before after none changing w stands =
+    let so = changing w stands in
+    let all : AreChanged count 40 1 w (so.w, so.so_far ++ []) = so.goes (so.w, []) (subst (λ (k : ℕ). AreChanged count k number so.w (so.w, [])) (sym none) (changes_none count number so.w)) in
+    ((so.w, so.so_far ++ []), all, (so.stands, (so.told ∙ ap (λ (told : List Telling). before.told ++ told) (sym (append-nil so.so_far)), so.carried)))
+
+-- One change that a line says, with its stamp.
+pub changed_so : {T E : Type 0} (said : Line) (second : ℕ) (stamp : List ℕ) (change : Edit) (before after : Day) (result : Result T E)
+    → IsStampAt second (Ok stamp) → Changes said stamp change → OnOk result (Does (enters change) before.world before.told after.world after.told) → after.carried ≡ before.carried
+    → OnOk result (Steps (IsEntered said second) before after)
+changed_so said second stamp change before after result stamped changes done carried =
+    on_ok result (λ does w stands.
+    let to = does w stands in
+    (enters change w, record { stamp = stamp; stamped = stamped; change = change; changes = changes; does = refl }, (to.0, (to.1, carried)))) done
+
+-- ---- sessions
+
+-- A line of which nothing is told, whatever was told before.
+pub untold : (line : World → Told) (before after : WorldView) (told : List Telling) → ((w : World) → (line w).1 ≡ []) → Does line before [] after [] → Does line before told after told
+untold line before after told none does = λ w stands. ((does w stands).0, sym (append-nil told) ∙ ap (λ (ts : List Telling). told ++ ts) (sym (none w)))
+
+-- ---- the whole day
+
+pub played : (count : ℕ) (day first changed last : Day) → IsMorning count day → FollowsFirst day first → Steps (AreChanged count 40 1) first changed → Acts last_sessions changed last → PlaysDay count last
+played count day first changed last is follows steps ends =
+    let one = follows.0 (morning count) is.world in
+    let two = steps (first_session count).0 one.0 in
+    let three = ends.0 two.0.0 two.2.0 in
+    record {
+      changed = two.0;
+      are = two.1;
+      world = three.0;
+      told = three.1 ∙ ap (λ (ts : List Telling). ts ++ (last_sessions two.0.0).1) (two.2.1 ∙ ap (λ (ts : List Telling). ts ++ two.0.1) (one.1 ∙ ap (λ (ts : List Telling). ts ++ (first_session count).1) is.told))
+          ∙ append_assoc (first_session count).1 two.0.1 (last_sessions two.0.0).1;
+      carried = ends.1 ∙ two.2.2 ∙ follows.1 (morning count) is.world is.carried;
+    }

@@ -1,0 +1,4 @@
+pub mod Sizes
+pub mod Packed
+pub mod Contents
+pub mod Daily

@@ -1,0 +1,4 @@
+pub mod Package
+pub mod Packages
+pub mod Day
+pub mod Days
