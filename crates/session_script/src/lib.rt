@@ -20,11 +20,8 @@
 #![tactic(auto)]
 
 mod header;
-<<<<<<< HEAD
-pub mod laws;
-=======
 mod inventory;
->>>>>>> 90645951a30ec204888b444e229165f432f9d017
+pub mod laws;
 mod line;
 mod playing;
 mod script;
