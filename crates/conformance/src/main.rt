@@ -17,9 +17,7 @@ mod text;
 use crate::held::Held;
 use crate::row::rows_text;
 use conformance_inventory::{book, log, mirror};
-use conformance_messages::{
-    attributes, batches, errors, machine, report, request, status, stream,
-};
+use conformance_messages::{attributes, batches, errors, machine, report, request, status, stream};
 use conformance_sessions::{collector, lines, session_links, validator};
 use conformance_tags::{cbor, links, payload, tag};
 use std::alloc::Global;

@@ -6,9 +6,7 @@ use crate::noted::push_turn;
 use crate::settings::{following_of, serving_of};
 use collector_core::Book;
 use conformance_words::{digits_of, octets_of, word_list};
-use session_core::{
-    FollowConfig, ServeConfig, SessionEnd, Turn, follow_session, serve_session,
-};
+use session_core::{FollowConfig, ServeConfig, SessionEnd, Turn, follow_session, serve_session};
 use std::alloc::Global;
 use swima_model::Kind;
 use validator_core::Mirror;
@@ -29,7 +27,11 @@ pub fn collector(alloc: Global, words: &str) -> Option<String> {
 
 /// How the session of a collector without software ends, and how many octets its record has as
 /// given and as taken.
-fn served(alloc: Global, config: ServeConfig, link: &mut MemLink) -> Option<(SessionEnd, u64, u64)> {
+fn served(
+    alloc: Global,
+    config: ServeConfig,
+    link: &mut MemLink,
+) -> Option<(SessionEnd, u64, u64)> {
     if config.max > 16_000_000 || config.idle == 0 || config.octets == 0 {
         return None;
     }

@@ -5,11 +5,11 @@ ghost use Rattle.std.specs.Prelude.{◌≤◌, ◌<◌, ◌^◌, IfSome};
 ghost use Rattle.cbor_det.specs.Term.{depth};
 ghost use Rattle.cbor_det.specs.View.{view};
 
-use conformance_words::octets_of;
 use cbor_det::{
     CborFault, CborFed, CborFeed, CborRefused, Item, LARGEST, Limits, is_canonical, read_item,
     write_item,
 };
+use conformance_words::octets_of;
 use std::alloc::Global;
 use wire_base::TryCopy;
 

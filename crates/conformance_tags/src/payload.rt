@@ -1,7 +1,7 @@
 //! Payloads of CoSWID tags (RFC 9393, section 2.9) beside the files that they state.
 
-use conformance_words::{files_of, octets_of};
 use cbor_det::{LARGEST, read_item};
+use conformance_words::{files_of, octets_of};
 use coswid_res::{Verdict, Verdicts, payload_of, verify};
 use std::alloc::Global;
 
