@@ -54,7 +54,7 @@ def bad():
         lines("xml 1  \\e -|xml 1 i  -|xml 1 i \\e |gone  1| gone 1|gone 1 |gone |quiet | quiet|end | end| |"),
     ]
     yield "A tab in place of a space, and a CR before the LF", [
-        digits(b"gone\t1\ngone 1\t\n\tgone 1\n"),
+        digits(b"gone\t1\ngone 1\t\n\tgone 1\nadd\t1 \\e " + HEX.encode("ascii") + b"\n"),
         digits(b"gone 1\r\nquiet\r\nend\r\n\r\n"),
         digits(b"xml 1 i \\e -\r\nxml 1 i\t\\e -\n"),
         digits(b"gone 1\0\ngone \xc3\xa9\n\xff\n"),
