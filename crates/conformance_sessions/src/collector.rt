@@ -64,7 +64,7 @@ fn core_of(alloc: Global, serving: Serving) -> Option<ServeCore> {
     ServeCore::new(alloc, &config).ok()
 }
 
-/// Takes all turns, and tells what comes of them.
+/// Takes all turns. Gives what comes of them.
 fn played(
     alloc: Global,
     book: &mut Book,
@@ -146,8 +146,8 @@ fn push_noted(alloc: Global, out: &mut String, record: &SessionRecord) -> Option
 }
 
 /// `collector_cut SETTINGS HEX`: how the session ends, and how many octets it has written, where the
-/// link ends after none of the octets, after one, and so on up to all. Ends within one batch that
-/// follow each other are told together.
+/// link ends after none of the octets, after one, and so on up to all. Consecutive ends within one
+/// batch are one entry.
 pub fn cut(alloc: Global, words: &str) -> Option<String> {
     let (settings, digits) = words.split_once(' ')?;
     let serving = serving_of(settings)?;

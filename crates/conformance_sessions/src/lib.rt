@@ -11,7 +11,7 @@
 //! | `session_links.rt` | `collector_link`, `validator_link` |
 //! | `lines.rt` | `lines` |
 //! | `settings.rt` | no call: how the ends of a row are configured |
-//! | `noted.rt` | no call: the texts of ends, of records, and of ends one after another |
+//! | `noted.rt` | no call: the texts of ends, of records, and of consecutive ends |
 #![tactic(auto)]
 
 pub mod collector;

@@ -1,4 +1,4 @@
-//! The texts of ends and records, and of ends one after another.
+//! The texts of ends and records, and of consecutive ends.
 
 use session_rules::{SessionEnd, SessionRecord, Turn};
 use std::alloc::Global;
@@ -57,7 +57,7 @@ pub(crate) struct Cut {
     pub(crate) sent: u64,
 }
 
-/// Cuts one after another that are told as one: the first, and the last that followed.
+/// Consecutive cuts that are one entry of a text: the first and the last.
 #[derive(Clone, Copy)]
 pub(crate) struct Run {
     first: Cut,
@@ -73,8 +73,8 @@ impl Run {
         }
     }
 
-    /// With the next cut, where that is told with them: where it is torn after one octet more, and
-    /// nothing more was written.
+    /// With the next cut, where that belongs to the entry: it is torn after one octet more, and
+    /// nothing more was written. Otherwise `None`.
     pub(crate) fn with(self, next: Cut) -> Option<Run> {
         let more = match (self.last.end, next.end) {
             (SessionEnd::Torn { have }, SessionEnd::Torn { have: then }) => {
@@ -91,8 +91,8 @@ impl Run {
         })
     }
 
-    /// Puts `END at SENT`, with the last number of octets where there are several, at the end of
-    /// the text.
+    /// Puts `END, sent SENT`, with the last number of octets where there are several cuts, at the
+    /// end of the text.
     pub(crate) fn push(self, alloc: Global, out: &mut String) -> Option<()> {
         if !out.is_empty() {
             out.push_str("; ").ok()?;

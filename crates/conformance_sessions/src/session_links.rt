@@ -22,7 +22,7 @@ pub fn collector(alloc: Global, words: &str) -> Option<String> {
     let serving = serving_of(settings)?;
     let mut link = link_of(alloc, rest)?;
     let (end, sent, received) = served(alloc, serving.config, &mut link)?;
-    told(alloc, &link, end, sent, received)
+    text_of(alloc, &link, end, sent, received)
 }
 
 /// How the session of a collector without software ends, and how many octets its record has as
@@ -47,7 +47,7 @@ pub fn validator(alloc: Global, words: &str) -> Option<String> {
     let following = following_of(settings)?;
     let mut link = link_of(alloc, rest)?;
     let (end, sent, received) = followed(alloc, following.config, &mut link)?;
-    told(alloc, &link, end, sent, received)
+    text_of(alloc, &link, end, sent, received)
 }
 
 /// The same of a validator with a new mirror.
@@ -111,7 +111,7 @@ fn push_octets(turns: &mut List<LinkTurn>, octets: &[u8]) -> Option<()> {
 }
 
 /// The octets that were given, the end, and the numbers.
-fn told(
+fn text_of(
     alloc: Global,
     link: &MemLink,
     end: SessionEnd,

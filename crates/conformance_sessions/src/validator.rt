@@ -65,7 +65,7 @@ fn core_of(alloc: Global, following: Following) -> Option<FollowCore> {
     Some(FollowCore::new(alloc, &config))
 }
 
-/// Takes all turns, and tells what comes of them.
+/// Takes all turns. Gives what comes of them.
 fn played(
     alloc: Global,
     mirror: &mut Mirror,
@@ -156,8 +156,8 @@ fn push_mirror(alloc: Global, out: &mut String, mirror: &Mirror) -> Option<()> {
 }
 
 /// `validator_cut SETTINGS HEX`: how the session ends, and how many octets it has written, where the
-/// link ends after none of the octets, after one, and so on up to all. Ends within one batch that
-/// follow each other are told together.
+/// link ends after none of the octets, after one, and so on up to all. Consecutive ends within one
+/// batch are one entry.
 pub fn cut(alloc: Global, words: &str) -> Option<String> {
     let (settings, digits) = words.split_once(' ')?;
     let following = following_of(settings)?;
