@@ -5,8 +5,7 @@ ghost use Rattle.collector_core.specs.Edits.{IsStamped};
 ghost use Rattle.wire_base.specs.Stamp.{IsStamp};
 
 use collector_core::{Answer, Book, BookError, Changed, Edit};
-use conformance_messages::report::{kind_of, record_text, report_text};
-use conformance_words::word_list;
+use conformance_words::{kind_of, record_text, report_text, word_list};
 use std::alloc::Global;
 use swima_model::{Body, Content, Ident, Locator, Model, Point};
 use swima_request::{Idents, Request};

@@ -2,8 +2,7 @@
 //! validator. Each call gets the words after its name, and answers with a text. Rows of one go on
 //! from the row before.
 //!
-//! It stands on the crates whose calls it tries, on `conformance_messages` for the texts of
-//! reports, and on `conformance_words`.
+//! It stands on the crates whose calls it tries, and on `conformance_words`.
 //!
 //! | file | calls |
 //! |---|---|

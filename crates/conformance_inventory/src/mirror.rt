@@ -1,7 +1,6 @@
 //! A mirror and the reports that it takes, one after another.
 
-use conformance_messages::report::{action_of, kind_of, kind_word};
-use conformance_words::word_list;
+use conformance_words::{action_of, kind_of, kind_word, word_list};
 use std::alloc::Global;
 use swima_model::{
     Action, Body, Content, Event, Events, Ident, Locator, Model, Point, Record, Records, Report,

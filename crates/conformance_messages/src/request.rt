@@ -2,8 +2,7 @@
 
 ghost use Rattle.std.specs.Prelude.{◌≤◌, length};
 
-use crate::report::kind_word;
-use conformance_words::{digits_of, octets_of, refusal_text};
+use conformance_words::{digits_of, kind_word, octets_of, refusal_text};
 use std::alloc::Global;
 use swima_request::{Request, read_request, write_request};
 use wire_base::{FieldRefused, Octets};
