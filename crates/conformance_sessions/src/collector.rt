@@ -7,7 +7,7 @@ use crate::settings::{Serving, serving_of};
 use collector_core::Book;
 use collector_session::ServeCore;
 use conformance_inventory::book::change;
-use conformance_words::{digits_of, octets_of};
+use conformance_words::{digits_of, octets_of, push_text};
 use session_rules::SessionRecord;
 use std::alloc::Global;
 
@@ -31,8 +31,7 @@ pub fn collector(alloc: Global, words: &str) -> Option<String> {
             return format!(in alloc; "{text}, and {again} in pieces of {size}").ok();
         }
     }
-    let last = format!(in alloc; "; received {received}").ok()?;
-    text.push_str(last.as_str()).ok()?;
+    push_text(&mut text, format!(in alloc; "; received {received}").ok())?;
     Some(text)
 }
 
@@ -129,9 +128,9 @@ fn hear(
 fn push_written(alloc: Global, out: &mut String, core: &mut ServeCore) -> Option<()> {
     let waiting = core.waiting();
     let count = waiting.len();
-    let digits = digits_of(alloc, waiting)?;
+    push_text(out, digits_of(alloc, waiting))?;
     core.carried(count);
-    out.push_str(digits.as_str()).ok()
+    Some(())
 }
 
 /// Puts what is noted of a session at the end of the text, except the octets that were taken.
@@ -139,8 +138,7 @@ fn push_noted(alloc: Global, out: &mut String, record: &SessionRecord) -> Option
     out.push_str("; points").ok()?;
     for point in record.points.as_slice() {
         let (epoch, eid) = (point.epoch, point.eid);
-        let text = format!(in alloc; " {epoch}/{eid}").ok()?;
-        out.push_str(text.as_str()).ok()?;
+        push_text(out, format!(in alloc; " {epoch}/{eid}").ok())?;
     }
     push_counts(alloc, out, record)
 }

@@ -1,6 +1,6 @@
 //! The lines that a source of changes reads.
 
-use conformance_words::{digits_of, octets_of};
+use conformance_words::{digits_of, octets_of, push_text};
 use source_lines::LineSource;
 use source_set::{TagSource, Told};
 use std::alloc::Global;
@@ -81,8 +81,7 @@ fn push_item(alloc: Global, out: &mut String, item: &Told) -> Option<()> {
 }
 
 fn push_number(alloc: Global, out: &mut String, word: &str, number: u64) -> Option<()> {
-    let text = format!(in alloc; "{word} {number}").ok()?;
-    out.push_str(text.as_str()).ok()
+    push_text(out, format!(in alloc; "{word} {number}").ok())
 }
 
 /// The key, the data model, the identifier, the locator, and the octets of the body.
@@ -94,12 +93,10 @@ fn push_keyed(
     content: &Content,
 ) -> Option<()> {
     let (pen, kind) = (content.model.pen, content.model.kind);
-    let text = format!(in alloc; "{word} {key} {pen}/{kind} ").ok()?;
-    out.push_str(text.as_str()).ok()?;
+    push_text(out, format!(in alloc; "{word} {key} {pen}/{kind} ").ok())?;
     push_escaped(alloc, out, content.ident.bytes())?;
     push_escaped(alloc, out, content.locator.bytes())?;
-    let body = digits_of(alloc, content.body.bytes())?;
-    out.push_str(body.as_str()).ok()
+    push_text(out, digits_of(alloc, content.body.bytes()))
 }
 
 /// Puts the text of octets and a space at the end of the text.

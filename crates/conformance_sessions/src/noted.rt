@@ -1,15 +1,15 @@
 //! The texts of ends and records, and of consecutive ends.
 
+use conformance_words::push_text;
 use session_rules::{SessionEnd, SessionRecord, Turn};
 use std::alloc::Global;
 
 /// Puts what a turn comes to at the end of the text.
 pub(crate) fn push_turn(alloc: Global, out: &mut String, turn: Turn) -> Option<()> {
-    let text = match turn {
-        Turn::Goes => return out.push_str("goes on").ok(),
-        Turn::Over(end) => end_text(alloc, end)?,
-    };
-    out.push_str(text.as_str()).ok()
+    match turn {
+        Turn::Goes => out.push_str("goes on").ok(),
+        Turn::Over(end) => push_text(out, end_text(alloc, end)),
+    }
 }
 
 /// The name of an end, and its numbers.
@@ -42,12 +42,13 @@ fn end_word(end: SessionEnd) -> Option<&'static str> {
 pub(crate) fn push_counts(alloc: Global, out: &mut String, record: &SessionRecord) -> Option<()> {
     out.push_str("; errors").ok()?;
     for code in record.errors.as_slice() {
-        let text = format!(in alloc; " {code}").ok()?;
-        out.push_str(text.as_str()).ok()?;
+        push_text(out, format!(in alloc; " {code}").ok())?;
     }
     let (reports, sent) = (record.reports, record.sent);
-    let text = format!(in alloc; "; reports {reports}; sent {sent}").ok()?;
-    out.push_str(text.as_str()).ok()
+    push_text(
+        out,
+        format!(in alloc; "; reports {reports}; sent {sent}").ok(),
+    )
 }
 
 /// How a session ends, and how many octets it has written then.
@@ -97,19 +98,16 @@ impl Run {
         if !out.is_empty() {
             out.push_str("; ").ok()?;
         }
-        let text = end_text(alloc, self.first.end)?;
-        out.push_str(text.as_str()).ok()?;
+        push_text(out, end_text(alloc, self.first.end))?;
         self.push_last(alloc, out)?;
         let sent = self.first.sent;
-        let text = format!(in alloc; ", sent {sent}").ok()?;
-        out.push_str(text.as_str()).ok()
+        push_text(out, format!(in alloc; ", sent {sent}").ok())
     }
 
     fn push_last(self, alloc: Global, out: &mut String) -> Option<()> {
         match self.last.end {
             SessionEnd::Torn { have } if self.last != self.first => {
-                let text = format!(in alloc; " to {have}").ok()?;
-                out.push_str(text.as_str()).ok()
+                push_text(out, format!(in alloc; " to {have}").ok())
             }
             _ => Some(()),
         }

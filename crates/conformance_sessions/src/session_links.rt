@@ -5,7 +5,7 @@ ghost use Rattle.std.specs.Prelude.{◌<◌};
 use crate::noted::push_turn;
 use crate::settings::{following_of, serving_of};
 use collector_core::Book;
-use conformance_words::{digits_of, octets_of, word_list};
+use conformance_words::{digits_of, octets_of, push_text, word_list};
 use session_core::{FollowConfig, ServeConfig, SessionEnd, Turn, follow_session, serve_session};
 use std::alloc::Global;
 use swima_model::Kind;
@@ -121,7 +121,9 @@ fn text_of(
     let mut out = digits_of(alloc, link.given())?;
     out.push_str("; ").ok()?;
     push_turn(alloc, &mut out, Turn::Over(end))?;
-    let text = format!(in alloc; "; sent {sent}; received {received}").ok()?;
-    out.push_str(text.as_str()).ok()?;
+    push_text(
+        &mut out,
+        format!(in alloc; "; sent {sent}; received {received}").ok(),
+    )?;
     Some(out)
 }

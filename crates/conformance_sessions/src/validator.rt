@@ -5,7 +5,7 @@ ghost use Rattle.std.specs.Prelude.{◌<◌};
 use crate::noted::{Cut, Run, push_counts, push_turn};
 use crate::settings::{Following, following_of};
 use conformance_inventory::mirror::{state_text, taken_text};
-use conformance_words::{digits_of, octets_of};
+use conformance_words::{digits_of, octets_of, push_text};
 use session_rules::SessionRecord;
 use std::alloc::Global;
 use swima_model::Kind;
@@ -30,8 +30,7 @@ pub fn validator(alloc: Global, words: &str) -> Option<String> {
             return format!(in alloc; "{text}, and {again} in pieces of {size}").ok();
         }
     }
-    let last = format!(in alloc; "; received {received}").ok()?;
-    text.push_str(last.as_str()).ok()?;
+    push_text(&mut text, format!(in alloc; "; received {received}").ok())?;
     Some(text)
 }
 
@@ -131,18 +130,17 @@ fn hear(
 fn push_written(alloc: Global, out: &mut String, core: &mut FollowCore) -> Option<()> {
     let waiting = core.waiting();
     let count = waiting.len();
-    let digits = digits_of(alloc, waiting)?;
+    push_text(out, digits_of(alloc, waiting))?;
     core.carried(count);
-    out.push_str(digits.as_str()).ok()
+    Some(())
 }
 
 /// Puts what is noted of a session at the end of the text, except the octets that were taken.
 fn push_noted(alloc: Global, out: &mut String, record: &SessionRecord) -> Option<()> {
     let mut separator = "; took ";
     for taken in record.taken.as_slice() {
-        let text = taken_text(alloc, *taken)?;
         out.push_str(separator).ok()?;
-        out.push_str(text.as_str()).ok()?;
+        push_text(out, taken_text(alloc, *taken))?;
         separator = ", ";
     }
     push_counts(alloc, out, record)
@@ -150,9 +148,8 @@ fn push_noted(alloc: Global, out: &mut String, record: &SessionRecord) -> Option
 
 /// Puts the mirror at the end of the text.
 fn push_mirror(alloc: Global, out: &mut String, mirror: &Mirror) -> Option<()> {
-    let text = state_text(alloc, mirror)?;
     out.push_str("; ").ok()?;
-    out.push_str(text.as_str()).ok()
+    push_text(out, state_text(alloc, mirror))
 }
 
 /// `validator_cut SETTINGS HEX`: how the session ends, and how many octets it has written, where the

@@ -11,5 +11,6 @@ mod words;
 
 pub use reports::{action_of, kind_of, kind_word, record_text, report_text};
 pub use words::{
-    digits_of, eight_of, files_of, number_list, octets_of, one_line, refusal_text, word_list,
+    digits_of, eight_of, files_of, number_list, octets_of, one_line, push_text, refusal_text,
+    word_list,
 };

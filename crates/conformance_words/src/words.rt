@@ -92,3 +92,8 @@ fn file_of(alloc: Global, file: &str) -> Option<NamedFile> {
         content,
     })
 }
+
+/// Puts a text that was made at the end of another; `None` where there is none, or memory ran out.
+pub fn push_text(out: &mut String, text: Option<String>) -> Option<()> {
+    out.push_str(text?.as_str()).ok()
+}
