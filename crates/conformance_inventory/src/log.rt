@@ -2,6 +2,7 @@
 
 ghost use Rattle.std.specs.Prelude.{◌≡◌};
 
+use conformance_words::push_text;
 use event_log::EventLog;
 use std::alloc::Global;
 use swima_model::{Action, Body, Content, Event, Ident, Locator, Model, Record};
@@ -79,8 +80,7 @@ fn state_text(alloc: Global, log: &EventLog) -> Option<String> {
     for eid in 0..9 {
         if let Some(event) = log.get(eid) {
             let kept = event.eid;
-            let text = format!(in alloc; " {kept}").ok()?;
-            out.push_str(text.as_str()).ok()?;
+            push_text(&mut out, format!(in alloc; " {kept}").ok())?;
         }
     }
     Some(out)

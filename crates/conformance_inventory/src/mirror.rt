@@ -1,6 +1,6 @@
 //! A mirror and the reports that it takes, one after another.
 
-use conformance_words::{action_of, kind_of, kind_word, word_list};
+use conformance_words::{action_of, kind_of, kind_word, push_text, word_list};
 use std::alloc::Global;
 use swima_model::{
     Action, Body, Content, Event, Events, Ident, Locator, Model, Point, Record, Records, Report,
@@ -216,8 +216,7 @@ pub fn state_text(alloc: Global, mirror: &Mirror) -> Option<String> {
 fn push_ids(alloc: Global, out: &mut String, mirror: &Mirror) -> Option<()> {
     for place in 0..mirror.count() {
         let id = mirror.record_at(place)?.id;
-        let text = format!(in alloc; " {id}").ok()?;
-        out.push_str(text.as_str()).ok()?;
+        push_text(out, format!(in alloc; " {id}").ok())?;
     }
     Some(())
 }

@@ -3,7 +3,7 @@
 ghost use Rattle.std.specs.Prelude.{◌≤◌, IfSome, length};
 ghost use Rattle.pa_attrs.specs.AttrForm.{IsNamed};
 
-use conformance_words::{digits_of, number_list, octets_of};
+use conformance_words::{digits_of, number_list, octets_of, push_text};
 use pa_attrs::{
     Attr, PaFault, PaMessage, PaRead, PlacedAttr, read_message, value_fault, write_message,
 };
@@ -63,17 +63,15 @@ fn message_text(alloc: Global, id: u32, attrs: &[PlacedAttr]) -> Option<String> 
 
 fn push_placed(alloc: Global, out: &mut String, placed: &PlacedAttr) -> Option<()> {
     let at = placed.at;
-    let text = format!(in alloc; "; {at} ").ok()?;
-    out.push_str(text.as_str()).ok()?;
+    push_text(out, format!(in alloc; "; {at} ").ok())?;
     push_attr(alloc, out, &placed.attr)
 }
 
 /// Puts `VENDOR TYPE VALUE`, and ` noskip` where the flag is set, at the end of the text.
 pub fn push_attr(alloc: Global, out: &mut String, attr: &Attr) -> Option<()> {
     let (vendor, kind) = (attr.vendor, attr.kind);
-    let value = digits_of(alloc, attr.value.as_slice())?;
-    let text = format!(in alloc; "{vendor} {kind} {value}").ok()?;
-    out.push_str(text.as_str()).ok()?;
+    push_text(out, format!(in alloc; "{vendor} {kind} ").ok())?;
+    push_text(out, digits_of(alloc, attr.value.as_slice()))?;
     out.push_str(if attr.noskip { " noskip" } else { "" }).ok()
 }
 

@@ -3,7 +3,7 @@
 ghost use Rattle.std.specs.Prelude.{◌<◌, IfSome};
 ghost use Rattle.pb_batch.specs.Written.{IsTold};
 
-use conformance_words::{digits_of, octets_of};
+use conformance_words::{digits_of, octets_of, push_text};
 use pb_batch::{Batch, BatchFed, BatchFeed, BatchKind, Message, PbFault, fault_batch, write_batch};
 use std::alloc::Global;
 
@@ -90,8 +90,7 @@ fn fed_text(alloc: Global, from_server: bool, octets: &[u8], size: usize) -> Opt
 /// Puts how many octets the feed holds at the end of the text.
 fn push_have(alloc: Global, out: &mut String, feed: &BatchFeed) -> Option<()> {
     let have = feed.have();
-    let text = format!(in alloc; "have {have}").ok()?;
-    out.push_str(text.as_str()).ok()
+    push_text(out, format!(in alloc; "have {have}").ok())
 }
 
 /// Puts what a feed answers to a piece at the end of the text. How many octets of the next batch
@@ -127,8 +126,7 @@ fn push_fed(
 /// Puts how many messages and how many octets the batch has at the end of the text.
 fn push_counts(alloc: Global, out: &mut String, batch: &Batch, octets: u64) -> Option<()> {
     let count = batch.messages.len();
-    let text = format!(in alloc; "{count} in {octets}, ").ok()?;
-    out.push_str(text.as_str()).ok()
+    push_text(out, format!(in alloc; "{count} in {octets}, ").ok())
 }
 
 /// Puts `fault CODE PLACE, `, with the version where that is not supported, at the end of the text.

@@ -3,7 +3,7 @@
 ghost use Rattle.std.specs.Prelude.{◌<◌};
 
 use crate::attributes::push_attr;
-use conformance_words::octets_of;
+use conformance_words::{octets_of, push_text};
 use pa_attrs::{AttrFed, AttrFeed, HEADER_OCTETS, Header, read_header};
 use std::alloc::Global;
 
@@ -83,8 +83,7 @@ fn push_fed(alloc: Global, out: &mut String, feed: &mut AttrFeed, piece: &[u8]) 
             }
             AttrFed::Fault(fault) => {
                 let (code, at) = (fault.code, fault.at);
-                let text = format!(in alloc; "fault {code} {at}; ").ok()?;
-                out.push_str(text.as_str()).ok()?;
+                push_text(out, format!(in alloc; "fault {code} {at}; ").ok())?;
                 return Some(false);
             }
             AttrFed::Memory => return None,
@@ -97,8 +96,7 @@ fn push_fed(alloc: Global, out: &mut String, feed: &mut AttrFeed, piece: &[u8]) 
 /// of the text.
 fn push_held(alloc: Global, out: &mut String, feed: &AttrFeed) -> Option<()> {
     let have = feed.have();
-    let text = format!(in alloc; "have {have}").ok()?;
-    out.push_str(text.as_str()).ok()?;
+    push_text(out, format!(in alloc; "have {have}").ok())?;
     match feed.header() {
         None => Some(()),
         Some(header) => {

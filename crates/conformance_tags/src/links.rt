@@ -7,7 +7,7 @@ ghost use Rattle.cbor_det.specs.Term.{depth};
 ghost use Rattle.coswid_codec.specs.Items.{tag_item};
 ghost use Rattle.coswid_codec.specs.SizesFit.{SizesFit};
 
-use conformance_words::octets_of;
+use conformance_words::{octets_of, push_text};
 use coswid_codec::read_tag;
 use coswid_links::{LinkFinding, check_links};
 use coswid_tag::Tag;
@@ -34,8 +34,10 @@ fn findings_text(alloc: Global, findings: &[LinkFinding]) -> Option<String> {
             second,
         } = *finding;
         let separator = if out.is_empty() { "" } else { ", " };
-        let text = format!(in alloc; "{separator}{kind} {first} {second}").ok()?;
-        out.push_str(text.as_str()).ok()?;
+        push_text(
+            &mut out,
+            format!(in alloc; "{separator}{kind} {first} {second}").ok(),
+        )?;
     }
     Some(out)
 }

@@ -1,7 +1,7 @@
 //! Payloads of CoSWID tags (RFC 9393, section 2.9) beside the files that they state.
 
 use cbor_det::{LARGEST, read_item};
-use conformance_words::{files_of, octets_of};
+use conformance_words::{files_of, octets_of, push_text};
 use coswid_res::{Verdict, Verdicts, payload_of, verify};
 use std::alloc::Global;
 
@@ -22,8 +22,10 @@ fn verdicts_text(alloc: Global, verdicts: &Verdicts) -> Option<String> {
         let separator = if out.is_empty() { "" } else { "; " };
         let word = verdict_text(alloc, *verdict)?;
         let path = path.as_str();
-        let text = format!(in alloc; "{separator}{word} '{path}'").ok()?;
-        out.push_str(text.as_str()).ok()?;
+        push_text(
+            &mut out,
+            format!(in alloc; "{separator}{word} '{path}'").ok(),
+        )?;
     }
     Some(out)
 }

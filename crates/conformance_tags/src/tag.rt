@@ -6,7 +6,7 @@ ghost use Rattle.coswid_codec.specs.Items.{tag_item};
 ghost use Rattle.coswid_codec.specs.SizesFit.{SizesFit};
 
 use crate::cbor::fault_text;
-use conformance_words::{digits_of, octets_of, one_line};
+use conformance_words::{digits_of, octets_of, one_line, push_text};
 use coswid_codec::{TagRefused, put_summary, read_tag, tag_text, write_tag};
 use coswid_res::FormFault;
 use coswid_tag::Tag;
@@ -73,8 +73,7 @@ fn form_text(alloc: Global, fault: &FormFault) -> Option<String> {
     let kind = fault.kind;
     let mut out = format!(in alloc; "form {kind}").ok()?;
     for step in fault.path.as_slice() {
-        let text = format!(in alloc; "/{step}").ok()?;
-        out.push_str(text.as_str()).ok()?;
+        push_text(&mut out, format!(in alloc; "/{step}").ok())?;
     }
     Some(out)
 }
