@@ -215,12 +215,20 @@ class Mirror:
             return self.marked(f"gap {have} {got}")
         return self.fold(above) or self.advance(report.consulted)
 
+    def contradicts(self, event, held):
+        """Whether an event does not fit the record that is held, or None. A deletion carries its content, or leaves the body out."""
+        if held is None or event.action == CREATION:
+            return (held is None) != (event.action == CREATION)
+        told = event.subject
+        parts = [(it.model, it.source, it.ident, it.locator) for it in (told, held)]
+        bodies = self.kind == IDS or told.body in (b"", held.body)
+        return event.action == DELETION and not (parts[0] == parts[1] and bodies)
+
     def fold(self, events):
         """Folds the events into the records, or answers by the first that does not fit and folds none."""
         records = dict(self.records)
         for event in events:
-            held = event.subject.identifier in records
-            if held == (event.action == CREATION):
+            if self.contradicts(event, records.get(event.subject.identifier)):
                 return self.marked(f"contradiction {event.eid}")
             records[event.subject.identifier] = event.subject
             if event.action == DELETION:

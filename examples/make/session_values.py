@@ -1,7 +1,7 @@
 """The scripts of the folder sessions/, as values. Beside lines stands what `swid replay` prints of them."""
 
 from formats import FULL, IDS
-from sessions import Script
+from scripts import Script
 
 OPEN, RUN, IDLE, CUT, SHOW, WAITS, AGAIN = (("open",), ("run",), ("idle",), ("cut",), ("show",), ("waits",), ("again",))
 

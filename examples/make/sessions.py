@@ -1,37 +1,60 @@
-"""Sessions of examples: what both ends write and print, as the lines of a script make them.
+"""Both ends of a session, over octets: what each writes as it hears octets, idle turns and the end of the link, and how it ends.
 
-Batches are values beside their octets, so that nothing here reads octets back: of octets that are carried, those
-batches are heard that are whole in them. The rules of both ends follow RFC 5793 and RFC 8412, and docs/rules/sessions.md.
-The ends are honest ones, without subscriptions, so no batch has a fault.
+The rules follow RFC 5793 and RFC 8412, as docs/rules/sessions.md says them. The other end may write what it pleases.
 """
 
-from dataclasses import dataclass, field
+from dataclasses import replace
 
-from formats import ALTERATION, COSWID, CREATION, DELETION, IDS
-from formats import Event, Events, Inventory, Mirror, Record, attribute, joined, number, printed, text
+from formats import FULFILMENT, IDS, Events, attribute, counted, joined, number
+from inventory import octets_of
+from reading import ASSESSMENT, CDATA, CLOSE, COLLECTOR_READS, CRETRY, ERROR, MOST_MESSAGES, PB_BAD_VERSION, PB_ERROR, PB_PA
+from reading import REPORTS, REQUEST, RESULT, SDATA, SRETRY, STATUS_REQUEST, STATUS_RESPONSE, UNEXPECTED, VALIDATOR_READS
+from reading import Fault, Refused, Request, batch_in, bodies, ends_session, words_in
 
-CDATA, SDATA, RESULT, SRETRY = 1, 2, 3, 5  # the batches that honest ends write
 SERVER, CLIENT = 0x80, 0
-PB_PA, ASSESSMENT = 1, 2
 DO_NOT_KNOW = 4
-REQUEST, ERROR, TOO_LARGE = 13, 8, 6
+DENIED, TOO_LARGE, REUSED = 5, 6, 8  # codes of PA-TNC Errors (RFC 8412, section 5.15)
 MOST_IN_VAIN = 3
+MOST_SUBSCRIPTIONS = 16
+MOST_ROOM = 16_000_000
+MOST = 4_294_967_295
+
+INIT, CLIENT_WORKING, SERVER_WORKING, DECIDED, END = "Init", "Client Working", "Server Working", "Decided", "End"
+SENT = {CDATA: SERVER_WORKING, CRETRY: SERVER_WORKING, SDATA: CLIENT_WORKING, RESULT: DECIDED, SRETRY: CLIENT_WORKING, CLOSE: END}
+HEARD_BY_CLIENT = {
+    (INIT, SDATA): CLIENT_WORKING,
+    (SERVER_WORKING, SDATA): CLIENT_WORKING,
+    (SERVER_WORKING, RESULT): DECIDED,
+    (DECIDED, SRETRY): CLIENT_WORKING,
+}
+HEARD_BY_SERVER = {
+    (INIT, CDATA): SERVER_WORKING,
+    (CLIENT_WORKING, CDATA): SERVER_WORKING,
+    (SERVER_WORKING, CRETRY): SERVER_WORKING,
+    (CLIENT_WORKING, CRETRY): SERVER_WORKING,
+    (DECIDED, CRETRY): SERVER_WORKING,
+}
 
 
 # Octets.
 
 
-def request(number_of, kind, earliest):
-    """The attribute of a request for all of the inventory, or for the events from `earliest` on."""
-    flags = 0x20 if kind == IDS else 0
-    fields = [("flags", flags, 1), ("count", 0, 3), ("request", number_of, 4), ("earliest EID", earliest, 4)]
-    return attribute(REQUEST, [number(*it) for it in fields])
+def request_fields(asked):
+    """The fields of a request, as it stands in a Request and in a Subscription Status Response."""
+    flags = (0x80 if asked.clear else 0) | (0x40 if asked.subscribe else 0) | (0x20 if asked.kind == IDS else 0)
+    head = [("flags", flags, 1), ("count", len(asked.targets), 3), ("request", asked.identifier, 4), ("earliest EID", asked.earliest, 4)]
+    return [number(*it) for it in head] + [field for it in asked.targets for field in counted("target", it, 2)]
 
 
-def too_large(number_of, room):
-    """The attribute of an Error: the report has more octets than there is room for."""
-    fields = [("reserved", 0, 1), ("error vendor", 0, 3), ("code", TOO_LARGE, 4), ("request", number_of, 4), ("most", room, 4)]
-    return attribute(ERROR, [number(*it) for it in fields])
+def status(requests):
+    """The value of a Subscription Status Response."""
+    return [number("status flags", 0, 1), number("count", len(requests), 3), *(it for asked in requests for it in request_fields(asked))]
+
+
+def error(code, *information):
+    """The attribute of an Error with numbers of four octets, or octets, as its information."""
+    head = [number("reserved", 0, 1), number("error vendor", 0, 3), number("code", code, 4)]
+    return attribute(ERROR, head + [("information", it) if isinstance(it, bytes) else number("information", it, 4) for it in information])
 
 
 def pb_message(kind, value):
@@ -51,304 +74,280 @@ def batch(direction, kind, messages):
     return bytes([2, direction, 0, kind]) + (8 + len(octets)).to_bytes(4, "big") + octets
 
 
-# The inventory.
+def fault_batch(direction, fault):
+    """The CLOSE that reports a fault by one fatal PB-Error (RFC 5793, section 4.9)."""
+    parameters = fault.place.to_bytes(4, "big")
+    if fault.code == PB_BAD_VERSION:
+        parameters = bytes([fault.version, 2, 2, 0])
+    if fault.code == UNEXPECTED:
+        parameters = b""
+    return batch(direction, CLOSE, [pb_message(PB_ERROR, bytes([0x80, 0, 0, 0]) + fault.code.to_bytes(2, "big") + bytes(2) + parameters)])
 
 
-@dataclass
-class Request:
-    identifier: int
-    kind: str
-    earliest: int
+# What both ends do.
 
 
-class Book:
-    """An inventory: its epoch, the events of it, of which the last `cap` are kept, and the records that are live."""
+class End:
+    """An end. `hears` has the machine's table, `reads` the attribute types that are supported."""
 
-    def __init__(self, epoch, cap):
-        self.epoch, self.cap, self.next, self.trimmed = epoch, cap, 1, 1
-        self.records, self.events = {}, []
+    def __init__(self, direction, hears, reads, idle, octets):
+        self.direction, self.hears, self.reads, self.most_idle, self.most_octets = direction, hears, reads, idle, octets
+        self.state, self.held, self.quiet, self.over = INIT, b"", 0, None
+        self.waits, self.numbered = b"", 0
+        self.errors, self.reports, self.received = [], 0, 0
 
-    def first(self):
-        return max(self.trimmed, len(self.events) + 1 - self.cap)
+    def hear(self, piece):
+        if self.over is not None:
+            return
+        piece = piece[: self.most_octets - self.received]
+        self.received += len(piece)
+        self.held += piece
+        self.quiet = 0 if piece else self.quiet
+        while self.over is None:
+            try:
+                found = batch_in(self.held, self.direction == CLIENT)
+            except Fault as fault:
+                self.refuse(fault)
+                continue
+            if found is None:
+                break
+            self.held = self.held[found.length :]
+            self.take(found)
+        if self.over is None and self.received == self.most_octets:
+            self.over = "enough"
 
-    def enter(self, stamp, action, record):
-        self.events.append(Event(len(self.events) + 1, stamp, action, record))
-        self.records[record.identifier] = record
-        if action == DELETION:
-            del self.records[record.identifier]
+    def take(self, found):
+        """A whole batch."""
+        if self.is_ignored(found.kind):
+            return
+        if found.kind != CLOSE and (self.state, found.kind) not in self.hears:
+            self.refuse(Fault(UNEXPECTED, 0))
+            return
+        self.state = self.hears.get((self.state, found.kind), END)
+        ended = ends_session(found)
+        if ended is not None:
+            self.over = "peer-error {} {}".format(*ended)
+        elif found.kind == CLOSE:
+            self.over = "peer-closed"
+        else:
+            self.obey(found)
 
-    def create(self, stamp, ident, body):
-        self.enter(stamp, CREATION, Record(self.next, ident, "", COSWID, 0, body))
-        self.next += 1
+    def is_ignored(self, kind):
+        return self.state == END
 
-    def alter(self, stamp, identifier, ident, body):
-        if identifier not in self.records:
-            return f"book unknown-record {identifier}"
-        return self.enter(stamp, ALTERATION, Record(identifier, ident, "", COSWID, 0, body))
+    def refuse(self, fault):
+        self.write_octets(fault_batch(self.direction, fault), CLOSE)
+        self.over = f"refused {fault.code} {fault.place}"
 
-    def delete(self, stamp, identifier):
-        if identifier not in self.records:
-            return f"book unknown-record {identifier}"
-        return self.enter(stamp, DELETION, self.records[identifier])
+    def close(self):
+        self.write(CLOSE, [])
+        self.over = "closed"
 
-    def begin_epoch(self, epoch):
-        if epoch <= self.epoch:
-            return f"book epoch-not-new {self.epoch} {epoch}"
-        self.epoch, self.events, self.trimmed = epoch, [], 1
-        return None
+    def idle(self):
+        if self.over is not None:
+            return
+        self.quiet += 1
+        if self.quiet >= self.most_idle:
+            self.over = f"idle-out {self.quiet}"
+        elif self.state == DECIDED:
+            self.rest()
 
-    def trim(self, first):
-        if first > len(self.events) + 1:
-            return f"book trim-past {len(self.events)} {first}"
-        self.trimmed = max(self.trimmed, first)
-        return None
+    def link_ended(self):
+        if self.over is None:
+            self.over = f"torn {len(self.held)}" if self.held else "ended"
 
-    def inventory(self, asked):
-        records = [self.records[it] for it in sorted(self.records)]
-        return Inventory(self.epoch, len(self.events), records, asked.kind, asked.identifier)
+    def write(self, kind, messages):
+        self.write_octets(batch(self.direction, kind, messages), kind)
 
-    def told(self, asked, events, consulted):
-        return Events(self.epoch, len(self.events), consulted, events, asked.kind, asked.identifier)
+    def write_octets(self, octets, kind):
+        self.waits += octets
+        self.state = SENT[kind]
 
-    def answer(self, asked, room):
-        """The report of at most `room` octets, or None where there is none."""
-        if asked.earliest == 0 or asked.earliest < self.first():
-            report = self.inventory(asked)
-            return report if len(joined(report.value())) <= room else None
-        wanted = self.events[asked.earliest - 1 :]
-        for count in range(len(wanted), -1, -1):
-            consulted = len(self.events) if count == len(wanted) else asked.earliest + count - 1
-            report = self.told(asked, wanted[:count], consulted)
-            if len(joined(report.value())) <= room and (count or not wanted):
-                return report
-        return None
+    def carried(self, count):
+        """The first octets that wait, so many, are given."""
+        octets, self.waits = self.waits[:count], self.waits[count:]
+        return octets
 
-
-# The ends.
-
-
-@dataclass
-class Written:
-    """What an end wrote: its octets, and each batch with the number of octets up to its end."""
-
-    octets: bytes = b""
-    batches: list = field(default_factory=list)
-    carried: int = 0
-    heard: int = 0
-
-    def write(self, octets, kind, said):
-        self.octets += octets
-        self.batches.append((len(self.octets), kind, said))
-
-    def waits(self):
-        return self.octets[self.carried :]
-
-    def carry(self, count):
-        """Carries that many octets, and gives the batches that are whole with them."""
-        self.carried += count
-        whole = [it for it in self.batches[self.heard :] if it[0] <= self.carried]
-        self.heard += len(whole)
-        return [(kind, said) for _, kind, said in whole]
+    def next_number(self):
+        self.numbered += 1
+        return self.numbered
 
 
-class Collector:
-    """The client of PB-TNC, which answers requests by its book."""
-
-    def __init__(self, room):
-        self.room, self.numbered, self.waiting_for_server, self.out = room, 0, True, Written()
-        self.out.write(batch(CLIENT, CDATA, []), CDATA, [])
-
-    def hear(self, book, kind, requests):
-        if kind == RESULT:
-            self.waiting_for_server = False
-        elif kind == SDATA or not self.waiting_for_server:  # a retry that comes while it waits is passed over
-            self.answer(book, requests)
-            self.waiting_for_server = True
-
-    def answer(self, book, requests):
-        room, messages, said = self.room, [], []
-        for asked in requests:
-            report = book.answer(asked, room)
-            if report is None:
-                fields = too_large(asked.identifier, room)
-            else:
-                fields = report.fields()
-                room -= len(joined(report.value()))
-                said.append(report)
-            self.numbered += 1
-            messages.append(pa_message(self.numbered, [fields]))
-        self.out.write(batch(CLIENT, CDATA, messages), CDATA, said)
+# The collector.
 
 
-class Validator:
+class Subscription:
+    """What a request subscribes to, and up to which point it was fulfilled."""
+
+    def __init__(self, asked):
+        self.asked, self.place = asked, None
+
+
+class Collector(End):
+    """The client of PB-TNC, which answers requests by its book. It closes after so many reports, if that is not None."""
+
+    def __init__(self, book, room=MOST_ROOM, reports=None, idle=MOST, octets=MOST):
+        super().__init__(CLIENT, HEARD_BY_CLIENT, COLLECTOR_READS, idle, octets)
+        self.book, self.room, self.most_reports = book, room, reports
+        self.subscriptions, self.points = [], []
+        self.write(CDATA, [])
+
+    def is_ignored(self, kind):
+        return self.state == END or (self.state, kind) == (SERVER_WORKING, SRETRY)
+
+    def obey(self, found):
+        if found.kind == RESULT:
+            if self.most_reports is not None and self.reports >= self.most_reports:
+                self.close()
+            return
+        earlier = list(self.subscriptions)
+        self.left, messages = self.room, []
+        for body in bodies(found):
+            self.put(messages, self.answers(body))
+        if len(messages) < MOST_MESSAGES:
+            self.put(messages, [it for one in earlier if one in self.subscriptions for it in self.renewal(one)])
+        self.write(CDATA, messages)
+
+    def put(self, messages, attributes):
+        if attributes:
+            messages.append(pa_message(self.next_number(), attributes))
+
+    def answers(self, body):
+        try:
+            words = words_in(body, self.reads)
+        except Refused as refusal:
+            return [] if refusal.information is None else [error(refusal.code, refusal.information)]
+        self.errors += [value for kind, value in words if kind == ERROR]
+        answered = [(kind, value) for kind, value in words if kind != ERROR]
+        return [self.answer(value) if kind == REQUEST else self.tell_status() for kind, value in answered]
+
+    def tell_status(self):
+        value = status([it.asked for it in self.subscriptions])
+        if len(joined(value)) > self.left:
+            return error(TOO_LARGE, 0, self.left)
+        self.left -= len(joined(value))
+        return attribute(STATUS_RESPONSE, value)
+
+    def answer(self, asked):
+        if asked.clear:
+            self.subscriptions = []
+        if asked.subscribe:
+            if any(it.asked.identifier == asked.identifier for it in self.subscriptions):
+                return error(REUSED, asked.identifier)
+            if len(self.subscriptions) == MOST_SUBSCRIPTIONS:
+                return error(DENIED, asked.identifier)
+        report = self.book.answer(asked, self.left)
+        if report is None:
+            return error(TOO_LARGE, asked.identifier, self.left)
+        if asked.subscribe:
+            held = Subscription(asked)
+            held.place = place_of(report)
+            self.subscriptions.append(held)
+        return self.report(report)
+
+    def report(self, report):
+        self.left -= octets_of(report)
+        self.points.append((report.epoch, report.eid))
+        self.reports += 1
+        return report.fields()
+
+    def renewal(self, held):
+        """The attributes that a subscription gets: a report where something moved, an Error, or none."""
+        if not self.book.moved(held.place, held.asked.targets):
+            return []
+        epoch, eid = held.place
+        earliest = eid + 1 if epoch == self.book.epoch else 0
+        asked = replace(held.asked, clear=False, subscribe=False, earliest=earliest)
+        report = self.book.answer(asked, self.left)
+        if report is not None:
+            held.place = place_of(report)
+            return [self.report(replace(report, flags=FULFILMENT))]
+        if self.left < self.room:
+            return []
+        self.subscriptions.remove(held)
+        return [error(TOO_LARGE, asked.identifier, self.left)]
+
+    def rest(self):
+        if any(self.book.moved(it.place, it.asked.targets) for it in self.subscriptions):
+            self.write(CRETRY, [])
+
+
+def place_of(report):
+    return report.epoch, report.consulted if isinstance(report, Events) else report.eid
+
+
+# The validator.
+
+
+class Validator(End):
     """The server of PB-TNC, which asks and lets its mirror take the reports."""
 
-    def __init__(self):
-        self.numbered, self.asked, self.decided, self.out = 0, 0, False, Written()
+    def __init__(self, mirror, subscribe=False, rounds=MOST, idle=MOST, octets=MOST):
+        super().__init__(SERVER, HEARD_BY_SERVER, VALIDATOR_READS, idle, octets)
+        self.mirror, self.subscribe, self.most_rounds = mirror, subscribe, rounds
+        self.asked, self.rounds, self.retried = 0, 0, False
         self.tries = []  # the mirror's point at each request of the round
-        self.last = None
+        self.last, self.taken = None, []
 
-    def hear(self, mirror, reports):
-        lines = []
-        for report in reports:
-            lines.append(mirror.take(report))
-            self.last = report
-        if self.asks(mirror):
-            self.ask(mirror, SDATA)
-        else:
-            assessment = pb_message(ASSESSMENT, DO_NOT_KNOW.to_bytes(4, "big"))
-            self.out.write(batch(SERVER, RESULT, [assessment]), RESULT, [])
-            self.decided, self.tries = True, []
-        return lines
+    def obey(self, found):
+        answers = []
+        for body in bodies(found):
+            self.hear_message(body, answers)
+        if found.kind == CRETRY:
+            self.write(SDATA, answers + ([self.request()] if self.retried else []))
+            return
+        self.retried = False
+        if self.asks():
+            self.write(SDATA, answers + [self.request()])
+            return
+        self.write(RESULT, [pb_message(ASSESSMENT, DO_NOT_KNOW.to_bytes(4, "big")), *answers])
+        self.tries, self.rounds = [], self.rounds + 1
+        if self.rounds >= self.most_rounds:
+            self.close()
 
-    def in_vain(self, mirror):
+    def hear_message(self, body, answers):
+        try:
+            words = words_in(body, self.reads)
+        except Refused as refusal:
+            if refusal.information is not None and len(answers) < MOST_MESSAGES - 1:
+                answers.append(pa_message(self.next_number(), [error(refusal.code, refusal.information)]))
+            return
+        for kind, value in words:
+            if kind == ERROR:
+                self.errors.append(value)
+            if kind in REPORTS:
+                self.taken.append(self.mirror.take(value))
+                self.last, self.reports = value, self.reports + 1
+
+    def in_vain(self):
         """How many requests of the round in a row left the mirror's point as it is."""
         count = 0
-        while count < len(self.tries) and self.tries[-1 - count] == mirror.point:
+        while count < len(self.tries) and self.tries[-1 - count] == self.mirror.point:
             count += 1
         return count
 
-    def is_partial(self, mirror):
-        it = self.last
-        if not isinstance(it, Events) or mirror.point is None or mirror.point[0] != it.epoch:
+    def is_partial(self):
+        it, point = self.last, self.mirror.point
+        if not isinstance(it, Events) or point is None or point[0] != it.epoch:
             return False
-        return it.consulted < it.eid and mirror.point[1] < it.eid
+        return it.consulted < it.eid and point[1] < it.eid
 
-    def asks(self, mirror):
+    def asks(self):
         if self.asked == 0:
             return True
-        return self.in_vain(mirror) < MOST_IN_VAIN and (mirror.off or self.is_partial(mirror))
+        return self.in_vain() < MOST_IN_VAIN and (self.mirror.off or self.is_partial())
 
-    def ask(self, mirror, kind):
-        full = mirror.point is None or mirror.off or mirror.point[1] == 4294967295
-        earliest = 0 if full else mirror.point[1] + 1
+    def request(self):
+        """A request, as the message that carries it."""
+        mirror = self.mirror
+        full = mirror.point is None or mirror.off or mirror.point[1] == MOST
         self.asked += 1
-        self.numbered += 1
         self.tries.append(mirror.point)
-        message = pa_message(self.numbered, [request(self.asked, mirror.kind, earliest)])
-        self.out.write(batch(SERVER, kind, [message]), kind, [Request(self.asked, mirror.kind, earliest)])
-        self.decided = False
+        subscribes = self.subscribe and self.asked == 1
+        asked = Request(self.asked, mirror.kind, 0 if full else mirror.point[1] + 1, subscribe=subscribes)
+        return pa_message(self.next_number(), [attribute(REQUEST, request_fields(asked))])
 
-    def idle(self, mirror):
-        if self.decided:
-            self.ask(mirror, SRETRY)
-
-
-# Scripts.
-
-
-class World:
-    def __init__(self, epoch, cap, room, kind):
-        self.book, self.room, self.mirror = Book(epoch, cap), room, Mirror(kind)
-        self.collector = self.validator = None
-        self.changes = 0
-
-    def change(self, how, *values):
-        self.changes += 1
-        refused = how(*values)
-        return [refused] if refused else []
-
-    def stamp(self):
-        return f"1970-01-01T00:{(self.changes + 1) // 60:02}:{(self.changes + 1) % 60:02}Z"
-
-    def create(self, ident, body=b""):
-        return self.change(self.book.create, self.stamp(), ident, body)
-
-    def alter(self, identifier, ident, body=b""):
-        return self.change(self.book.alter, self.stamp(), identifier, ident, body)
-
-    def delete(self, identifier):
-        return self.change(self.book.delete, self.stamp(), identifier)
-
-    def epoch(self, epoch):
-        return self.change(self.book.begin_epoch, epoch)
-
-    def trim(self, first):
-        return self.change(self.book.trim, first)
-
-    def open(self):
-        self.collector, self.validator = Collector(self.room), Validator()
-        return []
-
-    def cut(self):
-        self.collector = self.validator = None
-        return []
-
-    def up(self, most):
-        if self.collector is None:
-            return []
-        lines = []
-        for _, reports in self.collector.out.carry(min(most, len(self.collector.out.waits()))):
-            lines += self.validator.hear(self.mirror, reports)
-        return lines
-
-    def down(self, most):
-        if self.collector is not None:
-            for kind, requests in self.validator.out.carry(min(most, len(self.validator.out.waits()))):
-                self.collector.hear(self.book, kind, requests)
-        return []
-
-    def run(self):
-        lines = []
-        while self.collector is not None and (self.collector.out.waits() or self.validator.out.waits()):
-            lines += self.up(4294967295) + self.down(4294967295)
-        return lines
-
-    def idle(self):
-        if self.validator is not None:
-            self.validator.idle(self.mirror)
-        return []
-
-    def again(self):
-        if self.validator is None or self.validator.last is None:
-            return []
-        return [self.mirror.take(self.validator.last)]
-
-    def waits(self):
-        if self.collector is None:
-            return []
-        up, down = self.collector.out.waits(), self.validator.out.waits()
-        return [f"waits up {up.hex() or '-'}", f"waits down {down.hex() or '-'}"]
-
-    def show(self):
-        return self.mirror.lines()
-
-
-@dataclass
-class Script:
-    """The first line's values, and the lines after it: a word and its values. One of them may be none that there is, by
-    the number of its line."""
-
-    epoch: int
-    cap: int
-    room: int
-    kind: str
-    lines: list
-    bad: int = 0
-
-    def octets(self):
-        first = f"replay {self.epoch} {self.cap} {self.room} {self.kind} no"
-        return text([first, *(" ".join([word, *map(spelled, values)]) for word, *values in self.filled())]).encode("ascii")
-
-    def filled(self):
-        """The lines, with the empty body where a record has none."""
-        wanted = {"create": 3, "alter": 4}
-        return [(*it, b"") if len(it) < wanted.get(it[0], 0) else it for it in self.lines]
-
-    def output(self):
-        world, lines = World(self.epoch, self.cap, self.room, self.kind), []
-        for place, (word, *values) in enumerate(self.lines, 2):
-            if place == self.bad:
-                return text([*lines, f"script {place}"])
-            lines += getattr(world, word)(*values)
-        return text(lines)
-
-    def status(self):
-        return 1 if self.bad else 0
-
-
-def spelled(value):
-    """A word of a line: a number, an identifier, or a body in hexadecimal digits."""
-    if isinstance(value, bytes):
-        return value.hex() or "-"
-    return printed(value.encode("utf-8")) if isinstance(value, str) else str(value)
+    def rest(self):
+        if not self.subscribe:
+            self.retried = True
+            self.write(SRETRY, [self.request()])

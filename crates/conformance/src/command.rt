@@ -1,6 +1,6 @@
 //! The command line: words, an input and files in memory, and what is printed with which status.
 
-use crate::words::{files_of, octets_of, one_line, word_list};
+use conformance_words::{files_of, octets_of, one_line, word_list};
 use std::alloc::Global;
 use std::str::from_utf8;
 use swid_cli::run_plain;

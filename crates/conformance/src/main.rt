@@ -6,32 +6,20 @@
 //! in it was made by this program: they are from the RFCs, worked out by hand, or given by two
 //! other readers.
 //!
-//! A file here has the calls of one family; `answer` lists them all.
+//! The libraries `conformance_NAME` have the calls of one family each; `answer` lists them all.
 #![tactic(auto)]
 
-mod attributes;
-mod batches;
-mod book;
-mod cbor;
 mod command;
-mod errors;
 mod held;
-mod links;
-mod log;
-mod machine;
-mod mirror;
-mod payload;
-mod report;
-mod request;
 mod row;
-mod status;
-mod stream;
-mod tag;
 mod text;
-mod words;
 
 use crate::held::Held;
 use crate::row::rows_text;
+use conformance_inventory::{book, log, mirror};
+use conformance_messages::{attributes, batches, errors, machine, report, request, status, stream};
+use conformance_sessions::{collector, lines, session_links, validator};
+use conformance_tags::{cbor, links, payload, tag};
 use std::alloc::Global;
 use std::process::ExitCode;
 use std::str::from_utf8;
@@ -105,7 +93,14 @@ pub(crate) fn answer(alloc: Global, held: &mut Held, call: &str, words: &str) ->
         "mirror" => mirror::step(alloc, &mut held.mirror, words),
         "log" => log::step(alloc, &mut held.log, words),
         "book" => book::step(alloc, &mut held.book, words),
-        "machine" => machine::step(alloc, held, words),
+        "machine" => machine::step(alloc, &mut held.client, &mut held.server, words),
+        "collector" => collector::collector(alloc, words),
+        "collector_cut" => collector::cut(alloc, words),
+        "validator" => validator::validator(alloc, words),
+        "validator_cut" => validator::cut(alloc, words),
+        "collector_link" => session_links::collector(alloc, words),
+        "validator_link" => session_links::validator(alloc, words),
+        "lines" => lines::lines(alloc, words),
         _ => None,
     }
 }

@@ -1,6 +1,6 @@
 //! Stamps, texts of octets, and decimal numbers.
 
-use crate::words::{digits_of, octets_of};
+use conformance_words::{digits_of, octets_of};
 use std::alloc::Global;
 use std::str::from_utf8;
 use wire_base::{List, TextRefused, is_stamp, put_escaped, read_decimal, read_escaped, stamp_text};
