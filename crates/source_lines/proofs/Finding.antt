@@ -1,5 +1,5 @@
 -- What is found of tags, and that it is one value.
-use Rattle.std.proofs.Common.{◌≡◌, ◌<◌, ◌≤◌, ℕ, List, length, Option, Some, None, Result, Ok, Err, sym, ap, ◌∙◌, subst, arith}
+use Rattle.std.proofs.Common.{◌≡◌, ◌<◌, ◌≤◌, ℕ, List, length, Option, Some, Result, sym, ap, ◌∙◌, subst, arith}
 use Rattle.wire_base.specs.declared.values.memory.Memory.{Memory}
 use Rattle.cbor_det.specs.Canonical.{canon}
 use Rattle.coswid_tag.specs.declared.tag.Tag.{Tag}

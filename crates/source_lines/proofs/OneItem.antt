@@ -1,7 +1,5 @@
 -- A line is one item.
-use Rattle.std.proofs.Common.{◌≡◌, ◌⊎◌, inl, inr, ◌<◌, ◌≤◌, ℕ, false, List, [], ◌∷◌, refl, sym, ap, ◌∙◌, subst, arith}
-use Rattle.swima_model.specs.declared.record.Content.{Content}
-use Rattle.swima_model.specs.declared.record.Model.{Model}
+use Rattle.std.proofs.Common.{◌≡◌, ◌⊎◌, inl, inr, ℕ, false, List, [], ◌∷◌, refl, sym, ap, ◌∙◌, subst, arith}
 use Rattle.source_set.specs.Items.{is_failed}
 use Rattle.source_lines.specs.LineItems.{AreDescribed, AreTagged, IsDescribed, IsItem, IsKey, IsTagged, Say, Says, SaysAfter}
 use Rattle.line_words.specs.Words.{words}

@@ -1,5 +1,5 @@
 -- The items that lines are.
-use Rattle.std.specs.Prelude.{◌≡◌, ◌⊎◌, ◌≤◌, ℕ, List, [], ◌∷◌, codes, length}
+use Rattle.std.specs.Prelude.{◌≡◌, ◌⊎◌, ℕ, List, [], ◌∷◌, codes}
 use Rattle.line_words.specs.Reading.{IsHex, IsNumber, IsText, IsWithin}
 use Rattle.line_words.specs.Words.{words}
 use Rattle.source_lines.specs.Package.{IsPackage}

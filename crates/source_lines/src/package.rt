@@ -1,5 +1,6 @@
 //! What is kept of a tag: the software identifier that it gives, and its canonical octets.
 
+ghost use Rattle.std.specs.Prelude.{◌≤◌};
 ghost use Rattle.cbor_det.specs.Term.{depth};
 ghost use Rattle.coswid_codec.specs.Items.{tag_item};
 ghost use Rattle.coswid_codec.specs.SizesFit.{SizesFit};

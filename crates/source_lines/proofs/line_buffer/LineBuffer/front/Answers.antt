@@ -1,4 +1,4 @@
-use Rattle.std.proofs.Common.{List, ℕ, ap, rules}
+use Rattle.std.proofs.Common.{ap}
 use Rattle.source_lines.specs.Lines.{BufferView}
 use Rattle.source_lines.proofs.Fronts.{line_in, long_in, more_in, searched_more}
 use Rattle.source_lines.proofs.line_buffer.LineBuffer.front.Goals as goal

@@ -1,6 +1,6 @@
-use Rattle.std.proofs.Common.{◌∙◌, ap, sym}
+use Rattle.std.proofs.Common.{◌∙◌, ap}
 use Rattle.source_lines.specs.Lines.{LineView, WillReport}
-use Rattle.source_lines.proofs.Holding.{held_keeps, line_item, long_item, long_within, more_keeps, more_less, quiet_item, stayed_keeps, unread_any}
+use Rattle.source_lines.proofs.Holding.{held_keeps, line_item, long_item, long_within, more_keeps, quiet_item, stayed_keeps, unread_any}
 use Rattle.source_lines.proofs.line_source.LineSource.read_item.Goals as goal
 
 pub returns-in_err-take_line-in-Line-clause-unread : goal.returns-in_err-take_line-in-Line-clause-unread
