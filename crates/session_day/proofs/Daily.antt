@@ -1,20 +1,22 @@
 -- The day, step by step.
-use Rattle.std.proofs.Common.{◌≡◌, ◌∙◌, ℕ, zero, suc, ◌+◌, ◌++◌, List, [], ◌∷◌, Result, Ok, refl, sym, ap, subst, append_assoc, append-nil, arith}
-use Rattle.std.specs.Prelude.{OnOk}
+use Rattle.std.proofs.Common.{◌≡◌, ◌∙◌, ℕ, zero, suc, ◌+◌, ◌-◌, ◌≤◌, ◌++◌, List, [], ◌∷◌, Result, Ok, Err, refl, sym, ap, ap₂, subst, append_assoc, append-nil, length, arith}
+use Rattle.std.specs.Prelude.{◌/◌, ◌%◌, ◌==◌, Bool, false, OnOk, if◌then◌else◌}
 use Rattle.wire_base.specs.Stamp.{IsStampAt}
 use Rattle.collector_core.specs.declared.book.edit.Edit.{Edit}
 use Rattle.swima_model.specs.declared.record.Content.{Content}
 use Rattle.session_world.specs.declared.telling.Telling.{Telling}
-use Rattle.session_world.specs.Lines.{Told, enters}
+use Rattle.session_world.specs.Lines.{Told, and_on, cuts, enters, opens, round, runs, ups}
 use Rattle.session_world.specs.Standing.{Does, StandsFor, WorldView}
-use Rattle.session_world.specs.World.{World}
+use Rattle.session_world.specs.World.{World, carried_up, waits_up}
 use Rattle.session_world.proofs.Joining.{on_ok}
+use Rattle.session_world.proofs.Rounds.{does_same, does_then}
 use Rattle.session_script.specs.declared.line.Line.{Line}
+use Rattle.session_script.specs.declared.line.Line.TheVariants as said
 use Rattle.session_script.specs.Replay.{Changes, IsEntered}
 use Rattle.session_day.specs.declared.day.Day.{Day}
-use Rattle.session_day.specs.Day.{AreChanged, IsChanged, first_session, last_sessions, morning}
+use Rattle.session_day.specs.Day.{AreChanged, IsChanged, day_change, first_session, half_up, last_sessions, morning}
 use Rattle.session_day.specs.Days.{Acts, FollowsFirst, IsMorning, PlaysDay, Steps}
-use Rattle.session_day.specs.Package.{package_content, packages}
+use Rattle.session_day.specs.Package.{content_by, next_number, number_of, package_content, packages}
 
 -- ---- packages
 
@@ -29,6 +31,20 @@ packages_more count first (suc n) =
   where
     there : first + suc n ≡ first + 1 + n
     there = omega (arith)
+
+-- The packages up to the one of this number, and its number in the sequence.
+pub morning_next : (count number x next : ℕ) (base longer : List Content) (made : Content) → 1 ≤ number → x ≡ number_of count (number - 1) → base ≡ packages count 1 (number - 1) → next ≡ next_number x → made ≡ content_by number 0 next
+    → longer ≡ base ++ made ∷ [] → (next ≡ number_of count (number + 1 - 1)) × (longer ≡ packages count 1 (number + 1 - 1))
+morning_next count number x next base longer made some so_far before one is more =
+    let k : ℕ = number - 1 in
+    let here : number ≡ 1 + k = omega (arith, some) in
+    let there : suc k ≡ number + 1 - 1 = omega (arith, some) in
+    let counted : next ≡ number_of count (suc k) = one ∙ ap next_number so_far in
+    let packed : made ≡ package_content count (1 + k) 0 = is ∙ ap₂ (λ (n x : ℕ). content_by n 0 x) here counted in
+    (
+      counted ∙ ap (number_of count) there,
+      more ∙ ap₂ (λ (cs : List Content) (c : Content). cs ++ c ∷ []) before packed ∙ packages_more count 1 k ∙ ap (packages count 1) there,
+    )
 
 -- ---- changes
 
@@ -73,11 +89,25 @@ changed_all count number left before after none changing w stands =
     let all : AreChanged count 40 1 w (so.w, so.so_far ++ []) = so.goes (so.w, []) (subst (λ (k : ℕ). AreChanged count k number so.w (so.w, [])) (sym none) (changes_none count number so.w)) in
     ((so.w, so.so_far ++ []), all, (so.stands, (so.told ∙ ap (λ (told : List Telling). before.told ++ told) (sym (append-nil so.so_far)), so.carried)))
 
+-- What the change of a number is.
+module _ (count number : ℕ) where
+  abbrev by_rest : ℕ → Line
+  by_rest rest = if rest == 0 then said.Delete number else (if rest == 3 then said.Create (package_content count (count + number) 0) else said.Alter number (package_content count number number))
+
+  pub day_deletes : number % 4 ≡ 0 → day_change count number ≡ said.Delete number
+  day_deletes is = ap by_rest is
+
+  pub day_creates : number % 4 ≡ 3 → day_change count number ≡ said.Create (package_content count (count + number) 0)
+  day_creates is = ap by_rest is
+
+  pub day_alters : (number % 4 == 0) ≡ false → (number % 4 == 3) ≡ false → day_change count number ≡ said.Alter number (package_content count number number)
+  day_alters no nor = rw (no, nor) refl
+
 -- One change that a line says, with its stamp.
-pub changed_so : {T E : Type 0} (said : Line) (second : ℕ) (stamp : List ℕ) (change : Edit) (before after : Day) (result : Result T E)
-    → IsStampAt second (Ok stamp) → Changes said stamp change → OnOk result (Does (enters change) before.world before.told after.world after.told) → after.carried ≡ before.carried
-    → OnOk result (Steps (IsEntered said second) before after)
-changed_so said second stamp change before after result stamped changes done carried =
+pub changed_so : {T E : Type 0} (line : Line) (second : ℕ) (stamp : List ℕ) (change : Edit) (before after : Day) (result : Result T E)
+    → IsStampAt second (Ok stamp) → Changes line stamp change → OnOk result (Does (enters change) before.world before.told after.world after.told) → after.carried ≡ before.carried
+    → OnOk result (Steps (IsEntered line second) before after)
+changed_so line second stamp change before after result stamped changes done carried =
     on_ok result (λ does w stands.
     let to = does w stands in
     (enters change w, record { stamp = stamp; stamped = stamped; change = change; changes = changes; does = refl }, (to.0, (to.1, carried)))) done
@@ -87,6 +117,31 @@ changed_so said second stamp change before after result stamped changes done car
 -- A line of which nothing is told, whatever was told before.
 pub untold : (line : World → Told) (before after : WorldView) (told : List Telling) → ((w : World) → (line w).1 ≡ []) → Does line before [] after [] → Does line before told after told
 untold line before after told none does = λ w stands. ((does w stands).0, sym (append-nil told) ∙ ap (λ (ts : List Telling). told ++ ts) (sym (none w)))
+
+-- The sessions after the changes, one line after another.
+pub last_done : (start opened waiting halved over again last : WorldView) (told first second third : List Telling) (half : ℕ) → ((w : World) → StandsFor waiting w → half ≡ length (waits_up w) / 2)
+    → Does opens start [] opened [] → Does round opened told waiting first → Does (ups half) waiting first halved second → Does cuts halved [] over [] → Does opens over [] again [] → Does runs again second last third
+    → Does last_sessions start told last third
+last_done start opened waiting halved over again last told first second third half is begins carries cut drops reopens ends =
+    does_then (λ w. and_on (and_on (and_on (and_on (opens w) round) half_up) cuts) opens) runs start again last told second third
+    (does_then (λ w. and_on (and_on (and_on (opens w) round) half_up) cuts) opens start over again told second second
+    (does_then (λ w. and_on (and_on (opens w) round) half_up) cuts start halved over told second second
+    (does_then (λ w. and_on (opens w) round) half_up start waiting halved told first second
+    (does_then opens round start opened waiting told told first (untold opens start opened told (λ w. refl) begins) carries)
+    (does_same (ups half) half_up waiting halved first second (λ w stands. ap (λ (k : ℕ). ups k w) (is w stands)) cut))
+    (untold cuts halved over second (λ w. refl) drops))
+    (untold opens over again second (λ w. refl) reopens))
+    ends
+
+-- The first session, and the octets that it carries.
+pub first_followed : {T E : Type 0} (before after : Day) (opened : WorldView) (result : Result T E) → Does opens before.world [] opened []
+    → OnOk result (Does runs opened before.told after.world after.told)
+    → OnOk result ((w : World) → StandsFor opened w → before.carried ≡ carried_up w → after.carried ≡ carried_up (runs w).0) → OnOk result (FollowsFirst before after)
+first_followed before after opened (Ok value) begins ends noted = (
+  does_then opens runs before.world opened after.world before.told before.told after.told (untold opens before.world opened before.told (λ w. refl) begins) ends,
+  λ w stands none. noted (opens w).0 (begins w stands).0 none,
+)
+first_followed before after opened (Err error) begins ends noted = tt
 
 -- ---- the whole day
 

@@ -1,5 +1,5 @@
 -- The day of an endpoint that `make` plays, and what it prints. The day is our own.
-use Rattle.std.specs.Prelude.{◌≡◌, ◌==◌, ◌+◌, ◌/◌, ◌%◌, ℕ, zero, suc, Bool, true, false, List, [], ◌∷◌, ◌++◌, Option, Some, None, Ok, length, filter, codes, if◌then◌else◌}
+use Rattle.std.specs.Prelude.{◌≡◌, ◌≤◌, ◌==◌, ◌+◌, ◌/◌, ◌%◌, ℕ, zero, suc, Bool, true, false, List, [], ◌∷◌, ◌++◌, Option, Some, None, Ok, length, filter, codes, if◌then◌else◌}
 use Rattle.std.specs.Fmt.{decimal}
 use Rattle.hex.specs.Hex.{encode_lower}
 use Rattle.sha2.specs.Sha256.{sha256}
@@ -19,6 +19,10 @@ use Rattle.session_script.specs.Replay.{IsEntered}
 use Rattle.command_text.specs.Text.{line, mirror_text, refusal}
 
 -- ---- the day
+
+-- A day has that many packages, so many that each change finds the one that it changes.
+abbrev pub IsCount : ℕ → Type 0
+IsCount count = (40 ≤ count) × (count ≤ 5000)
 
 -- In the morning all packages are there.
 abbrev pub morning : ℕ → World

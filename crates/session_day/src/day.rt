@@ -2,7 +2,7 @@
 //! last one.
 
 ghost use Rattle.std.specs.Prelude.{◌≡◌, ◌≤◌, ◌+◌, IfOk, OnOk};
-ghost use Rattle.session_day.specs.Day.{AreChanged, IsChanged, last_sessions};
+ghost use Rattle.session_day.specs.Day.{AreChanged, IsChanged, IsCount, last_sessions};
 ghost use Rattle.session_day.specs.Package.{package_content};
 ghost use Rattle.session_script.specs.Replay.{IsEntered};
 ghost use Rattle.session_script.specs.declared.line.Line.TheVariants as said;
@@ -10,11 +10,11 @@ ghost use Rattle.session_day.specs.Days.{Acts, FollowsFirst, IsMorning, PlaysDay
 
 use crate::package::{next_number, number_of, package};
 use collector_core::Edit;
-use session_script::begin_book;
+use session_script::{begin_book, stamp_at};
 use session_world::{Tellings, Terms, World};
 use std::alloc::Global;
 use swima_model::Kind;
-use wire_base::{List, Memory, Octets, stamp_text};
+use wire_base::{List, Memory, Octets};
 
 /// The fewest packages of a day: each change but those that add one changes one of them.
 pub const FEWEST_PACKAGES: u32 = 40;
@@ -44,8 +44,7 @@ pub struct Day {
 
 /// The day of an endpoint with that many packages.
 pub fn play_day(alloc: Global, count: u32) -> Result<Day, Memory>
-    requires some { 40 ≤ count }
-    requires few { count ≤ 5000 }
+    requires count { IsCount count }
     ensures day { IfOk result (λ day. PlaysDay count day) }
 {
     let mut day = morning(alloc, count)?;
@@ -112,7 +111,7 @@ impl Day {
         requires number { number ≤ 40 }
         ensures changes { OnOk result (Steps (IsEntered (said.Delete number) number) self.old self.new) }
     {
-        let stamp = &stamp_text(u64::from(number)).unwrap();
+        let stamp = &stamp_at(number);
         self.world
             .enter(Edit::Delete { stamp, id: number }, &mut self.told)
     }
@@ -123,7 +122,7 @@ impl Day {
         requires number { number ≤ 40 }
         ensures changes { OnOk result (Steps (IsEntered (said.Create (package_content count (count + number) 0)) number) self.old self.new) }
     {
-        let stamp = &stamp_text(u64::from(number)).unwrap();
+        let stamp = &stamp_at(number);
         let added = count + number;
         let content = &package(alloc, added, 0, number_of(count, added))?;
         self.world
@@ -135,7 +134,7 @@ impl Day {
         requires number { number ≤ 40 }
         ensures changes { OnOk result (Steps (IsEntered (said.Alter number (package_content count number number)) number) self.old self.new) }
     {
-        let stamp = &stamp_text(u64::from(number)).unwrap();
+        let stamp = &stamp_at(number);
         let content = &package(alloc, number, number, number_of(count, number))?;
         let edit = Edit::Alter {
             stamp,

@@ -1,7 +1,7 @@
 //! The summary of a day.
 
 ghost use Rattle.std.specs.Prelude.{◌≡◌, ◌≤◌, ◌++◌, IfOk, OnOk};
-ghost use Rattle.session_day.specs.Day.{MakeTells, count_of, digest_line, is_adopted, is_full, is_report, point_line, summary};
+ghost use Rattle.session_day.specs.Day.{IsCount, MakeTells, count_of, digest_line, is_adopted, is_full, is_report, point_line, summary};
 
 use crate::day::{Day, play_day};
 use command_text::{from_string, mirror_text, refusal};
@@ -15,8 +15,7 @@ use wire_base::{Memory, Octets};
 /// What is printed of a day of an endpoint with that many packages: a summary; `Memory` where there
 /// is no room.
 pub fn day_text(alloc: Global, count: u32) -> Result<Octets, Memory>
-    requires some { 40 ≤ count }
-    requires few { count ≤ 5000 }
+    requires count { IsCount count }
     ensures told { IfOk result (λ made. MakeTells count made) }
 {
     let day = play_day(alloc, count)?;

@@ -13,7 +13,7 @@
 //! |---|---|---|
 //! | `script.rt` | a script, line by line | `Replay` |
 //! | `words.rt`, `header.rt`, `line.rt` | lines and words, the first line, and those after it | `Script` |
-//! | `inventory.rt` | the inventory that a world begins with | |
+//! | `inventory.rt` | the inventory that a world begins with, and the stamps of its changes | |
 //! | `playing.rt` | a script that is being played | `Played` |
 //! | `texts.rt` | the lines that are printed | `Replay` |
 //! | `laws.rt` | one text fits each script | `OneText` |
@@ -28,5 +28,5 @@ mod script;
 mod texts;
 mod words;
 
-pub use inventory::begin_book;
+pub use inventory::{begin_book, stamp_at};
 pub use script::{MOST_SCRIPT_OCTETS, replay_answer};

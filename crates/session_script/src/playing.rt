@@ -10,7 +10,7 @@ ghost use Rattle.collector_core.specs.Edits.{IsStamped};
 ghost use Rattle.session_world.specs.Lines.{enters};
 
 use crate::header::Header;
-use crate::inventory::begin_book;
+use crate::inventory::{begin_book, stamp_at};
 use crate::line::Line;
 use crate::texts::{told_text, waits_text};
 use collector_core::Edit;
@@ -18,7 +18,7 @@ use command_text::mirror_text;
 use session_world::{Tellings, Terms, World};
 use std::alloc::Global;
 use swima_model::Content;
-use wire_base::{List, Memory, Octets, stamp_text};
+use wire_base::{List, Memory, Octets};
 
 /// The world, and how many lines changed the inventory or were refused.
 #[derive(Debug, Drop)]
@@ -126,7 +126,7 @@ impl Playing {
         ensures world { self.new.world ≡ self.old.world }
     {
         self.changes += 1;
-        stamp_text(u64::from(self.changes)).unwrap()
+        stamp_at(self.changes)
     }
 
     fn enter(&mut self, alloc: Global, edit: Edit<'_>) -> Result<Octets, Memory>

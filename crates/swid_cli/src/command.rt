@@ -2,7 +2,8 @@
 
 ghost use Rattle.std.specs.Prelude.{◌≡◌, ◌↔◌, IsSome, IfSome, map};
 ghost use Rattle.swid_cli.specs.Commands.{Says};
-ghost use Rattle.swid_cli.specs.Words.{IsCommandLine};
+ghost use Rattle.line_words.specs.Reading.{FindsExactly};
+ghost use Rattle.swid_cli.specs.Words.{IsCommandLine, IsCountWord};
 
 use line_words::read_number;
 use session_day::{FEWEST_PACKAGES, MOST_PACKAGES};
@@ -41,17 +42,20 @@ pub(crate) fn command_of(words: &[&str]) -> Option<Command>
         }),
         ["links"] => Some(Command::Links),
         ["replay"] => Some(Command::Replay),
-        ["make", count] => make_of(count),
+        ["make", word] => match count_of(word) {
+            Some(count) => Some(Command::Make(count)),
+            None => None,
+        },
         _ => None,
     }
 }
 
-/// `make` with the count of packages that a word is, if it is one.
-fn make_of(word: &str) -> Option<Command> {
+/// The number of packages that a word is, if a day may have that many.
+fn count_of(word: &str) -> Option<u32>
+    ensures count { FindsExactly (IsCountWord word.now) result }
+{
     match read_number(word.as_bytes()) {
-        Some(count) if FEWEST_PACKAGES <= count && count <= MOST_PACKAGES => {
-            Some(Command::Make(count))
-        }
+        Some(count) if FEWEST_PACKAGES <= count && count <= MOST_PACKAGES => Some(count),
         _ => None,
     }
 }
