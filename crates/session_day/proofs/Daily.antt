@@ -40,8 +40,7 @@ morning_next count number x next base longer made some so_far before one is more
     let here : number ≡ 1 + k = omega (arith, some) in
     let there : suc k ≡ number + 1 - 1 = omega (arith, some) in
     let counted : next ≡ number_of count (suc k) = one ∙ ap next_number so_far in
-    let packed : made ≡ package_content count (1 + k) 0 = is ∙ ap₂ (λ (n x : ℕ). content_by n 0 x) here counted in
-    (
+    let packed : made ≡ package_content count (1 + k) 0 = is ∙ ap₂ (λ (n x : ℕ). content_by n 0 x) here counted in (
       counted ∙ ap (number_of count) there,
       more ∙ ap₂ (λ (cs : List Content) (c : Content). cs ++ c ∷ []) before packed ∙ packages_more count 1 k ∙ ap (packages count 1) there,
     )

@@ -28,7 +28,7 @@ above a b lt small =
     let from_zero : lt_z (to_z w64 (of_z w64 (pos a))) (pos 0) ≡ false = ap (λ (z : ℤ). lt_z z (pos 0)) (to_z-of_z fa) ∙ le-ltb a 0 (omega arith) in
     let zero_to : le_z (pos 0) (to_z w64 (of_z w64 (pos b))) ≡ true = ap (λ (z : ℤ). le_z (pos 0) z) (to_z-of_z fb) ∙ le-leb 0 b (omega arith) in
     let less : lt_z (to_z w64 (of_z w64 (pos b))) (to_z w64 (of_z w64 (pos a))) ≡ true =
-        ap (λ (z : ℤ). lt_z z (to_z w64 (of_z w64 (pos a)))) (to_z-of_z fb) ∙ ap (λ (z : ℤ). lt_z (pos b) z) (to_z-of_z fa) ∙ lt-ltb b a lt in
+    ap (λ (z : ℤ). lt_z z (to_z w64 (of_z w64 (pos a)))) (to_z-of_z fb) ∙ ap (λ (z : ℤ). lt_z (pos b) z) (to_z-of_z fa) ∙ lt-ltb b a lt in
     sym (above_from_zero (pos a) (pos b) fa fb from_zero zero_to) ∙ less
 
 -- The keys are numbers below this one.
@@ -63,13 +63,29 @@ maker_is e is =
     let registered : Term = tagged 32 (text (codes "example.com")) in
     let roles : Term = array (term (integer (pos 1)) (term (integer (pos 2)) no_terms)) in
     rw (is.entity_name, is.reg_id, is.role, is.thumbprint, is.extras)
-      (ap (λ (ps : Pairs). map (put (integer (pos 33)) roles ps)) (put_last 32 (omega arith) registered (pair (integer (pos 31)) name no_pairs) (omega arith, tt))
-      ∙ ap (λ (ps : Pairs). map ps) (put_last 33 (omega arith) roles (pair (integer (pos 31)) name (pair (integer (pos 32)) registered no_pairs)) (omega arith, (omega arith, tt))))
+    (ap (λ (ps : Pairs). map (put (integer (pos 33)) roles ps)) (put_last 32 (omega arith) registered (pair (integer (pos 31)) name no_pairs) (omega arith, tt))
+    ∙ ap (λ (ps : Pairs). map ps) (put_last 33 (omega arith) roles (pair (integer (pos 31)) name (pair (integer (pos 32)) registered no_pairs)) (omega arith, (omega arith, tt))))
 
 description_is : (letters : ℕ) (m : SoftwareMeta) → IsDescription (replicate letters 97) m → map (meta_pairs m) ≡ description_item letters
 description_is letters m is =
-    rw (is.activation_status, is.channel_type, is.colloquial_version, is.description, is.edition, is.entitlement_data_required, is.entitlement_key, is.generator,
-      is.persistent_id, is.product, is.product_family, is.revision, is.summary, is.unspsc_code, is.unspsc_version, is.extras) refl
+    rw (
+      is.activation_status,
+      is.channel_type,
+      is.colloquial_version,
+      is.description,
+      is.edition,
+      is.entitlement_data_required,
+      is.entitlement_key,
+      is.generator,
+      is.persistent_id,
+      is.product,
+      is.product_family,
+      is.revision,
+      is.summary,
+      is.unspsc_code,
+      is.unspsc_version,
+      is.extras,
+    ) refl
 
 -- The pairs of the tag's map.
 in_order : (name maker description version release : Term)
@@ -81,25 +97,44 @@ in_order name maker description version release =
     let five : Pairs = keyed 0 name (keyed 1 name (keyed 2 maker (keyed 5 description no_pairs))) in
     let twelve : Pairs = keyed 0 name (keyed 1 name (keyed 2 maker (keyed 5 description (keyed 12 version no_pairs)))) in
     ap (λ (ps : Pairs). put (integer (pos 13)) release (put (integer (pos 12)) version (put (integer (pos 5)) description (put (integer (pos 2)) maker ps))))
-      (put_last 1 (omega arith) name (keyed 0 name no_pairs) (omega arith, tt))
+    (put_last 1 (omega arith) name (keyed 0 name no_pairs) (omega arith, tt))
     ∙ ap (λ (ps : Pairs). put (integer (pos 13)) release (put (integer (pos 12)) version (put (integer (pos 5)) description ps)))
-      (put_last 2 (omega arith) maker one (omega arith, (omega arith, tt)))
+    (put_last 2 (omega arith) maker one (omega arith, (omega arith, tt)))
     ∙ ap (λ (ps : Pairs). put (integer (pos 13)) release (put (integer (pos 12)) version ps))
-      (put_last 5 (omega arith) description two (omega arith, (omega arith, (omega arith, tt))))
+    (put_last 5 (omega arith) description two (omega arith, (omega arith, (omega arith, tt))))
     ∙ ap (λ (ps : Pairs). put (integer (pos 13)) release ps)
-      (put_last 12 (omega arith) version five (omega arith, (omega arith, (omega arith, (omega arith, tt)))))
+    (put_last 12 (omega arith) version five (omega arith, (omega arith, (omega arith, (omega arith, tt)))))
     ∙ put_last 13 (omega arith) release twelve (omega arith, (omega arith, (omega arith, (omega arith, (omega arith, tt)))))
 
 nothing : {A : Type 0} (x : A) → None ≡ Some x → ⊥
 nothing x is = absurd cc
 
 module _ (place version letters : ℕ) (g : Tag) (makers : List Entity) (metas : List SoftwareMeta) (are : AreMakers makers) (described : AreDescribed letters metas)
-  (fields : IsTagOf (package_name place) (package_name place) makers metas (codes "1") version g) where
+    (fields : IsTagOf (package_name place) (package_name place) makers metas (codes "1") version g) where
   item_is : tag_item g ≡ package_item place version letters
   item_is =
-      rw (fields.tag_id, fields.software_name, fields.entity, fields.evidence, fields.link, fields.software_meta, fields.payload, fields.corpus, fields.patch, fields.media,
-        fields.supplemental, fields.tag_version, fields.software_version, fields.version_scheme, fields.lang, fields.extras, are.one, described.one,
-        maker_is are.maker are.is, description_is letters described.meta described.is)
+      rw (
+        fields.tag_id,
+        fields.software_name,
+        fields.entity,
+        fields.evidence,
+        fields.link,
+        fields.software_meta,
+        fields.payload,
+        fields.corpus,
+        fields.patch,
+        fields.media,
+        fields.supplemental,
+        fields.tag_version,
+        fields.software_version,
+        fields.version_scheme,
+        fields.lang,
+        fields.extras,
+        are.one,
+        described.one,
+        maker_is are.maker are.is,
+        description_is letters described.meta described.is,
+      )
       (ap (λ (ps : Pairs). tagged 1398229316 (map ps)) (in_order (text (package_name place)) maker_item (description_item letters) (integer (pos version)) (text (codes "1"))))
 
   identifier_is : identifier_of g ≡ Some (codes "example.com__" ++ package_name place)

@@ -62,7 +62,7 @@ description_within : (letters : ℕ) → length (canon (description_item letters
 description_within letters =
     let words : Term = text (replicate letters 97) in
     let within = map_within (keyed 55 words no_pairs) (9 + ((9 + letters) + 0))
-        (keyed_within 55 words no_pairs (9 + letters) 0 (text_within (replicate letters 97) letters (omega (arith, length-replicate {A = ℕ} letters 97))) no_pairs_within) in
+    (keyed_within 55 words no_pairs (9 + letters) 0 (text_within (replicate letters 97) letters (omega (arith, length-replicate {A = ℕ} letters 97))) no_pairs_within) in
     omega (arith, within)
 
 name_within : (place : ℕ) → place < 2 ^ 32 → length (package_name place) ≤ 14
@@ -108,8 +108,12 @@ packages_count count first (suc n) = omega (arith, packages_count count (first +
 packages_octets : (count first n : ℕ) → first + n ≤ 2 ^ 32 → sum_by content_octets (packages count first n) ≤ 1096 * n
 packages_octets count first zero small = omega arith
 packages_octets count first (suc n) small =
-    omega (arith, sum_by-cons content_octets (package_content count first 0) (packages count (first + 1) n), content_within first 0 (number_of count first) (omega arith),
-    packages_octets count (first + 1) n (omega arith))
+    omega (
+      arith,
+      sum_by-cons content_octets (package_content count first 0) (packages count (first + 1) n),
+      content_within first 0 (number_of count first) (omega arith),
+      packages_octets count (first + 1) n (omega arith),
+    )
 
 pub none_refused : (count : ℕ) → count ≤ 5000 → new_refusal (packages count 1 count) ≡ None
 none_refused count few =

@@ -75,15 +75,7 @@ fn package_tag(alloc: Global, place: u32, version: u32, number: u32) -> Result<T
     let makers = makers(alloc)?;
     let metas = described(alloc, 400 + number % 401)?;
     let release = Text::new(alloc, "1")?;
-    Ok(tag_of(
-        alloc,
-        name,
-        software_name,
-        makers,
-        metas,
-        release,
-        version,
-    ))
+    Ok(tag_of(alloc, name, software_name, makers, metas, release, version))
 }
 
 fn package_name(alloc: Global, place: u32) -> Result<Text, Memory>

@@ -21,7 +21,7 @@ returns-in-Some-Mirror-clause-printed g c = λ usage fault memory.
       command = command.Mirror c.in-Some-Mirror.kind;
       said = rw c.in-Some-Mirror.field-0-is at c.in-Some-Mirror.ensures.said;
       prints = mirror_prints c.in-Some-Mirror.kind _ _ _ _ c.status.result
-    (prints c.in-Some-Mirror.kind _ _ _ _ c.mirror.result c.status.result c.status.ensures.status fault memory c.mirror.ensures.printed);
+          (prints c.in-Some-Mirror.kind _ _ _ _ c.mirror.result c.status.result c.status.ensures.status fault memory c.mirror.ensures.printed);
     }
 
 pub returns-in-Some-Mirror-clause-front : goal.returns-in-Some-Mirror-clause-front
