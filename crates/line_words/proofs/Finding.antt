@@ -1,5 +1,5 @@
 -- What the readers of words find, and that it is one value.
-use Rattle.std.proofs.Common.{◌≡◌, inl, inr, ℕ, List, length, Option, Some, None, Result, Ok, Err, sym, ap, ◌∙◌, subst, arith}
+use Rattle.std.proofs.Common.{◌≡◌, inl, inr, ℕ, List, length, Option, Some, None, Result, Ok, Err, refl, sym, ap, ◌∙◌, subst, arith}
 use Rattle.std.specs.Fmt.{decimal}
 use Rattle.wire_base.specs.Escaped.{escaped}
 use Rattle.wire_base.specs.Layout.{AreOctets}
@@ -9,7 +9,9 @@ use Rattle.wire_base.specs.declared.values.text_refused.TextRefused.TheVariants 
 use Rattle.wire_base.specs.declared.values.memory.Memory.{Memory}
 use Rattle.wire_base.proofs.Decimals.{decimal_or_fault}
 use Rattle.wire_base.proofs.Unescaping.{escaped_or_fault}
-use Rattle.line_words.specs.Reading.{Finds, IsHex, IsNumber, IsText, IsWithin}
+use Rattle.swima_model.specs.declared.record.Content.{Content}
+use Rattle.swima_model.specs.declared.record.Model.{Model}
+use Rattle.line_words.specs.Reading.{Finds, FindsExactly, IsHex, IsNumber, IsText, IsWithin}
 
 -- ---- one value
 
@@ -30,6 +32,19 @@ one_hex word one other (inl a) (inl b) = a.1 ∙ sym b.1
 one_hex word one other (inl a) (inr b) = absurd (b.0 a.0)
 one_hex word one other (inr a) (inl b) = absurd (a.0 b.0)
 one_hex word one other (inr a) (inr b) = ok_same one other (sym a.2 ∙ b.2)
+
+pub content_same : (a b : Content) → a.model ≡ b.model → a.source ≡ b.source → a.ident ≡ b.ident → a.locator ≡ b.locator → a.body ≡ b.body → a ≡ b
+content_same a b model source ident locator body =
+    ap (λ (m : Model). record a { model = m }) model ∙ ap (λ (n : ℕ). record a { model = b.model; source = n }) source
+    ∙ ap (λ (i : List ℕ). record a { model = b.model; source = b.source; ident = i }) ident
+    ∙ ap (λ (l : List ℕ). record b { locator = l; body = a.body }) locator ∙ ap (λ (o : List ℕ). record b { body = o }) body
+
+-- Where one value can be found, one answer can be given.
+pub found_one : {A : Type 0} (Is : A → Type 0) → ((a b : A) → Is a → Is b → a ≡ b) → (one other : Option A) → FindsExactly Is one → FindsExactly Is other → one ≡ other
+found_one Is same (Some a) (Some b) this that = ap Some (same a b this that)
+found_one Is same (Some a) None this that = absurd (that a this)
+found_one Is same None (Some b) this that = absurd (this b that)
+found_one Is same None None this that = refl
 
 -- ---- what is found of one thing is found of another
 

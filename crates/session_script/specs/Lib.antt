@@ -1,3 +1,4 @@
 pub mod Script
 pub mod Replay
 pub mod Played
+pub mod OneText

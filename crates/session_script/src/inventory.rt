@@ -12,12 +12,7 @@ use wire_base::{Memory, stamp_text};
 
 /// A book of an epoch that is not 0, which keeps at most `cap` events, from 1 to 4,096, and begins
 /// with these contents, which no limit refuses; `Memory` where there is no room.
-pub fn begin_book(
-    alloc: Global,
-    epoch: u32,
-    cap: usize,
-    base: &[Content],
-) -> Result<Book, Memory>
+pub fn begin_book(alloc: Global, epoch: u32, cap: usize, base: &[Content]) -> Result<Book, Memory>
     requires some { 1 ≤ cap }
     requires few { cap ≤ 4096 }
     requires numbered { 1 ≤ epoch }

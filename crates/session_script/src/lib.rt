@@ -3,8 +3,9 @@
 //!
 //! It stands on `session_world` for the world that a script changes, on `session_rules` and
 //! `collector_core` for what is printed of ends and refusals, on `command_text` for the lines of
-//! mirrors, on `line_words` for the values of words, and on `validator_core`, `swima_model`,
-//! `wire_base` and `hex`. The command `replay` rests on this clause of `replay_answer`:
+//! mirrors, on `line_words` for the values of words, on `jiff` and `jiff_core` in the proof that a
+//! second has one stamp, and on `validator_core`, `swima_model`, `wire_base` and `hex`. The command
+//! `replay` rests on this clause of `replay_answer`:
 //!
 //! - `told`: what is printed, and how it ends, is what `ReplayTells` says of all octets of the input.
 //!
@@ -15,10 +16,12 @@
 //! | `inventory.rt` | the inventory that a world begins with, and the stamps of its changes | |
 //! | `playing.rt` | a script that is being played | `Played` |
 //! | `texts.rt` | the lines that are printed | `Replay` |
+//! | `laws.rt` | one text fits each script | `OneText` |
 #![tactic(auto)]
 
 mod header;
 mod inventory;
+pub mod laws;
 mod line;
 mod playing;
 mod script;

@@ -10,7 +10,7 @@ use Rattle.session_rules.specs.Transcripts.{follow_mirror}
 use Rattle.session_rules.proofs.Limit.{follows_below, serves_below}
 use Rattle.collector_session.proofs.Coring.{octets_more, octets_of_piece}
 use Rattle.session_world.specs.declared.terms.Terms.{Terms}
-use Rattle.session_world.specs.Lines.{MOST_ROUNDS, all_down, all_up, follows_by, is_none, is_quiet, round, rounds, runs, serves_by, used}
+use Rattle.session_world.specs.Lines.{MOST_ROUNDS, Told, all_down, all_up, follows_by, is_none, is_quiet, round, rounds, runs, serves_by, used}
 use Rattle.session_world.specs.Meaning.{NothingWaitsAfterRuns}
 use Rattle.session_world.specs.World.{Joined, MOST, World, collector_end, down_waits, follow_config, following, serve_config, serving, unless_over, up_waits, validator_end, waits_down, waits_up}
 use Rattle.session_world.proofs.Collecting.{world_of}
@@ -96,7 +96,7 @@ down_left w = by_joined w.terms w.chronicle w.mirror w.joined
     by_joined terms chronicle mirror (Some j) =
         serves_left terms chronicle mirror j (collector_end (world_of terms chronicle mirror j) j) (turns_of (used j.down (down_waits (world_of terms chronicle mirror j) j))) (down_waits (world_of terms chronicle mirror j) j)
 
-take_none : (n : ℕ) → take n [] ≡ []
+take_none : (n : ℕ) → take {A = ℕ} n [] ≡ []
 take_none zero = refl
 take_none (suc n) = refl
 
@@ -124,7 +124,7 @@ round_less w = by_joined w.terms w.chronicle w.mirror w.joined
 -- ---- rounds
 
 quiet_next : (w : World) (n : ℕ) (quiet : Bool) → is_quiet w ≡ quiet → (is_quiet w ≡ false → is_quiet (rounds n (round w).0).0 ≡ true)
-    → is_quiet (cond quiet (w, []) ((rounds n (round w).0).0, (round w).1 ++ (rounds n (round w).0).1)).0 ≡ true
+    → is_quiet (cond {A = Told} quiet (w, []) ((rounds n (round w).0).0, (round w).1 ++ (rounds n (round w).0).1)).0 ≡ true
 quiet_next w n true is next = is
 quiet_next w n false is next = next is
 

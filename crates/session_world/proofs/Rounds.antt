@@ -55,8 +55,8 @@ down_waits_are view w stands = by_joined w.terms w.chronicle w.mirror view.joine
 pub waiting : (waits : WorldView → List ℕ) (waits_in : World → List ℕ) → ((view : WorldView) (w : World) → StandsFor view w → waits view ≡ waits_in w)
     → {joined : Option JoinedView} (inside view : WorldView) (octets : List ℕ) → octets ≡ waits (record inside { joined = joined }) → inside.joined ≡ joined → inside ≡ view
     → (octets ≡ waits view) × ((w : World) → StandsFor view w → octets ≡ waits_in w)
-waiting waits waits_in are inside view octets is open same =
-    let here : octets ≡ waits view = is ∙ ap (λ (j : Option JoinedView). waits (record inside { joined = j })) (sym open) ∙ ap waits same in
+waiting waits waits_in are inside view octets is has same =
+    let here : octets ≡ waits view = is ∙ ap (λ (j : Option JoinedView). waits (record inside { joined = j })) (sym has) ∙ ap waits same in
     (here, λ w stands. here ∙ are view w stands)
 
 -- ---- one line and another, or the same line in other words

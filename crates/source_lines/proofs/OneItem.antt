@@ -5,7 +5,7 @@ use Rattle.swima_model.specs.declared.record.Model.{Model}
 use Rattle.source_set.specs.Items.{is_failed}
 use Rattle.source_lines.specs.LineItems.{AreDescribed, AreTagged, IsDescribed, IsItem, IsKey, IsTagged, Say, Says, SaysAfter}
 use Rattle.line_words.specs.Words.{words}
-use Rattle.line_words.proofs.Finding.{one_hex, one_number, one_text}
+use Rattle.line_words.proofs.Finding.{content_same, one_hex, one_number, one_text}
 use Rattle.source_lines.specs.Package.{IsPackage}
 use Rattle.source_lines.specs.declared.line_item.Keyed.{Keyed}
 use Rattle.source_set.specs.declared.told.Told.{Told}
@@ -13,12 +13,6 @@ use Rattle.source_set.specs.declared.told.Told.TheVariants as told
 use Rattle.source_lines.proofs.Finding.{one_package}
 
 -- ---- one content
-
-content_same : (a b : Content) → a.model ≡ b.model → a.source ≡ b.source → a.ident ≡ b.ident → a.locator ≡ b.locator → a.body ≡ b.body → a ≡ b
-content_same a b model source ident locator body =
-    ap (λ (m : Model). record a { model = m }) model ∙ ap (λ (n : ℕ). record a { model = b.model; source = n }) source
-    ∙ ap (λ (i : List ℕ). record a { model = b.model; source = b.source; ident = i }) ident
-    ∙ ap (λ (l : List ℕ). record b { locator = l; body = a.body }) locator ∙ ap (λ (o : List ℕ). record b { body = o }) body
 
 -- Two contents under one key, by what their words are.
 pub record SameKeyed (one other : Keyed) : Type 0 where
