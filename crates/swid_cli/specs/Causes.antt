@@ -1,7 +1,8 @@
 -- Why a command over an input and an output stopped.
-use Rattle.std.specs.Prelude.{◌≡◌, ◌≤◌, ℕ, Bool, true, Result, Ok, Err}
+use Rattle.std.specs.Prelude.{◌≡◌, ◌≤◌, ℕ, Bool, false, true, Result, Ok, Err}
+use Rattle.std.specs.Bool.{OnTrue}
 use Rattle.std.specs.Prelude.{◌⊎◌}
-use Rattle.wire_base.specs.Outside.{Rose}
+use Rattle.wire_base.specs.Outside.{HasCause, Rose}
 use Rattle.wire_base.specs.declared.outside.stopped.Stopped.{Stopped}
 use Rattle.wire_base.specs.declared.outside.stopped.Stopped.TheVariants as stopped
 
@@ -31,3 +32,12 @@ pub record HasFilesCauses {A : Type 0} (looked_at : Bool) (input-before input-af
   pub output : output-before ≤ output-after
   pub files : files-before ≤ files-after
   pub cause : FilesCause looked_at input-before input-after output-before output-after files-before files-after result
+
+-- What a part of a command does to files that it may look at. They expose what they did, and are as
+-- they were where it does not look at them. A fault stops it exactly where their count rose, and
+-- only where it looks at them.
+pub record LooksAt {F C : Type 0} (exposed : F → C) (faults : F → ℕ) (looks failed : Bool) (before after : F) : Type 0 where
+  pub contents : exposed after ≡ exposed before
+  pub untouched : looks ≡ false → after ≡ before
+  pub cause : HasCause (faults before) (faults after) failed
+  pub looked : OnTrue failed (looks ≡ true)

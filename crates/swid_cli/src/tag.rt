@@ -4,18 +4,16 @@ pub(crate) mod lines;
 pub(crate) mod verdict_lines;
 
 ghost use Rattle.std.specs.Prelude.{◌≡◌, ◌≤◌, true, false, IfOk, IfSome, length};
-ghost use Rattle.std.specs.Bool.{OnTrue};
 ghost use Rattle.cbor_det.specs.Term.{depth};
 ghost use Rattle.coswid_codec.specs.Answers.{BeginsTag};
 ghost use Rattle.coswid_codec.specs.Items.{tag_item};
 ghost use Rattle.coswid_codec.specs.SizesFit.{SizesFit};
 ghost use Rattle.coswid_tag.specs.Findings.{findings};
-ghost use Rattle.swid_cli.specs.Causes.{HasFilesCauses};
+ghost use Rattle.swid_cli.specs.Causes.{HasFilesCauses, LooksAt};
 ghost use Rattle.swid_cli.specs.Checking.{TagVerdicts, checked_ending, checked_text};
 ghost use Rattle.swid_cli.specs.TagReads.{PayloadReads, TagReads};
 ghost use Rattle.swid_cli.specs.Tagging.{TAG_OCTETS, TagTells};
 ghost use Rattle.swid_cli.specs.Telling.{RanTelling};
-ghost use Rattle.wire_base.specs.Outside.{HasCause};
 ghost use Rattle.wire_base.specs.Passing.{is_fault};
 
 use crate::tag::lines::form_line;
@@ -64,11 +62,8 @@ fn answer_to<F: Files>(
     files: &mut F,
 ) -> Result<Answer, Stopped>
     ensures told { IfOk result (λ made. TagTells looks_at_files (F.contents files.old) octets.now made.text made.ending) }
-    ensures contents { F.contents files.new ≡ F.contents files.old }
-    ensures files { looks_at_files ≡ false → files.new ≡ files.old }
     ensures reads { looks_at_files ≡ true → TagReads octets.now result (F.reads files.old) (F.reads files.new) }
-    ensures cause { HasCause (F.faults files.old) (F.faults files.new) (is_fault result) }
-    ensures looked { OnTrue (is_fault result) (looks_at_files ≡ true) }
+    ensures looks { LooksAt F.contents F.faults looks_at_files (is_fault result) files.old files.new }
 {
     if MOST_TAG_OCTETS < octets.len() {
         return Ok(beyond_limit(alloc, MOST_TAG_OCTETS)?);
@@ -97,11 +92,8 @@ fn answer_to_tag<F: Files>(
     requires shallow { depth (tag_item tag.now) ≤ 64 }
     requires sizes { SizesFit tag.now }
     ensures told { IfOk result (λ made. TagTells looks_at_files (F.contents files.old) octets.now made.text made.ending) }
-    ensures contents { F.contents files.new ≡ F.contents files.old }
-    ensures files { looks_at_files ≡ false → files.new ≡ files.old }
     ensures reads { looks_at_files ≡ true → TagReads octets.now result (F.reads files.old) (F.reads files.new) }
-    ensures cause { HasCause (F.faults files.old) (F.faults files.new) (is_fault result) }
-    ensures looked { OnTrue (is_fault result) (looks_at_files ≡ true) }
+    ensures looks { LooksAt F.contents F.faults looks_at_files (is_fault result) files.old files.new }
 {
     if used < octets.len() {
         return Ok(refused(refusal(alloc, "trailing", used as u64)?));
@@ -119,11 +111,8 @@ fn verdicts_on<F: Files>(
     files: &mut F,
 ) -> Result<Verdicts, Stopped>
     ensures verdicts { IfOk result (TagVerdicts looks_at_files (F.contents files.old) tag.now) }
-    ensures contents { F.contents files.new ≡ F.contents files.old }
-    ensures files { looks_at_files ≡ false → files.new ≡ files.old }
     ensures reads { looks_at_files ≡ true → PayloadReads tag.now.payload result (F.reads files.old) (F.reads files.new) }
-    ensures cause { HasCause (F.faults files.old) (F.faults files.new) (is_fault result) }
-    ensures looked { OnTrue (is_fault result) (looks_at_files ≡ true) }
+    ensures looks { LooksAt F.contents F.faults looks_at_files (is_fault result) files.old files.new }
 {
     if !looks_at_files {
         return Ok(List::new(alloc));
