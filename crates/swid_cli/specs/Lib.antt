@@ -16,4 +16,3 @@ pub mod TagLaws
 pub mod TagList
 pub mod Links
 pub mod LinksLaws
-pub mod Making

@@ -2,11 +2,8 @@
 
 ghost use Rattle.std.specs.Prelude.{◌≡◌, ◌↔◌, IsSome, IfSome, map};
 ghost use Rattle.swid_cli.specs.Commands.{Says};
-ghost use Rattle.line_words.specs.Reading.{FindsExactly};
-ghost use Rattle.swid_cli.specs.Words.{IsCommandLine, IsCountWord};
+ghost use Rattle.swid_cli.specs.Words.{IsCommandLine};
 
-use line_words::read_number;
-use session_day::{FEWEST_PACKAGES, MOST_PACKAGES};
 use swima_model::Kind;
 
 /// A command that waits for nobody.
@@ -22,8 +19,6 @@ pub(crate) enum Command {
     Links,
     /// `replay`: play a script of both ends of sessions.
     Replay,
-    /// `make`: play the day of an endpoint with that many packages.
-    Make(u32),
 }
 
 /// The command that the words say; `None` exactly where they are no command line.
@@ -42,20 +37,6 @@ pub(crate) fn command_of(words: &[&str]) -> Option<Command>
         }),
         ["links"] => Some(Command::Links),
         ["replay"] => Some(Command::Replay),
-        ["make", word] => match count_of(word) {
-            Some(count) => Some(Command::Make(count)),
-            None => None,
-        },
-        _ => None,
-    }
-}
-
-/// The number of packages that a word is, if a day may have that many.
-fn count_of(word: &str) -> Option<u32>
-    ensures count { FindsExactly (IsCountWord word.now) result }
-{
-    match read_number(word.as_bytes()) {
-        Some(count) if FEWEST_PACKAGES <= count && count <= MOST_PACKAGES => Some(count),
         _ => None,
     }
 }

@@ -30,7 +30,6 @@
 mod command;
 pub mod laws;
 mod links;
-mod make;
 mod mirror;
 mod replay;
 mod run;

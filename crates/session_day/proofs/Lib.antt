@@ -1,4 +1,0 @@
-pub mod Sizes
-pub mod Packed
-pub mod Contents
-pub mod Daily

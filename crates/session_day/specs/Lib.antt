@@ -1,4 +1,0 @@
-pub mod Package
-pub mod Packages
-pub mod Day
-pub mod Days
