@@ -2,7 +2,7 @@
 
 from reading import CDATA, CLOSE, CRETRY, RESULT, SDATA, SRETRY
 from row_texts import collector, collector_cut
-from row_values import ASK, ASKS_NOTHING, BEGINS, CLOSES, DECIDES, HEARD_ERROR, MESSAGE_FAULTS, REQUEST, REQUEST_FAULTS
+from row_values import ASK, ASKS_NOTHING, CLOSES, DECIDES, HEARD_ERROR, MESSAGE_FAULTS, REQUEST, REQUEST_FAULTS
 from row_values import RETRIES_NOTHING, SERVER_FAULTS, SUBSCRIBES, body, patched, raw, sdata
 from sessions import SERVER, batch
 

@@ -7,7 +7,7 @@ A reader raises `Fault` with its place: in octets from the start of the batch, o
 from dataclasses import dataclass, field
 from datetime import date
 
-from formats import ALTERATION, CREATION, DELETION, EVENTS, FULFILMENT, FULL, IDS, INVENTORY
+from formats import ALTERATION, CREATION, DELETION, FULFILMENT, FULL, IDS
 from formats import Event, Events, Inventory, Record
 
 CDATA, SDATA, RESULT, CRETRY, SRETRY, CLOSE = range(1, 7)

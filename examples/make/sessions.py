@@ -8,7 +8,7 @@ from dataclasses import replace
 from formats import FULFILMENT, IDS, Events, attribute, counted, joined, number
 from inventory import octets_of
 from reading import ASSESSMENT, CDATA, CLOSE, COLLECTOR_READS, CRETRY, ERROR, MOST_MESSAGES, PB_BAD_VERSION, PB_ERROR, PB_PA
-from reading import REPORTS, REQUEST, RESULT, SDATA, SRETRY, STATUS_REQUEST, STATUS_RESPONSE, UNEXPECTED, VALIDATOR_READS
+from reading import REPORTS, REQUEST, RESULT, SDATA, SRETRY, STATUS_RESPONSE, UNEXPECTED, VALIDATOR_READS
 from reading import Fault, Refused, Request, batch_in, bodies, ends_session, words_in
 
 SERVER, CLIENT = 0x80, 0
