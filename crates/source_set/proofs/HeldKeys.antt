@@ -4,7 +4,8 @@ use Rattle.std.specs.Ordering.{is_eq}
 use Rattle.std.specs.declared.cmp.Ordering.{Ordering}
 use Rattle.std.proofs.lemmas.Bool.{cases_eq}
 use Rattle.std.proofs.lemmas.Option.{none-some}
-use Rattle.source_set.specs.Keys.{Held, by_id, id_at, ids, put, with_key, without}
+use Rattle.swima_model.specs.ByNumber.{put_by}
+use Rattle.source_set.specs.Keys.{Held, by_id, id_at, ids, with_key, without}
 use Rattle.source_set.specs.Records.{IsAmong}
 use Rattle.source_set.proofs.KeyLaws.{find_at, itself, leave_at, put_at}
 
@@ -105,6 +106,9 @@ at_among key id (e ∷ es) is = elim (cases_eq key e.0) [
   | inl same ↦ let here : Some e.1 ≡ Some id = sym (hit key e es same) ∙ is in inl cc
   | inr apart ↦ inr (at_among key id es (sym (miss key e es apart) ∙ is))
 ]
+
+abbrev put : Held → List Held → List Held
+put held keys = put_by (λ (held : Held). held.1) held keys
 
 put_here-step : (e f : Held) (es : List Held) (test : Bool) → IsAmong e.1 (ids (put e es)) → IsAmong e.1 (ids (cond test (e ∷ f ∷ es) (f ∷ put e es)))
 put_here-step e f es true later = inl refl

@@ -1,4 +1,3 @@
-pub mod ByIdentifier
 pub mod Working
 pub mod KeyLaws
 pub mod Performing

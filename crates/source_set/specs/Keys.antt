@@ -1,8 +1,9 @@
 -- The keys that a source holds, each with the identifier of its record, in order of key.
-use Rattle.std.specs.Prelude.{ℕ, List, [], ◌∷◌, Option, map, nat_le, if◌then◌else◌}
+use Rattle.std.specs.Prelude.{ℕ, List, [], ◌∷◌, Option, map}
 use Rattle.std.specs.BTreeMap.{insert_entry, is_at}
 use Rattle.std.specs.Map.{lookup, remove_entry}
 use Rattle.std.specs.Ordering.{nat_cmp}
+use Rattle.swima_model.specs.ByNumber.{in_order_by}
 
 -- A key, and the identifier of its record.
 abbrev pub Held : Type 0
@@ -29,12 +30,6 @@ without_all (held ∷ others) keys = without_all others (without held.0 keys)
 abbrev pub ids : List Held → List ℕ
 ids keys = map (λ (held : Held). held.1) keys
 
--- A key put into its place among keys in order of identifier.
-abbrev pub put : Held → List Held → List Held
-put held [] = held ∷ []
-put held (first ∷ others) = if nat_le held.1 first.1 then held ∷ first ∷ others else first ∷ put held others
-
 -- The keys in order of identifier, those of one identifier as they stood.
 abbrev pub by_id : List Held → List Held
-by_id [] = []
-by_id (held ∷ keys) = put held (by_id keys)
+by_id keys = in_order_by (λ (held : Held). held.1) keys

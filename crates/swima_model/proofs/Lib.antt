@@ -1,5 +1,6 @@
 pub mod Repeats
 pub mod Rises
+pub mod ByNumber
 pub mod Placing
 pub mod Living
 pub mod OfKind

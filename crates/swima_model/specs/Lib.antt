@@ -1,4 +1,5 @@
 pub mod Bounded
+pub mod ByNumber
 pub mod Carried
 pub mod DataModel
 pub mod Doubled
