@@ -1,5 +1,5 @@
 -- What a collector puts into the batch that it writes, and where its subscriptions are placed then.
-use Rattle.std.proofs.Common.{◌≡◌, ℕ, ◌<◌, ◌^◌, ◌||◌, Bool, true, false, cond, nat_le, nat_lt, length, max, List, [], ◌∷◌, ◌++◌, Option, Some, None, take, drop, refl, sym, ap, subst, ◌∙◌, append_assoc, arith}
+use Rattle.std.proofs.Common.{◌≡◌, ℕ, ◌<◌, ◌^◌, Bool, true, false, cond, nat_le, nat_lt, length, List, [], ◌∷◌, ◌++◌, Option, Some, None, take, refl, sym, ap, subst, ◌∙◌, append_assoc}
 use Rattle.std.specs.Prelude.{◌==◌, map}
 use Rattle.std.specs.List.{AllByRecursion}
 use Rattle.std.proofs.lemmas.List.{map-append}
@@ -22,11 +22,9 @@ use Rattle.pb_batch.specs.declared.batch.Message.{Message}
 use Rattle.pb_batch.specs.Form.{BATCH_MESSAGES}
 use Rattle.collector_core.specs.declared.answer.Answer.{Answer}
 use Rattle.collector_core.specs.declared.answer.Answer.TheVariants as answer
-use Rattle.collector_core.specs.Answering.{answer_at, consulted_before, events_at, front_fits, if_fits, inventory_at, longest, told_at}
-use Rattle.collector_core.specs.Chronicle.{Chronicle, first_kept, front, last_eid, point_of}
+use Rattle.collector_core.specs.Answering.{answer_at}
+use Rattle.collector_core.specs.Chronicle.{Chronicle, front, point_of}
 use Rattle.collector_core.specs.Legal.{IsLegal}
-use Rattle.collector_core.proofs.Answered.{fits_is}
-use Rattle.collector_core.proofs.Chronicles.{current_honest}
 use Rattle.collector_core.proofs.Fronts.{fronts_are_legal}
 use Rattle.session_talk.specs.Talk.{Done, and_then, each}
 use Rattle.session_rules.specs.declared.config.ServeConfig.{ServeConfig}
@@ -41,23 +39,8 @@ use Rattle.session_rules.specs.Serving.{Draft}
 use Rattle.session_rules.specs.SubRuns.{ArePut, Filled, IsPut, last_for, Put, PutAnswer, PutError, PutFirst, PutList, PutNext, Sent, all_octets, all_puts, filled_message, put_attribute, puts_of}
 use Rattle.session_rules.proofs.Coming.{Comes, comes_then}
 use Rattle.session_rules.proofs.PutRuns.{IsOf, OnlyOnes, Placed, all_ended, all_pushed, all_taken, different_taken, none_of, only_ended, only_ones, only_reported, others_placed, placed_on, placed_reported, put_more, puts_closed}
-use Rattle.session_rules.proofs.Running.{successive_reports, within_last}
-
--- ---- how far a report reaches
-
-module _ (chronicle : Chronicle) (legal : IsLegal chronicle) (request : Request) (most : ℕ) (report : Report) where
-  reach_by : (test : Bool) → cond test (if_fits most (inventory_at chronicle request)) (if_fits most (told_at chronicle request most)) ≡ answer.Report report → (reach_of report).eid < 2 ^ 32
-  reach_by true is = subst (λ (r : Report). (reach_of r).eid < 2 ^ 32) (fits_is most (inventory_at chronicle request) report is) (current_honest chronicle legal).few
-  reach_by false is =
-      subst (λ (r : Report). (reach_of r).eid < 2 ^ 32) (fits_is most (told_at chronicle request most) report is)
-      (within_four (max 1 (longest (front_fits request (point_of chronicle) (events_at chronicle request) most) (length (events_at chronicle request)))))
-    where
-      within_four : (count : ℕ) → consulted_before (drop count (events_at chronicle request)) (last_eid chronicle) < 2 ^ 32
-      within_four count = omega (arith, within_last chronicle legal request count, (current_honest chronicle legal).few)
-
-  -- The event identifier that a report reaches is one of four octets.
-  reach_below : answer_at chronicle request most ≡ answer.Report report → (reach_of report).eid < 2 ^ 32
-  reach_below is = reach_by (request.earliest == 0 || nat_lt request.earliest (first_kept chronicle)) is
+use Rattle.session_rules.proofs.Reach.{reach_below}
+use Rattle.session_rules.proofs.Running.{successive_reports}
 
 module _ (chronicle : Chronicle) (legal : IsLegal chronicle) where
   -- After these octets all of this was put into batches, into the messages of this batch, and into

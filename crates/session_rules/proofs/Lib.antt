@@ -8,6 +8,7 @@ pub mod Wanted
 pub mod Running
 pub mod Placing
 pub mod Coming
+pub mod Reach
 pub mod PutRuns
 pub mod DraftRuns
 pub mod SessionRuns

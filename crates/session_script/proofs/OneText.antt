@@ -82,19 +82,37 @@ makes_delete id stamp w (edit.Trim first) changes = absurd changes
 
 -- ---- a line
 
-entered_one : (said : Line) → ((stamp : List ℕ) (w : World) (change : Edit) → Changes said stamp change → lines.enters change w ≡ makes said stamp w)
-    → (p : Playing) (one other : Played) → Enters p said one → Enters p said other → one ≡ other
-entered_one said made p one other (told, this, is_this) (also, that, is_that) =
-    let stamps : this.stamp ≡ that.stamp = stamp_one (p.changes + 1) this.stamp that.stamp this.stamped that.stamped in
-    let same : told ≡ also =
-    this.does ∙ made this.stamp p.world this.change this.changes ∙ ap (λ (s : List ℕ). makes said s p.world) stamps
-    ∙ sym (made that.stamp p.world that.change that.changes) ∙ sym that.does in
-    is_this ∙ ap (λ (t : Told). told_in (p.changes + 1) t) same ∙ sym is_that
+-- One thing comes of the change that a line says, at a second.
+does_one : (said : Line) → ((stamp : List ℕ) (w : World) (change : Edit) → Changes said stamp change → lines.enters change w ≡ makes said stamp w)
+    → (second : ℕ) (w : World) (told also : Told) → IsEntered said second w told → IsEntered said second w also → told ≡ also
+does_one said made second w told also this that =
+    let stamps : this.stamp ≡ that.stamp = stamp_one second this.stamp that.stamp this.stamped that.stamped in
+    this.does ∙ made this.stamp w this.change this.changes ∙ ap (λ (s : List ℕ). makes said s w) stamps ∙ sym (made that.stamp w that.change that.changes) ∙ sym that.does
+
+pub change_one : (said : Line) (second : ℕ) (w : World) (told also : Told) → IsEntered said second w told → IsEntered said second w also → told ≡ also
+change_one (line.Create content) second w told also this that = does_one (line.Create content) (makes_create content) second w told also this that
+change_one (line.Alter id content) second w told also this that = does_one (line.Alter id content) (makes_alter id content) second w told also this that
+change_one (line.Delete id) second w told also this that = does_one (line.Delete id) (makes_delete id) second w told also this that
+change_one (line.Epoch epoch) second w told also this that = absurd this.changes
+change_one (line.Trim first) second w told also this that = absurd this.changes
+change_one line.Open second w told also this that = absurd this.changes
+change_one (line.Up most) second w told also this that = absurd this.changes
+change_one (line.Down most) second w told also this that = absurd this.changes
+change_one line.Run second w told also this that = absurd this.changes
+change_one line.Idle second w told also this that = absurd this.changes
+change_one line.Cut second w told also this that = absurd this.changes
+change_one line.Again second w told also this that = absurd this.changes
+change_one line.Waits second w told also this that = absurd this.changes
+change_one line.Show second w told also this that = absurd this.changes
+
+entered_one : (said : Line) (p : Playing) (one other : Played) → Enters p said one → Enters p said other → one ≡ other
+entered_one said p one other (told, this, is_this) (also, that, is_that) =
+    is_this ∙ ap (λ (t : Told). told_in (p.changes + 1) t) (change_one said (p.changes + 1) p.world told also this that) ∙ sym is_that
 
 played_one : (p : Playing) (said : Line) (one other : Played) → IsPlayed p said one → IsPlayed p said other → one ≡ other
-played_one p (line.Create content) one other this that = entered_one (line.Create content) (makes_create content) p one other this that
-played_one p (line.Alter id content) one other this that = entered_one (line.Alter id content) (makes_alter id content) p one other this that
-played_one p (line.Delete id) one other this that = entered_one (line.Delete id) (makes_delete id) p one other this that
+played_one p (line.Create content) one other this that = entered_one (line.Create content) p one other this that
+played_one p (line.Alter id content) one other this that = entered_one (line.Alter id content) p one other this that
+played_one p (line.Delete id) one other this that = entered_one (line.Delete id) p one other this that
 played_one p (line.Epoch epoch) one other this that = this ∙ sym that
 played_one p (line.Trim first) one other this that = this ∙ sym that
 played_one p line.Open one other this that = this ∙ sym that
