@@ -85,7 +85,7 @@ impl Pairs {
 
     /// The value under the key that is this unsigned integer; `None` exactly where there is no such
     /// key.
-    pub fn under(&self, key: u64) -> Option<&Item>
+    pub fn get_unsigned(&self, key: u64) -> Option<&Item>
         ensures value { option_map (λ item. view item.now) result ≡ value_under key (pairs_view self.now) }
     {
         for pair in self.pairs.as_slice() {
@@ -98,7 +98,7 @@ impl Pairs {
 
     /// A copy of the pairs whose keys are none of these unsigned integers; `Memory` where there is
     /// no room for it.
-    pub fn other_than(&self, keys: &[u32]) -> Result<Pairs, Memory>
+    pub fn without_keys(&self, keys: &[u32]) -> Result<Pairs, Memory>
         ensures others { IfOk result (λ made. pairs_view made ≡ other_than keys.now (pairs_view self.now)) }
     {
         let mut others = List::new(self.pairs.allocator());

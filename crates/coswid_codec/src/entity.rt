@@ -32,7 +32,7 @@ impl Mapped for EntityTable {
         let reg_id = key::RegId::optional(alloc, pairs)?;
         let role = key::Role::required_row(alloc, pairs)?;
         let thumbprint = key::Thumbprint::optional(alloc, pairs)?;
-        let extras = pairs.other_than(&key::entity_keys())?;
+        let extras = pairs.without_keys(&key::entity_keys())?;
         Ok(Entity {
             entity_name,
             reg_id,

@@ -35,7 +35,7 @@ impl Mapped for LinkTable {
         let rel = key::Rel::required(alloc, pairs)?;
         let media_type = key::MediaType::optional(alloc, pairs)?;
         let link_use = key::LinkUse::optional(alloc, pairs)?;
-        let extras = pairs.other_than(&key::link_keys())?;
+        let extras = pairs.without_keys(&key::link_keys())?;
         Ok(LinkEntry {
             media,
             artifact,

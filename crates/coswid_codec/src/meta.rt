@@ -41,7 +41,7 @@ impl Mapped for MetaTable {
         let summary = key::Summary::optional(alloc, pairs)?;
         let unspsc_code = key::UnspscCode::optional(alloc, pairs)?;
         let unspsc_version = key::UnspscVersion::optional(alloc, pairs)?;
-        let extras = pairs.other_than(&key::meta_keys())?;
+        let extras = pairs.without_keys(&key::meta_keys())?;
         Ok(SoftwareMeta {
             activation_status,
             channel_type,

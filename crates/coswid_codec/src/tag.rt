@@ -42,7 +42,7 @@ impl Mapped for TagTable {
         let software_meta = key::SoftwareMeta::optional_row(alloc, pairs)?;
         let payload = key::Payload::optional(alloc, pairs)?;
         let last = read_last(alloc, pairs)?;
-        let extras = pairs.other_than(&key::tag_keys())?;
+        let extras = pairs.without_keys(&key::tag_keys())?;
         Ok(Tag {
             tag_id,
             software_name,

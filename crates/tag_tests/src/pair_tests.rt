@@ -19,8 +19,8 @@ fn are_both(pairs: Pairs) -> bool {
         && is_int(pairs.key(0), 0)
         && is_int(pairs.value(0), 7)
         && is_int(pairs.key(1), 24)
-        && is_int(pairs.under(24), -1)
-        && pairs.under(1).is_none()
+        && is_int(pairs.get_unsigned(24), -1)
+        && pairs.get_unsigned(1).is_none()
 }
 
 /// Whether two pairs are added in the order of their keys, and none under a key that is held.
@@ -56,7 +56,7 @@ fn are_others(pairs: Pairs) -> bool {
 fn puts_pairs(alloc: Global) -> Result<bool, Fail> {
     let pairs = three_pairs(alloc)?;
     let ordered = is_int(pairs.key(0), 0) && is_int(pairs.key(2), -1);
-    Ok(ordered && are_others(pairs.other_than(&[7, 24, 5])?))
+    Ok(ordered && are_others(pairs.without_keys(&[7, 24, 5])?))
 }
 
 #[test]

@@ -12,7 +12,7 @@ use wire_base::{List, Text};
 /// The number under tag 1 that stands under key 35 of a map.
 fn date_of(item: &Item) -> Option<i64> {
     match item {
-        Item::Map(pairs) => match pairs.under(35) {
+        Item::Map(pairs) => match pairs.get_unsigned(35) {
             Some(Item::Tag(1, content)) => number_of(content.get()),
             _ => None,
         },

@@ -35,7 +35,7 @@ pub(crate) fn read_directory(alloc: Global, pairs: &Pairs) -> Result<DirEntry, F
     let fs_name = table::FsName::required(alloc, pairs)?;
     let root = table::Root::optional(alloc, pairs)?;
     let path_elements = path_under(alloc, pairs)?;
-    let extras = pairs.other_than(&table::directory_keys())?;
+    let extras = pairs.without_keys(&table::directory_keys())?;
     Ok(DirEntry {
         key,
         location,
@@ -52,7 +52,7 @@ pub(crate) fn read_directory(alloc: Global, pairs: &Pairs) -> Result<DirEntry, F
 fn path_under(alloc: Global, pairs: &Pairs) -> Result<Option<PathElements>, FormRefused>
     ensures told { Gives (λ p. Optional keys.path_elements PathMap p (pairs_view pairs.now)) (line_fault (optional_key keys.path_elements) (pairs_view pairs.now)) result }
 {
-    match pairs.under(table::PATH_ELEMENTS as u64) {
+    match pairs.get_unsigned(table::PATH_ELEMENTS as u64) {
         None => Ok(None),
         Some(item) => Ok(Some(path_at(alloc, item)?)),
     }
@@ -87,7 +87,7 @@ fn read_path(alloc: Global, pairs: &Pairs) -> Result<PathElements, FormRefused>
 {
     let directory = directories_under(alloc, pairs)?;
     let file = table::File::optional_row(alloc, pairs)?;
-    let extras = pairs.other_than(&table::path_elements_keys())?;
+    let extras = pairs.without_keys(&table::path_elements_keys())?;
     Ok(PathElements {
         directory,
         file,
@@ -101,7 +101,7 @@ fn read_path(alloc: Global, pairs: &Pairs) -> Result<PathElements, FormRefused>
 fn directories_under(alloc: Global, pairs: &Pairs) -> Result<Option<List<DirEntry>>, FormRefused>
     ensures told { Gives (λ ds. Optional keys.directory (OneOrMore DirectoryMap) ds (pairs_view pairs.now)) (line_fault (optional_key keys.directory) (pairs_view pairs.now)) result }
 {
-    match pairs.under(table::DIRECTORY as u64) {
+    match pairs.get_unsigned(table::DIRECTORY as u64) {
         None => Ok(None),
         Some(item) => Ok(Some(directories_at(alloc, item)?)),
     }

@@ -87,7 +87,7 @@ impl Mapped for EvidenceTable {
         let location = table::Location::optional(alloc, pairs)?;
         let date = table::Date::optional(alloc, pairs)?;
         let device_id = table::DeviceId::optional(alloc, pairs)?;
-        let extras = pairs.other_than(&table::evidence_keys())?;
+        let extras = pairs.without_keys(&table::evidence_keys())?;
         Ok(Evidence {
             directory,
             file,

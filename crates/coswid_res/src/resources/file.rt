@@ -80,7 +80,7 @@ impl Mapped for FileTable {
         let location = table::Location::optional(alloc, pairs)?;
         let fs_name = table::FsName::required(alloc, pairs)?;
         let root = table::Root::optional(alloc, pairs)?;
-        let extras = pairs.other_than(&table::file_keys())?;
+        let extras = pairs.without_keys(&table::file_keys())?;
         Ok(FileEntry {
             hash,
             size,

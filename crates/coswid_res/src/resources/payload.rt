@@ -73,7 +73,7 @@ impl Mapped for PayloadTable {
         let file = table::File::optional_row(alloc, pairs)?;
         let process = table::Process::optional_row(alloc, pairs)?;
         let resource = table::Resource::optional_row(alloc, pairs)?;
-        let extras = pairs.other_than(&table::payload_keys())?;
+        let extras = pairs.without_keys(&table::payload_keys())?;
         Ok(Payload {
             directory,
             file,

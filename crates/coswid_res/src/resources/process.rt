@@ -53,7 +53,7 @@ impl Mapped for ProcessTable {
         table::ProcessName::expect(alloc, pairs)?;
         let process_name = table::ProcessName::required(alloc, pairs)?;
         let pid = table::Pid::optional(alloc, pairs)?;
-        let extras = pairs.other_than(&table::process_keys())?;
+        let extras = pairs.without_keys(&table::process_keys())?;
         Ok(ProcessEntry {
             process_name,
             pid,

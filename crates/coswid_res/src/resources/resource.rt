@@ -50,7 +50,7 @@ impl Mapped for ResourceTable {
     fn read(alloc: Global, pairs: &Pairs) -> Result<ResourceEntry, FormRefused> {
         table::ResourceType::expect(alloc, pairs)?;
         let resource_type = table::ResourceType::required(alloc, pairs)?;
-        let extras = pairs.other_than(&table::resource_keys())?;
+        let extras = pairs.without_keys(&table::resource_keys())?;
         Ok(ResourceEntry {
             resource_type,
             extras,

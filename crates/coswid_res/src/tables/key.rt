@@ -40,7 +40,7 @@ impl<const NUMBER: u32, F: Form> Key<NUMBER, F> {
     pub fn is_there(pairs: &Pairs) -> bool
         ensures there { result ≡ is_some (value_under NUMBER (pairs_view pairs.now)) }
     {
-        pairs.under(NUMBER as u64).is_some()
+        pairs.get_unsigned(NUMBER as u64).is_some()
     }
 
     /// Nothing where the key is there; else `Form` with the fault that it is missing; `Memory`
@@ -48,7 +48,7 @@ impl<const NUMBER: u32, F: Form> Key<NUMBER, F> {
     pub fn expect(alloc: Global, pairs: &Pairs) -> Result<(), FormRefused>
         ensures told { Gives (λ done. Unit {0}) (absent NUMBER (value_under NUMBER (pairs_view pairs.now))) result }
     {
-        match pairs.under(NUMBER as u64) {
+        match pairs.get_unsigned(NUMBER as u64) {
             None => Err(missing_key(alloc, NUMBER)),
             Some(_) => Ok(()),
         }
@@ -59,7 +59,7 @@ impl<const NUMBER: u32, F: Form> Key<NUMBER, F> {
     pub fn required(alloc: Global, pairs: &Pairs) -> Result<F::Value, FormRefused>
         ensures told { Gives (λ v. RequiredAt NUMBER F.is v (pairs_view pairs.now)) (line_fault (schema.required NUMBER (one F.form)) (pairs_view pairs.now)) result }
     {
-        match pairs.under(NUMBER as u64) {
+        match pairs.get_unsigned(NUMBER as u64) {
             None => Err(missing_key(alloc, NUMBER)),
             Some(item) => read_at::<F>(alloc, NUMBER as u64, item),
         }
@@ -70,7 +70,7 @@ impl<const NUMBER: u32, F: Form> Key<NUMBER, F> {
     pub fn optional(alloc: Global, pairs: &Pairs) -> Result<Option<F::Value>, FormRefused>
         ensures told { Gives (λ v. OptionalAt NUMBER F.is v (pairs_view pairs.now)) (line_fault (schema.optional NUMBER (one F.form)) (pairs_view pairs.now)) result }
     {
-        match pairs.under(NUMBER as u64) {
+        match pairs.get_unsigned(NUMBER as u64) {
             None => Ok(None),
             Some(item) => Ok(Some(read_at::<F>(alloc, NUMBER as u64, item)?)),
         }
@@ -80,7 +80,7 @@ impl<const NUMBER: u32, F: Form> Key<NUMBER, F> {
     pub fn required_row(alloc: Global, pairs: &Pairs) -> Result<List<F::Value>, FormRefused>
         ensures told { Gives (λ vs. RequiredAt NUMBER (OneOrMore F.is) vs (pairs_view pairs.now)) (line_fault (schema.required NUMBER (one_or_more F.form)) (pairs_view pairs.now)) result }
     {
-        match pairs.under(NUMBER as u64) {
+        match pairs.get_unsigned(NUMBER as u64) {
             None => Err(missing_key(alloc, NUMBER)),
             Some(item) => read_row_at::<F>(alloc, NUMBER as u64, item),
         }
@@ -90,7 +90,7 @@ impl<const NUMBER: u32, F: Form> Key<NUMBER, F> {
     pub fn optional_row(alloc: Global, pairs: &Pairs) -> Result<Option<List<F::Value>>, FormRefused>
         ensures told { Gives (λ vs. OptionalAt NUMBER (OneOrMore F.is) vs (pairs_view pairs.now)) (line_fault (schema.optional NUMBER (one_or_more F.form)) (pairs_view pairs.now)) result }
     {
-        match pairs.under(NUMBER as u64) {
+        match pairs.get_unsigned(NUMBER as u64) {
             None => Ok(None),
             Some(item) => Ok(Some(read_row_at::<F>(alloc, NUMBER as u64, item)?)),
         }

@@ -1,7 +1,7 @@
 -- All pairs were passed.
 use Rattle.std.proofs.Common.{arith}
 use Rattle.cbor_det.proofs.Others.{others_copied}
-use Rattle.cbor_det.proofs.item.Pairs.other_than.Goals as goal
+use Rattle.cbor_det.proofs.item.Pairs.without_keys.Goals as goal
 
 pub returns : goal.returns
 returns c = record {

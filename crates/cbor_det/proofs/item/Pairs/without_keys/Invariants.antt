@@ -2,7 +2,7 @@
 use Rattle.std.proofs.Common.{◌≡◌, take}
 use Rattle.std.specs.List.{filter}
 use Rattle.cbor_det.proofs.Others.{is_other}
-use Rattle.cbor_det.proofs.item.Pairs.other_than.Given as goal
+use Rattle.cbor_det.proofs.item.Pairs.without_keys.Given as goal
 
 abbrev pub invariant-loop-pair : goal.invariant-loop-pair
 invariant-loop-pair l = l.others ≡ filter (is_other l.keys) (take l.pair-index l.pair-items)
