@@ -1,3 +1,4 @@
+pub mod Clerking
 pub mod Logs
 pub mod Keeping
 pub mod Turns

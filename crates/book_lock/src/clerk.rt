@@ -1,23 +1,35 @@
 //! A pass as a desk.
 
 ghost use Rattle.std.specs.Prelude.{◌≡◌};
-ghost use Rattle.book_lock.specs.Passes.{shelf_set};
 
 use crate::pass::Pass;
 use crate::shelf::Shelf;
 use collector_core::{Answer, BookError, Desk, Edit};
+use std::marker::Model;
 use std::sync::Wait;
 use swima_model::{Content, Point};
 use swima_request::{Idents, Request};
 
-/// Who keeps an inventory that others share: a pass with its shelf.
+/// Who keeps an inventory that others share: a pass with its shelf. Contracts see its pass.
 #[derive(Drop)]
 pub struct Clerk<'a, R: Wait> {
     shelf: &'a Shelf,
     wait: &'a R,
     /// The pass.
     pub pass: Pass,
-    ghost here: { pass.shelf ≡ shelf.now } by { shelf_set _ _ },
+}
+
+impl<'a, R: Wait> Model for Clerk<'a, R> {
+    ghost use Rattle.std.specs.Prelude.{◌≡◌};
+    ghost use Rattle.book_lock.specs.Passes.{PassView, pass_coded};
+
+    ghost Value = { PassView };
+
+    ghost coded = { pass_coded };
+
+    ghost view = { λ clerk. clerk.pass };
+
+    ghost invariant = { λ clerk. clerk.pass.shelf ≡ clerk.shelf.now };
 }
 
 impl Shelf {
@@ -25,7 +37,7 @@ impl Shelf {
     /// memory.
     pub fn clerk<'a, R: Wait>(&'a self, wait: &'a R, pass: Pass) -> Clerk<'a, R>
         requires here { pass.shelf ≡ self.now }
-        ensures pass { result.pass ≡ pass }
+        ensures pass { result ≡ pass }
     {
         Clerk {
             shelf: self,
@@ -38,7 +50,7 @@ impl Shelf {
 impl<'a, R: Wait> Clerk<'a, R> {
     /// The pass. It takes no memory.
     pub fn done(self) -> Pass
-        ensures pass { result ≡ self.entry.pass }
+        ensures pass { result ≡ self.entry }
     {
         let Clerk {
             shelf: _,
@@ -53,21 +65,21 @@ impl<'a, R: Wait> Desk for Clerk<'a, R> {
     ghost use Rattle.book_lock.specs.Passes.{PassStands, PassWent};
     ghost use Rattle.book_lock.specs.PassDesk.{pass_legal, pass_takes_still, pass_went_on, pass_went_with, stays_pass};
 
-    ghost stands = { λ clerk chronicle. PassStands clerk.pass chronicle };
+    ghost stands = { PassStands };
 
-    ghost went = { λ before marks after. PassWent before.pass marks after.pass };
+    ghost went = { PassWent };
 
-    ghost takes = { λ clerk. clerk.pass.may_change };
+    ghost takes = { λ clerk. clerk.may_change };
 
-    ghost stays = { λ clerk. stays_pass clerk.pass };
+    ghost stays = { stays_pass };
 
-    ghost follows = { λ one two three first second a b. pass_went_on one.pass two.pass three.pass first second a b };
+    ghost follows = { pass_went_on };
 
-    ghost carries = { λ before after marks chronicle went stands. pass_went_with before.pass after.pass marks chronicle went stands };
+    ghost carries = { pass_went_with };
 
-    ghost keeps = { λ before after marks went. pass_takes_still before.pass after.pass marks went };
+    ghost keeps = { pass_takes_still };
 
-    ghost legal = { λ clerk chronicle stands. pass_legal clerk.pass chronicle stands };
+    ghost legal = { pass_legal };
 
     fn create(&mut self, stamp: &[u8; 20], content: &Content) -> Result<u32, BookError> {
         match self

@@ -30,6 +30,16 @@ const BOOK: usize = 0;
 /// How many looks spin before the processor is yielded at each.
 const SPINS: u32 = 64;
 
+/// How many looks wait until nobody uses the shelf, before a ticket is drawn all the same.
+const LOOKS: u32 = 12;
+
+/// How often the processor pauses after the first of these looks; after each later one it pauses
+/// twice as often as after the one before.
+const FEWEST_PAUSES: u32 = 16;
+
+/// How often it pauses at most.
+const MOST_PAUSES: u32 = 512;
+
 /// Waits for the turn of the pass, and takes the book.
 pub(crate) fn reach<R: Wait>(wait: &R, board: &Board, seat: &mut Place) -> Book
     requires here { IsAt board.now.shared.table_id seat.old.table_id }
@@ -39,9 +49,32 @@ pub(crate) fn reach<R: Wait>(wait: &R, board: &Board, seat: &mut Place) -> Book
     ensures here { Stays seat.old seat.new }
     ensures reached { HasBook seat.old.me.0 seat.new.me result }
 {
+    await_rest(board);
     let ticket = draw(wait, board, seat);
     await_turn(wait, board, seat, ticket);
     take(board, seat)
+}
+
+/// Waits until nobody has the book or a ticket, for that many looks at most. So one whose calls come
+/// one after another does several, while the book lies in the memory of its processor.
+fn await_rest(board: &Board)
+    requires words { board.now.shared.table_id.words ≡ 3 }
+{
+    let mut pauses = FEWEST_PAUSES;
+    for _ in 0..LOOKS {
+        if board.shared.peek(TICKETS) == board.shared.peek(TURN) {
+            return;
+        }
+        rest(pauses);
+        pauses = pauses.saturating_mul(2).min(MOST_PAUSES);
+    }
+}
+
+/// Pauses that many times, and leaves the words of the table to others meanwhile.
+fn rest(pauses: u32) {
+    for _ in 0..pauses {
+        hint::spin_loop();
+    }
 }
 
 /// Draws the next ticket. After 2^64 - 1 tickets it waits for good, so that no word wraps.

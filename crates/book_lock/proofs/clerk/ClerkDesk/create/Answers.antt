@@ -1,12 +1,18 @@
+use Rattle.collector_core.specs.Desks.{Creates, creates_not}
+use Rattle.book_lock.proofs.Clerking.{refused_so}
 use Rattle.book_lock.proofs.clerk.ClerkDesk.create.Goals as goal
+use Rattle.book_lock.proofs.clerk.ClerkDesk.create.Goals.{in-Ok, in-Err}
 
-pub returns-in-Ok : goal.returns-in-Ok
-returns-in-Ok g c =
-    let e = c.in-Ok.ensures.edits in record {
-      edits = record {
-        some = e.some;
-        others = e.others;
-        theirs = e.theirs;
-        done = (e.done.0, e.done.1, λ chronicle stands. let h = e.done.2 chronicle stands in (h.0, (h.1.1, h.1.0)));
-      };
-    }
+pub returns : goal.returns
+returns g c =
+    elim c.match-change.branch [
+      | in-Ok w ↦ rw w.result-is (let e = w.in-Ok.ensures.edits in record {
+        edits = record {
+          some = rw (← c.self.view_is) e.some;
+          others = e.others;
+          theirs = e.theirs;
+          done = rw (← c.self.view_is) (e.done.0, e.done.1, λ chronicle stands. let h = e.done.2 chronicle stands in (h.0, (h.1.1, h.1.0)));
+        };
+      })
+      | in-Err w ↦ rw w.result-is (record { edits = rw (← c.self.view_is) (refused_so _ (Creates c.args.stamp.now c.args.content.now) (creates_not c.args.content.now) _ _ w.in-Err.error w.in-Err.ensures.edits) })
+    ]

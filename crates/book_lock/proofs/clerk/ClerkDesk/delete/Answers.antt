@@ -1,10 +1,16 @@
+use Rattle.collector_core.specs.Desks.{Deletes, deletes_not}
+use Rattle.book_lock.proofs.Clerking.{refused_so}
 use Rattle.book_lock.proofs.clerk.ClerkDesk.delete.Goals as goal
+use Rattle.book_lock.proofs.clerk.ClerkDesk.delete.Goals.{in-Ok, in-Err}
 
-pub returns-in-Ok-clause-edits : goal.returns-in-Ok-clause-edits
-returns-in-Ok-clause-edits g c =
-    let e = c.in-Ok.ensures.edits in record {
-      some = e.some;
-      others = e.others;
-      theirs = e.theirs;
-      done = (e.done.0, e.done.1, λ chronicle stands. let h = e.done.2 chronicle stands in (h.0, h.1.0));
-    }
+pub returns-clause-edits : goal.returns-clause-edits
+returns-clause-edits g c =
+    elim c.match-change.branch [
+      | in-Ok w ↦ rw w.result-is (let e = w.in-Ok.ensures.edits in record {
+        some = rw (← c.self.view_is) e.some;
+        others = e.others;
+        theirs = e.theirs;
+        done = rw (← c.self.view_is) (e.done.0, e.done.1, λ chronicle stands. let h = e.done.2 chronicle stands in (h.0, h.1.0));
+      })
+      | in-Err w ↦ rw w.result-is (rw (← c.self.view_is) (refused_so _ (Deletes c.args.stamp.now c.args.id) (deletes_not c.args.id) _ _ w.in-Err.error w.in-Err.ensures.edits))
+    ]
