@@ -1,0 +1,3 @@
+pub mod Visits
+pub mod Serving
+pub mod Following

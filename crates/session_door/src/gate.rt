@@ -1,0 +1,21 @@
+//! Who is told of each session.
+
+/// Who is called before and after each session of a pool, by the worker that holds it. It may wait.
+pub trait Gate {
+    /// A worker has a link, and its session begins now. Workers, and the sessions of each, are
+    /// numbered from 1.
+    fn enter(&self, worker: u32, session: u32);
+
+    /// That session is over, and its link goes back to its door after this.
+    fn leave(&self, worker: u32, session: u32);
+}
+
+/// A gate at which nothing happens.
+#[derive(Clone, Copy, Debug, PartialEq, Eq)]
+pub struct OpenGate;
+
+impl Gate for OpenGate {
+    fn enter(&self, _worker: u32, _session: u32) {}
+
+    fn leave(&self, _worker: u32, _session: u32) {}
+}
