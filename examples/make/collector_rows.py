@@ -4,7 +4,7 @@ from reading import CDATA, CLOSE, CRETRY, RESULT, SDATA, SRETRY
 from row_texts import collector, collector_cut
 from row_values import ASK, ASKS_NOTHING, CLOSES, DECIDES, HEARD_ERROR, MESSAGE_FAULTS, REQUEST, REQUEST_FAULTS
 from row_values import RETRIES_NOTHING, SERVER_FAULTS, SUBSCRIBES, body, patched, raw, sdata
-from sessions import SERVER, batch
+from session_octets import SERVER, batch
 
 # What was heard before, by the place in a session.
 PLACES = {

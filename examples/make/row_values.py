@@ -3,7 +3,7 @@
 from formats import COSWID, CREATION, FULL, IDS, Event, Events, Inventory, Record, attribute, joined
 from reading import CDATA, CLOSE, CRETRY, RESULT, SDATA, SRETRY, Fault, Request
 from row_texts import STAMP, name
-from sessions import CLIENT, SERVER, batch, fault_batch, pa_message, pb_message, request_fields
+from session_octets import CLIENT, SERVER, batch, fault_batch, pa_message, pb_message, request_fields
 
 BEGINS = name("cdata", batch(CLIENT, CDATA, []))
 RETRIES = name("cretry", batch(CLIENT, CRETRY, []))

@@ -6,7 +6,7 @@ from row_texts import validator, validator_cut
 from row_values import BEGINS, CLIENT_CLOSES, CLIENT_FAULTS, HEARD_ERROR, INVENTORY, MESSAGE_FAULTS, NONE, ONE, REPORT_FAULTS, RETRIES, TWICE
 from row_values import asks, body, cdata, event, patched, raw, record, says
 from collector_rows import frame, pb_error
-from sessions import CLIENT, batch, error
+from session_octets import CLIENT, batch, error
 
 # What was heard before, by the place in a session.
 PLACES = {

@@ -1,6 +1,6 @@
 //! A line of the table, `CALL WORDS = ANSWER`, and whether the call gives that answer.
 
-use crate::answer;
+use crate::calls::answer;
 use crate::held::Held;
 use std::alloc::Global;
 

@@ -128,6 +128,7 @@ fn item_text(alloc: Global, item: &Item, used: usize) -> Option<String>
     format!(in alloc; "item {used} {spelled}").ok()
 }
 
+/// A fault: its kind, and the place of its first octet.
 pub fn fault_text(alloc: Global, fault: CborFault) -> Option<String> {
     let CborFault { kind, at } = fault;
     format!(in alloc; "fault {kind} {at}").ok()
