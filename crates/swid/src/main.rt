@@ -17,7 +17,8 @@ swid: the words are none of these:
   swid tag               reads a tag on standard input: its kind, identifier and findings
   swid tag verify        does the same, and looks at the files of the tag
   swid links             reads tags one after another, and prints what is wrong between them
-  swid replay            plays a script of both ends of sessions, and prints what happens";
+  swid replay            plays a script of both ends of sessions, and prints what happens
+  swid make N            plays a day of an endpoint with N packages, 40 to 5000, and prints a summary";
 
 fn main(rt: HostRuntime) -> ExitCode {
     let status = match run(&rt) {

@@ -16,3 +16,4 @@ pub mod LinksTelling
 pub mod OneText
 pub mod OneList
 pub mod ReplayTelling
+pub mod Counting

@@ -1,5 +1,5 @@
 -- An input is spelled in one way only, if any, so `tag` prints one text of it.
-use Rattle.std.proofs.Common.{◌≡◌, ℕ, ◌≤◌, Bool, true, false, List, [], ◌∷◌, map as map_list, length, inl, inr, Option, Some, None, refl, sym, ap, subst, ◌∙◌, arith}
+use Rattle.std.proofs.Common.{◌≡◌, ℕ, ◌≤◌, List, [], ◌∷◌, map as map_list, length, inl, inr, Option, Some, None, refl, sym, ap, subst, ◌∙◌, arith}
 use Rattle.std.specs.Prelude.{codes}
 use Rattle.std.proofs.lemmas.Bool.{cases_lt}
 use Rattle.wire_base.specs.Layout.{AreOctets}
@@ -30,6 +30,8 @@ use Rattle.swid_cli.specs.Checking.{PayloadVerdicts, TagVerdicts, checked_ending
 use Rattle.swid_cli.specs.Tagging.{TAG_OCTETS, TagTells, long_input, more_follows, no_item, no_tag, form_line, whole_tag}
 use Rattle.swid_cli.specs.TagLaws.{OneTagText, OneText, OneVerifiedText, SomeTagText, ToldAlike}
 use Rattle.command_text.specs.Text.{fault_line, refusal}
+use Rattle.swid_cli.specs.declared.command.Scope.{Scope}
+use Rattle.swid_cli.specs.declared.command.Scope.TheVariants as scope
 
 -- ---- one line of a fault
 
@@ -40,7 +42,7 @@ line_same octets f e a b =
 
 -- ---- verdicts
 
-module _ (looked_at : Bool) (files : Option (List NamedFile)) where
+module _ (looked_at : Scope) (files : Option (List NamedFile)) where
   -- Of one tag the verdicts are the same.
   abbrev pub OneVerdicts : Type 0
   OneVerdicts = (g h : Tag) (vs ws : List (List ℕ × Verdict)) → g ≡ h → TagVerdicts looked_at files g vs → TagVerdicts looked_at files h ws → vs ≡ ws
@@ -82,7 +84,7 @@ module _ (looked_at : Bool) (files : Option (List NamedFile)) where
   one_text one octets text other how also (whole_tag _ g vs a is) (whole_tag _ h ws b are) = text_same one octets g h vs ws a b is are
 
 pub one_tag_text : OneTagText
-one_tag_text files = one_text false files (λ g h vs ws same is are. is ∙ sym are)
+one_tag_text files = one_text scope.Tag files (λ g h vs ws same is are. is ∙ sym are)
 
 -- A file has one verdict where it is known what it holds.
 
@@ -110,7 +112,7 @@ tag_told : (all : List NamedFile) (g h : Tag) (vs ws : List (List ℕ × Verdict
 tag_told all g h vs ws same is are = payload_told all g.payload vs ws is (subst (λ (k : Tag). PayloadVerdicts (Some all) k.payload ws) (sym same) are)
 
 pub one_verified_text : OneVerifiedText
-one_verified_text all = one_text true (Some all) (tag_told all)
+one_verified_text all = one_text scope.Files (Some all) (tag_told all)
 
 -- Some verdicts there are, whatever is reported.
 
@@ -129,9 +131,9 @@ lines_there : (told : Option (List NamedFile)) (files : List ListedFile) → IsV
 lines_there told [] = tt
 lines_there told (file ∷ files) = (some_line told file, lines_there told files)
 
-some_verdicts : (looked_at : Bool) (told : Option (List NamedFile)) (g : Tag) → (verdicts : List (List ℕ × Verdict)) × TagVerdicts looked_at told g verdicts
-some_verdicts false told g = ([], refl)
-some_verdicts true told g = by_payload g.payload
+some_verdicts : (looked_at : Scope) (told : Option (List NamedFile)) (g : Tag) → (verdicts : List (List ℕ × Verdict)) × TagVerdicts looked_at told g verdicts
+some_verdicts scope.Tag told g = ([], refl)
+some_verdicts scope.Files told g = by_payload g.payload
   where
     by_payload : (x : Option Payload) → (verdicts : List (List ℕ × Verdict)) × PayloadVerdicts told x verdicts
     by_payload None = ([], refl)
@@ -139,7 +141,7 @@ some_verdicts true told g = by_payload g.payload
 
 -- ---- some outcome
 
-module _ (looked_at : Bool) (files : Option (List NamedFile)) where
+module _ (looked_at : Scope) (files : Option (List NamedFile)) where
   abbrev Told : List ℕ → Type 0
   Told octets = (text : List ℕ) × (how : Ending) × TagTells looked_at files octets text how
 

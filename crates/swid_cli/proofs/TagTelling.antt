@@ -22,8 +22,10 @@ use Rattle.swid_cli.specs.Run.{status_of}
 use Rattle.swid_cli.specs.Tagging.{TAG_OCTETS, TagTells, long_input, more_follows, no_item, no_tag, whole_tag}
 use Rattle.swid_cli.specs.Words.{IsTag, IsTagVerify}
 use Rattle.swid_cli.proofs.Telling.{IsSound, IsWide}
+use Rattle.swid_cli.specs.declared.command.Scope.{Scope}
+use Rattle.swid_cli.specs.declared.command.Scope.TheVariants as scope
 
-module _ (looked_at : Bool) (files : Option (List NamedFile)) where
+module _ (looked_at : Scope) (files : Option (List NamedFile)) where
   abbrev pub Tells : List ℕ → List ℕ → Ending → Type 0
   Tells octets text how = TagTells looked_at files octets text how
 
@@ -64,24 +66,24 @@ differ words a b = never (sym a ∙ b)
     never : {A : Type 0} {x y z : A} → x ∷ [] ≡ y ∷ z ∷ [] → ⊥
     never e = absurd cc
 
-pub says_tag : (looked_at : Bool) (words : List (List ℕ)) → Says (command.Tag looked_at) words → IsTag words → looked_at ≡ false
-says_tag false words said is = refl
-says_tag true words said is = absurd (differ words is said)
+pub says_tag : (looked_at : Scope) (words : List (List ℕ)) → Says (command.Tag looked_at) words → IsTag words → looked_at ≡ scope.Tag
+says_tag scope.Tag words said is = refl
+says_tag scope.Files words said is = absurd (differ words is said)
 
-pub says_verify : (looked_at : Bool) (words : List (List ℕ)) → Says (command.Tag looked_at) words → IsTagVerify words → looked_at ≡ true
-says_verify false words said is = absurd (differ words said is)
-says_verify true words said is = refl
+pub says_verify : (looked_at : Scope) (words : List (List ℕ)) → Says (command.Tag looked_at) words → IsTagVerify words → looked_at ≡ scope.Files
+says_verify scope.Tag words said is = absurd (differ words said is)
+says_verify scope.Files words said is = refl
 
-pub verify_said : (looked_at : Bool) (words : List (List ℕ)) → Says (command.Tag looked_at) words → looked_at ≡ true → IsTagVerify words
-verify_said false words said is = absurd (never is)
+pub verify_said : (looked_at : Scope) (words : List (List ℕ)) → Says (command.Tag looked_at) words → looked_at ≡ scope.Files → IsTagVerify words
+verify_said scope.Tag words said is = absurd (never is)
   where
-    never : false ≡ true → ⊥
+    never : scope.Tag ≡ scope.Files → ⊥
     never e = absurd cc
-verify_said true words said is = said
+verify_said scope.Files words said is = said
 
-pub tag_said : (looked_at : Bool) (words : List (List ℕ)) → Says (command.Tag looked_at) words → ¬ IsTagVerify words → looked_at ≡ false
-tag_said false words said other = refl
-tag_said true words said other = absurd (other said)
+pub tag_said : (looked_at : Scope) (words : List (List ℕ)) → Says (command.Tag looked_at) words → ¬ IsTagVerify words → looked_at ≡ scope.Tag
+tag_said scope.Tag words said other = refl
+tag_said scope.Files words said other = absurd (other said)
 
 -- ---- why the command stopped
 
@@ -89,8 +91,8 @@ abbrev pub failure : Stopped → Result Answer Stopped
 failure stop = Err stop
 
 -- What was read of the input was no fault, and the verdicts stopped it.
-pub stopped_by_files : (looked_at : Bool) (input-before input-after output files-before files-after : ℕ) (result : Result Ending Stopped) (stop : Stopped) → result ≡ Err stop → HasCause input-before input-after false
-    → HasCause files-before files-after (is_fault (failure stop)) → OnTrue (is_fault (failure stop)) (looked_at ≡ true) → HasFilesCauses looked_at input-before input-after output output files-before files-after result
+pub stopped_by_files : (looked_at : Scope) (input-before input-after output files-before files-after : ℕ) (result : Result Ending Stopped) (stop : Stopped) → result ≡ Err stop → HasCause input-before input-after false
+    → HasCause files-before files-after (is_fault (failure stop)) → OnTrue (is_fault (failure stop)) (looked_at ≡ scope.Files) → HasFilesCauses looked_at input-before input-after output output files-before files-after result
 stopped_by_files looked_at ib ia o fb fa result stopped.Fault is input files looked = rw is (record {
   input = input.later;
   output = omega arith;
@@ -105,7 +107,7 @@ stopped_by_files looked_at ib ia o fb fa result stopped.Memory is input files lo
 })
 
 -- Status 3 reports a fault, one of files where they were looked at.
-pub tag_fault : (looked_at : Bool) (words : List (List ℕ)) (input-before input-after output-before output-after files-before files-after : ℕ) (result : Result Ending Stopped) (status : ℕ) → status ≡ status_of result
+pub tag_fault : (looked_at : Scope) (words : List (List ℕ)) (input-before input-after output-before output-after files-before files-after : ℕ) (result : Result Ending Stopped) (status : ℕ) → status ≡ status_of result
     → Says (command.Tag looked_at) words → HasFilesCauses looked_at input-before input-after output-before output-after files-before files-after result → status ≡ 3
     → Rose input-before input-after ⊎ Rose output-before output-after ⊎ (IsTagVerify words × Rose files-before files-after)
 tag_fault looked_at words ib ia ob oa fb fa (Ok ending.Whole) status is said causes fault = absurd (omega (arith, is, fault))

@@ -18,6 +18,8 @@ use Rattle.command_text.specs.Answer.{ending_of}
 use Rattle.command_text.specs.declared.ending.Ending.{Ending}
 use Rattle.command_text.specs.declared.ending.Ending.TheVariants as ending
 use Rattle.command_text.specs.Text.{line}
+use Rattle.swid_cli.specs.declared.command.Scope.{Scope}
+use Rattle.swid_cli.specs.declared.command.Scope.TheVariants as scope
 
 abbrev pub verdict_text : Verdict → List ℕ
 verdict_text verdict.Same = codes "same"
@@ -45,10 +47,10 @@ abbrev pub PayloadVerdicts : Option (List NamedFile) → Option Payload → List
 PayloadVerdicts told None verdicts = verdicts ≡ []
 PayloadVerdicts told (Some payload) verdicts = IsVerdicts told (listed payload) verdicts
 
--- The verdicts on the files of a tag; none where files are not looked at.
-abbrev pub TagVerdicts : Bool → Option (List NamedFile) → Tag → List (List ℕ × Verdict) → Type 0
-TagVerdicts false told g verdicts = verdicts ≡ []
-TagVerdicts true told g verdicts = PayloadVerdicts told g.payload verdicts
+-- The verdicts on the files of a tag; none where the tag alone is checked.
+abbrev pub TagVerdicts : Scope → Option (List NamedFile) → Tag → List (List ℕ × Verdict) → Type 0
+TagVerdicts scope.Tag told g verdicts = verdicts ≡ []
+TagVerdicts scope.Files told g verdicts = PayloadVerdicts told g.payload verdicts
 
 -- The lines of a tag, those of its files before that of its canonical spelling.
 abbrev pub checked_text : Tag → List (List ℕ × Verdict) → List ℕ

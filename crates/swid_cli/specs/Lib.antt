@@ -16,3 +16,4 @@ pub mod TagLaws
 pub mod TagList
 pub mod Links
 pub mod LinksLaws
+pub mod Making

@@ -1,5 +1,5 @@
 -- What `tag` prints, of all octets of the input.
-use Rattle.std.specs.Prelude.{◌<◌, ◌≤◌, ℕ, ℤ, Bool, Option, List, [], ◌∷◌, ◌++◌, length, codes, decimal}
+use Rattle.std.specs.Prelude.{◌<◌, ◌≤◌, ℕ, ℤ, Option, List, [], ◌∷◌, ◌++◌, length, codes, decimal}
 use Rattle.std.specs.Fmt.{signed_decimal}
 use Rattle.std.specs.List.{flat_map}
 use Rattle.wire_base.specs.declared.outside.files.NamedFile.{NamedFile}
@@ -13,6 +13,7 @@ use Rattle.coswid_tag.specs.declared.tag.Tag.{Tag}
 use Rattle.coswid_codec.specs.Answers.{limits, BeginsTag, BeginsFaulty}
 use Rattle.command_text.specs.declared.ending.Ending.{Ending}
 use Rattle.command_text.specs.declared.ending.Ending.TheVariants as ending
+use Rattle.swid_cli.specs.declared.command.Scope.{Scope}
 use Rattle.swid_cli.specs.Checking.{TagVerdicts, checked_ending, checked_text}
 use Rattle.command_text.specs.Text.{fault_line, line, refusal}
 
@@ -34,9 +35,9 @@ abbrev pub form_line : FormFault → List ℕ
 form_line fault = line (codes "form" ∷ decimal fault.kind ∷ path_text fault.path ∷ [])
 
 -- The text that is printed of all octets of the input, and how it ends: a rule for each row of the
--- table in docs/rules/commands.md. The files of a tag are looked at or not, and what they hold is
--- known or not.
-pub data TagTells (looked_at : Bool) (files : Option (List NamedFile)) : List ℕ → List ℕ → Ending → Type 0 where
+-- table in docs/rules/commands.md. The tag alone is checked, or its files too, and what these hold
+-- is known or not.
+pub data TagTells (looked_at : Scope) (files : Option (List NamedFile)) : List ℕ → List ℕ → Ending → Type 0 where
   -- the input has more octets than it may have
   long_input : (octets : List ℕ) → TAG_OCTETS < length octets → TagTells looked_at files octets (refusal (codes "limit") TAG_OCTETS) ending.Refused
   -- it begins with no item

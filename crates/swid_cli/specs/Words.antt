@@ -1,7 +1,9 @@
 -- The words of the command line.
 use Rattle.std.specs.Prelude.{◌≡◌, ◌⊎◌, ℕ, List, [], ◌∷◌, codes}
+use Rattle.std.specs.Fmt.{decimal}
 use Rattle.swima_model.specs.declared.report.Kind.{Kind}
 use Rattle.swima_model.specs.declared.report.Kind.TheVariants.{Ids, Full}
+use Rattle.session_day.specs.Day.{IsCount}
 
 -- The word for a kind of reports.
 abbrev pub kind_word : Kind → List ℕ
@@ -28,6 +30,15 @@ IsLinks words = words ≡ codes "links" ∷ []
 abbrev pub IsReplay : List (List ℕ) → Type 0
 IsReplay words = words ≡ codes "replay" ∷ []
 
+-- A word is a number of packages that a day may have: its decimal digits, without a sign or leading
+-- zeros.
+abbrev pub IsCountWord : List ℕ → ℕ → Type 0
+IsCountWord word count = IsCount count × (decimal count ≡ word)
+
+-- The words are `make` and such a number.
+abbrev pub IsMake : ℕ → List (List ℕ) → Type 0
+IsMake count words = (word : List ℕ) × IsCountWord word count × (words ≡ codes "make" ∷ word ∷ [])
+
 -- The words are a command line.
 abbrev pub IsCommandLine : List (List ℕ) → Type 0
-IsCommandLine words = IsMirror Ids words ⊎ IsMirror Full words ⊎ IsTag words ⊎ IsTagVerify words ⊎ IsLinks words ⊎ IsReplay words
+IsCommandLine words = IsMirror Ids words ⊎ IsMirror Full words ⊎ IsTag words ⊎ IsTagVerify words ⊎ IsLinks words ⊎ IsReplay words ⊎ ((count : ℕ) × IsMake count words)

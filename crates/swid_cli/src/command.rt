@@ -2,9 +2,21 @@
 
 ghost use Rattle.std.specs.Prelude.{◌≡◌, ◌↔◌, IsSome, IfSome, map};
 ghost use Rattle.swid_cli.specs.Commands.{Says};
-ghost use Rattle.swid_cli.specs.Words.{IsCommandLine};
+ghost use Rattle.line_words.specs.Reading.{FindsExactly};
+ghost use Rattle.swid_cli.specs.Words.{IsCommandLine, IsCountWord};
 
+use line_words::read_number;
+use session_day::{FEWEST_PACKAGES, MOST_PACKAGES};
 use swima_model::Kind;
+
+/// What `tag` checks.
+#[derive(Clone, Copy, Debug, PartialEq, Eq)]
+pub(crate) enum Scope {
+    /// The tag alone.
+    Tag,
+    /// The tag, and the files of its payload.
+    Files,
+}
 
 /// A command that waits for nobody.
 #[derive(Clone, Copy, Debug, PartialEq, Eq)]
@@ -14,11 +26,13 @@ pub(crate) enum Command {
     Mirror(Kind),
     /// `tag` or `tag verify`: say what a tag is and what is wrong with it, and with `verify`
     /// what is wrong with its files.
-    Tag { looks_at_files: bool },
+    Tag(Scope),
     /// `links`: say what is wrong between tags.
     Links,
     /// `replay`: play a script of both ends of sessions.
     Replay,
+    /// `make`: play the day of an endpoint with that many packages.
+    Make(u32),
 }
 
 /// The command that the words say; `None` exactly where they are no command line.
@@ -29,14 +43,24 @@ pub(crate) fn command_of(words: &[&str]) -> Option<Command>
     match words {
         ["mirror", "ids"] => Some(Command::Mirror(Kind::Ids)),
         ["mirror", "full"] => Some(Command::Mirror(Kind::Full)),
-        ["tag"] => Some(Command::Tag {
-            looks_at_files: false,
-        }),
-        ["tag", "verify"] => Some(Command::Tag {
-            looks_at_files: true,
-        }),
+        ["tag"] => Some(Command::Tag(Scope::Tag)),
+        ["tag", "verify"] => Some(Command::Tag(Scope::Files)),
         ["links"] => Some(Command::Links),
         ["replay"] => Some(Command::Replay),
+        ["make", word] => match count_of(word) {
+            Some(count) => Some(Command::Make(count)),
+            None => None,
+        },
+        _ => None,
+    }
+}
+
+/// The number of packages that a word is, if a day may have that many.
+fn count_of(word: &str) -> Option<u32>
+    ensures count { FindsExactly (IsCountWord word.now) result }
+{
+    match read_number(word.as_bytes()) {
+        Some(count) if FEWEST_PACKAGES <= count && count <= MOST_PACKAGES => Some(count),
         _ => None,
     }
 }

@@ -1,15 +1,17 @@
 //! The commands, over any source, sink and files.
 //!
-//! It stands on `validator_core`, `swima_reports`, `pa_attrs` and `swima_model` for `mirror`. It
-//! stands on `coswid_links`, `coswid_codec`, `coswid_tag`, `coswid_res` and `cbor_det` for `tag`,
-//! `tag verify` and `links`, and on `wire_base`, `sha2`, `hex` and `itoa`. The program rests on
-//! these clauses of `run_plain`:
+//! It stands on `validator_core`, `swima_reports`, `pa_attrs` and `swima_model` for `mirror`, on
+//! `coswid_links`, `coswid_codec`, `coswid_tag`, `coswid_res` and `cbor_det` for `tag`,
+//! `tag verify` and `links`, on `session_script` for `replay`, and on `session_day` and
+//! `line_words` for `make`. All commands stand on `command_text` and `wire_base`. The program rests
+//! on these clauses of `run_plain`:
 //!
 //! - `usage`: status 2 comes exactly where the words are no command line;
 //! - `fault`, `no_input_fault`, `no_output_fault`, `no_files_fault`: status 3 comes exactly where,
 //!   with neither 2 nor 4, a count of faults rose;
 //! - `printed`, `front`: of an input that exposes its octets, what is printed, the status and what
-//!   is left are what `CommandPrints` says of the command;
+//!   is left are what `CommandPrints` says of the command; of `make`, whatever the input is;
+//! - `unread`: `make` reads nothing;
 //! - `reads`: of files that expose their reads, those that are read are those of `CommandReads`;
 //! - `right`: the mirror that is printed at the end is right over each honest history from which
 //!   the reports answer.
@@ -24,12 +26,14 @@
 //! | `tag.rt`, `tag/` | `tag` and `tag verify` | `Tagging`: `TagTells`; `Checking`, `TagReads` |
 //! | `links.rt`, `links/` | `links` | `Links`: `LinksTells`; `TagList` |
 //! | `replay.rt` | `replay` | `Replay` of `session_script`: `ReplayTells` |
+//! | `make.rt` | `make` | `Making`; `Day` of `session_day`: `MakeTells` |
 //! | `laws.rt` | what the definitions mean, proved | `FirstLaws`, `TagLaws`, `LinksLaws` |
 #![tactic(auto)]
 
 mod command;
 pub mod laws;
 mod links;
+mod make;
 mod mirror;
 mod replay;
 mod run;

@@ -3,9 +3,8 @@
 ghost use Rattle.std.specs.Prelude.{◌≡◌, ◌≢◌, ◌≤◌, ◌⊎◌, ◌↔◌, List, ℕ, IfSome, map};
 ghost use Rattle.swid_cli.specs.Answering.{AllAnswer, PrintsRight};
 ghost use Rattle.swid_cli.specs.Printing.{WordsBegin, WordsPrint, WordsRead};
-ghost use Rattle.swid_cli.specs.Run.{Prints, status_of, usage};
-ghost use Rattle.swid_cli.specs.Stream.{Printed};
-ghost use Rattle.swid_cli.specs.Words.{IsCommandLine, IsMirror, IsTagVerify};
+ghost use Rattle.swid_cli.specs.Run.{status_of, usage};
+ghost use Rattle.swid_cli.specs.Words.{IsCommandLine, IsMake, IsMirror, IsTagVerify};
 ghost use Rattle.swima_model.specs.History.{History, IsHonest};
 ghost use Rattle.swima_model.specs.declared.report.Kind.{Kind as KindValue};
 ghost use Rattle.wire_base.specs.Outside.{Adds, Rose};
@@ -13,6 +12,7 @@ ghost use Rattle.wire_base.specs.Passing.{AddsFront};
 
 use crate::command::{Command, command_of};
 use crate::links::links;
+use crate::make::make;
 use crate::mirror::mirror;
 use crate::replay::replay;
 use crate::tag::tag;
@@ -32,7 +32,7 @@ const USAGE: &[u8; 6] = b"usage\n";
 /// | 4 | memory ran out |
 /// | 3 | exactly where a count of faults rose |
 /// | 1 | exactly where the input was refused, or something is wrong with what it holds |
-/// | 0 | else, and then the input was read to its end |
+/// | 0 | else, and then a command that reads the input read it to its end |
 pub fn run_plain<S: Source, K: Sink, F: Files>(
     alloc: Global,
     words: &[&str],
@@ -49,17 +49,18 @@ pub fn run_plain<S: Source, K: Sink, F: Files>(
         ⊎ Rose (K.faults output.old) (K.faults output.new) }
     ensures usage_input { result ≡ 2 → input.new ≡ input.old }
 
-    // Words that are one. Of an input that exposes its octets, the text, the status and what is
-    // left of the input are those of the command that the words say. Where a call failed or memory
-    // ran out, a prefix of the text was printed.
+    // Words that are one. The text, the status and what is left of the input are those of the
+    // command that the words say, where it reads no input or this exposes its octets. Where a call
+    // failed or memory ran out, a prefix of the text was printed.
     ensures printed { result ≢ 2 → result ≢ 3 → result ≢ 4
-        → IfSome (S.left input.old) (λ octets. (told : Printed)
-        × WordsPrint (map (λ word. word.now) words.now) (F.contents files.old) octets told
-        × Prints told (S.left input.new) (K.written output.old) (K.written output.new) result) }
+        → WordsPrint (map (λ word. word.now) words.now) (F.contents files.old)
+        (S.left input.old) (S.left input.new) (K.written output.old) (K.written output.new) result }
     ensures front { result ≢ 2
-        → IfSome (S.left input.old) (λ octets.
-        WordsBegin (map (λ word. word.now) words.now) (F.contents files.old) octets
-        (K.written output.old) (K.written output.new)) }
+        → WordsBegin (map (λ word. word.now) words.now) (F.contents files.old)
+        (S.left input.old) (K.written output.old) (K.written output.new) }
+    // `make` reads nothing.
+    ensures unread { (count : ℕ) → IsMake count (map (λ word. word.now) words.now)
+        → input.new ≡ input.old }
     // The files that it reads, however it ends.
     ensures reads { result ≢ 2
         → IfSome (S.left input.old) (λ octets.
@@ -99,11 +100,10 @@ pub fn run_plain<S: Source, K: Sink, F: Files>(
             2
         }
         Some(Command::Mirror(kind)) => status(mirror(alloc, kind, input, output)),
-        Some(Command::Tag { looks_at_files }) => {
-            status(tag(alloc, looks_at_files, input, output, files))
-        }
+        Some(Command::Tag(scope)) => status(tag(alloc, scope, input, output, files)),
         Some(Command::Links) => status(links(alloc, input, output)),
         Some(Command::Replay) => status(replay(alloc, input, output)),
+        Some(Command::Make(count)) => status(make(alloc, count, output)),
     }
 }
 

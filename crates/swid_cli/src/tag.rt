@@ -3,7 +3,7 @@
 pub(crate) mod lines;
 pub(crate) mod verdict_lines;
 
-ghost use Rattle.std.specs.Prelude.{◌≡◌, ◌≤◌, true, false, IfOk, IfSome, length};
+ghost use Rattle.std.specs.Prelude.{◌≡◌, ◌≤◌, IfOk, IfSome, length};
 ghost use Rattle.cbor_det.specs.Term.{depth};
 ghost use Rattle.coswid_codec.specs.Answers.{BeginsTag};
 ghost use Rattle.coswid_codec.specs.Items.{tag_item};
@@ -16,6 +16,7 @@ ghost use Rattle.swid_cli.specs.Tagging.{TAG_OCTETS, TagTells};
 ghost use Rattle.swid_cli.specs.Telling.{RanTelling};
 ghost use Rattle.wire_base.specs.Passing.{is_fault};
 
+use crate::command::Scope;
 use crate::tag::lines::form_line;
 use crate::tag::verdict_lines::{has_wrong, put_files};
 use command_text::{Answer, Ending, beyond_limit, ending_of, fault_line, refusal, refused};
@@ -28,28 +29,28 @@ use wire_base::{Files, List, Memory, Sink, Source, Stopped, Text, fill, write_al
 /// The most octets of the input.
 const MOST_TAG_OCTETS: usize = 8_388_608;
 
-/// Reads one tag, to the end of the input, and prints its text, or why there is none. Where
-/// `looks_at_files`, the text has a verdict on each file of its payload.
+/// Reads one tag, to the end of the input, and prints its text, or why there is none. Where files
+/// are in the scope, the text has a verdict on each file of the tag's payload.
 pub(crate) fn tag<S: Source, K: Sink, F: Files>(
     alloc: Global,
-    looks_at_files: bool,
+    scope: Scope,
     input: &mut S,
     output: &mut K,
     files: &mut F,
 ) -> Result<Ending, Stopped>
     ensures printed { IfSome (S.left input.old) (λ octets.
-        RanTelling TAG_OCTETS (TagTells looks_at_files (F.contents files.old)) octets
+        RanTelling TAG_OCTETS (TagTells scope (F.contents files.old)) octets
         (S.left input.new) (K.written output.old) (K.written output.new) result) }
-    ensures causes { HasFilesCauses looks_at_files (S.faults input.old) (S.faults input.new)
+    ensures causes { HasFilesCauses scope (S.faults input.old) (S.faults input.new)
         (K.faults output.old) (K.faults output.new) (F.faults files.old) (F.faults files.new) result }
     ensures contents { F.contents files.new ≡ F.contents files.old }
-    ensures files { looks_at_files ≡ false → files.new ≡ files.old }
-    ensures reads { looks_at_files ≡ true → IfSome (S.left input.old) (λ octets.
+    ensures files { scope ≡ Scope.Tag → files.new ≡ files.old }
+    ensures reads { scope ≡ Scope.Files → IfSome (S.left input.old) (λ octets.
         TagReads octets result (F.reads files.old) (F.reads files.new)) }
 {
     let mut held = List::new(alloc);
     fill(input, &mut held, MOST_TAG_OCTETS + 1)?;
-    let answer = answer_to(alloc, looks_at_files, held.as_slice(), files)?;
+    let answer = answer_to(alloc, scope, held.as_slice(), files)?;
     write_all(output, answer.text.as_slice())?;
     Ok(answer.ending)
 }
@@ -57,19 +58,19 @@ pub(crate) fn tag<S: Source, K: Sink, F: Files>(
 /// What is printed of the octets of an input, of which one more than it may have are looked at.
 fn answer_to<F: Files>(
     alloc: Global,
-    looks_at_files: bool,
+    scope: Scope,
     octets: &[u8],
     files: &mut F,
 ) -> Result<Answer, Stopped>
-    ensures told { IfOk result (λ made. TagTells looks_at_files (F.contents files.old) octets.now made.text made.ending) }
-    ensures reads { looks_at_files ≡ true → TagReads octets.now result (F.reads files.old) (F.reads files.new) }
-    ensures looks { LooksAt F.contents F.faults looks_at_files (is_fault result) files.old files.new }
+    ensures told { IfOk result (λ made. TagTells scope (F.contents files.old) octets.now made.text made.ending) }
+    ensures reads { scope ≡ Scope.Files → TagReads octets.now result (F.reads files.old) (F.reads files.new) }
+    ensures looks { LooksAt F.contents F.faults scope (is_fault result) files.old files.new }
 {
     if MOST_TAG_OCTETS < octets.len() {
         return Ok(beyond_limit(alloc, MOST_TAG_OCTETS)?);
     }
     match read_tag(alloc, octets) {
-        Ok((tag, used)) => answer_to_tag(alloc, looks_at_files, octets, &tag, used, files),
+        Ok((tag, used)) => answer_to_tag(alloc, scope, octets, &tag, used, files),
         Err(TagRefused::Cbor(fault)) => {
             Ok(refused(fault_line(alloc, fault.kind as u32, fault.at)?))
         }
@@ -81,7 +82,7 @@ fn answer_to<F: Files>(
 /// What is printed of octets that begin with a tag of `used` octets.
 fn answer_to_tag<F: Files>(
     alloc: Global,
-    looks_at_files: bool,
+    scope: Scope,
     octets: &[u8],
     tag: &Tag,
     used: usize,
@@ -91,30 +92,30 @@ fn answer_to_tag<F: Files>(
     requires begins { BeginsTag octets.now tag.now used }
     requires shallow { depth (tag_item tag.now) ≤ 64 }
     requires sizes { SizesFit tag.now }
-    ensures told { IfOk result (λ made. TagTells looks_at_files (F.contents files.old) octets.now made.text made.ending) }
-    ensures reads { looks_at_files ≡ true → TagReads octets.now result (F.reads files.old) (F.reads files.new) }
-    ensures looks { LooksAt F.contents F.faults looks_at_files (is_fault result) files.old files.new }
+    ensures told { IfOk result (λ made. TagTells scope (F.contents files.old) octets.now made.text made.ending) }
+    ensures reads { scope ≡ Scope.Files → TagReads octets.now result (F.reads files.old) (F.reads files.new) }
+    ensures looks { LooksAt F.contents F.faults scope (is_fault result) files.old files.new }
 {
     if used < octets.len() {
         return Ok(refused(refusal(alloc, "trailing", used as u64)?));
     }
-    let verdicts = verdicts_on(alloc, looks_at_files, tag, files)?;
+    let verdicts = verdicts_on(alloc, scope, tag, files)?;
     Ok(checked(alloc, tag, verdicts.as_slice())?)
 }
 
-/// The verdicts on the files of a tag's payload; none where files are not looked at, or there is no
-/// payload.
+/// The verdicts on the files of a tag's payload; none where files are not in the scope, or there
+/// is no payload.
 fn verdicts_on<F: Files>(
     alloc: Global,
-    looks_at_files: bool,
+    scope: Scope,
     tag: &Tag,
     files: &mut F,
 ) -> Result<Verdicts, Stopped>
-    ensures verdicts { IfOk result (TagVerdicts looks_at_files (F.contents files.old) tag.now) }
-    ensures reads { looks_at_files ≡ true → PayloadReads tag.now.payload result (F.reads files.old) (F.reads files.new) }
-    ensures looks { LooksAt F.contents F.faults looks_at_files (is_fault result) files.old files.new }
+    ensures verdicts { IfOk result (TagVerdicts scope (F.contents files.old) tag.now) }
+    ensures reads { scope ≡ Scope.Files → PayloadReads tag.now.payload result (F.reads files.old) (F.reads files.new) }
+    ensures looks { LooksAt F.contents F.faults scope (is_fault result) files.old files.new }
 {
-    if !looks_at_files {
+    if scope == Scope::Tag {
         return Ok(List::new(alloc));
     }
     let Some(payload) = &tag.payload else {

@@ -33,7 +33,7 @@ returns-clause-printed g c =
 pub returns-in_err-answer-clause-causes : goal.returns-in_err-answer-clause-causes
 returns-in_err-answer-clause-causes g c =
     let p = err_from_is_err_and c.from_residual-in_err-answer.result c.from_residual-in_err-answer.ensures.1 in
-    stopped_by_files c.args.looks_at_files _ _ _ _ _ c.from_residual-in_err-answer.result c.in_err-answer.field-0.0 (p.1 ∙ ap (λ (stop : Stopped). Err stop) p.2) c.in_ok-fill.ensures.cause c.in_err-answer.ensures.looks.cause c.in_err-answer.ensures.looks.looked
+    stopped_by_files c.args.scope _ _ _ _ _ c.from_residual-in_err-answer.result c.in_err-answer.field-0.0 (p.1 ∙ ap (λ (stop : Stopped). Err stop) p.2) c.in_ok-fill.ensures.cause c.in_err-answer.ensures.looks.cause c.in_err-answer.ensures.looks.looked
 
 pub returns-in_err-fill-clause-reads : goal.returns-in_err-fill-clause-reads
 returns-in_err-fill-clause-reads g c = λ looked.

@@ -1,0 +1,5 @@
+pub mod Sizes
+pub mod Packed
+pub mod Contents
+pub mod Daily
+pub mod OneText

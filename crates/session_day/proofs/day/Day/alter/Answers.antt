@@ -1,0 +1,12 @@
+-- The stamp, and the content of the record.
+use Rattle.std.proofs.Common.{◌∙◌, ap, refl}
+use Rattle.session_day.specs.Package.{content_by, package_content}
+use Rattle.session_day.proofs.Daily.{altered_so}
+use Rattle.session_day.proofs.day.Day.alter.Goals as goal
+
+pub returns : goal.returns
+returns c = record {
+  changes = altered_so c.args.number (package_content c.args.count c.args.number c.args.number) c.args.number (record { ref_ptr = c.args.self.ref_ptr; now = c.stamp_at.result })
+      (record { ref_ptr = c.args.self.ref_ptr; now = c.in_ok-content.field-0 }) c.args.self.now (record { world = c.enter.new.self; told = c.enter.new.told; carried = c.args.self.now.carried }) c.enter.result
+      c.enter.ensures.does c.stamp_at.ensures.text (c.in_ok-content.ensures.content ∙ ap (content_by c.args.number c.args.number) c.number_of.ensures.number) refl;
+}

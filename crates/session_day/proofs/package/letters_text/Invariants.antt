@@ -1,0 +1,6 @@
+-- The letters so far.
+use Rattle.std.proofs.Common.{◌≡◌, replicate, string_bytes}
+use Rattle.session_day.proofs.package.letters_text.Given as goal
+
+abbrev pub invariant-loop : goal.invariant-loop
+invariant-loop l = string_bytes l.text ≡ replicate l.counter 97

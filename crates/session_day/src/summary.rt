@@ -1,0 +1,119 @@
+//! The summary of a day.
+
+ghost use Rattle.std.specs.Prelude.{◌≡◌, ◌++◌, IfOk, OnOk};
+ghost use Rattle.session_day.specs.Day.{IsCount, MakeTells, count_of, digest_line, is_adopted, is_full, is_report, point_line, summary};
+
+use crate::day::{Day, play_day};
+use command_text::{from_string, mirror_text, refusal};
+use session_world::Telling;
+use sha2::{Digest, Sha256};
+use std::alloc::Global;
+use swima_model::Point;
+use validator_core::Taken;
+use wire_base::{Memory, Octets};
+
+/// What is printed of a day of an endpoint with that many packages: a summary; `Memory` where there
+/// is no room.
+pub fn day_text(alloc: Global, count: u32) -> Result<Octets, Memory>
+    requires count { IsCount count }
+    ensures told { IfOk result (λ made. MakeTells count made) }
+{
+    let day = play_day(alloc, count)?;
+    summary(alloc, count, &day)
+}
+
+/// What is printed of the day of that many packages.
+fn summary(alloc: Global, count: u32, day: &Day) -> Result<Octets, Memory>
+    ensures summary { IfOk result (λ made.
+        made ≡ summary count day.now.told day.now.carried day.now.world.mirror) }
+{
+    let mirror = day.world.mirror();
+    let mut out = refusal(alloc, "make", u64::from(count))?;
+    let told = day.told.as_slice();
+    out.extend(refusal(alloc, "reports", reports(told))?.as_slice())?;
+    out.extend(refusal(alloc, "full", adopted(told))?.as_slice())?;
+    out.extend(point_line(alloc, mirror.point())?.as_slice())?;
+    out.extend(refusal(alloc, "records", u64::from(mirror.count()))?.as_slice())?;
+    put_digest(&mut out, "octets", day.carried.as_slice())?;
+    let text = mirror_text(alloc, mirror)?;
+    put_digest(&mut out, "digest", text.as_slice())?;
+    Ok(out)
+}
+
+/// How many reports were taken.
+fn reports(told: &[Telling]) -> u64
+    ensures count { result ≡ count_of is_report told.now }
+{
+    told.iter().filter(|one| is_report(one)).count() as u64
+}
+
+fn is_report(told: &Telling) -> bool
+    ensures is { result ≡ is_report told.now }
+{
+    match told {
+        Telling::Took { .. } => true,
+        Telling::Refused(_) => false,
+        Telling::CollectorEnds(_) => false,
+        Telling::ValidatorEnds(_) => false,
+    }
+}
+
+/// How many reports were adopted.
+fn adopted(told: &[Telling]) -> u64
+    ensures count { result ≡ count_of is_full told.now }
+{
+    told.iter().filter(|one| is_full(one)).count() as u64
+}
+
+fn is_full(told: &Telling) -> bool
+    ensures is { result ≡ is_full told.now }
+{
+    match told {
+        Telling::Took { answer, .. } => is_adopted(*answer),
+        Telling::Refused(_) => false,
+        Telling::CollectorEnds(_) => false,
+        Telling::ValidatorEnds(_) => false,
+    }
+}
+
+fn is_adopted(answer: Taken) -> bool
+    ensures is { result ≡ is_adopted answer }
+{
+    match answer {
+        Taken::Adopted => true,
+        Taken::WrongKind => false,
+        Taken::Stale => false,
+        Taken::Doubled { .. } => false,
+        Taken::Large { .. } => false,
+        Taken::OtherEpoch { .. } => false,
+        Taken::Gap { .. } => false,
+        Taken::Contradiction { .. } => false,
+        Taken::Advanced { .. } => false,
+        Taken::Memory => false,
+    }
+}
+
+fn point_line(alloc: Global, point: Option<Point>) -> Result<Octets, Memory>
+    ensures line { IfOk result (λ made. made ≡ point_line point) }
+{
+    match point {
+        None => Ok(from_string(format!(in alloc; "point none\n")?)),
+        Some(point) => {
+            let epoch = point.epoch;
+            let eid = point.eid;
+            Ok(from_string(format!(in alloc; "point {epoch} {eid}\n")?))
+        }
+    }
+}
+
+/// Puts a word and the digest of octets.
+fn put_digest(out: &mut Octets, word: &str, octets: &[u8]) -> Result<(), Memory>
+    ensures appended { OnOk result (out.new ≡ out.old ++ digest_line word.now octets.now) }
+{
+    let mut digest = [0u8; 64];
+    hex::encode_to_slice(Sha256::digest(octets), &mut digest).unwrap();
+    out.extend(word.as_bytes())?;
+    out.push(b' ')?;
+    out.extend(&digest)?;
+    out.push(b'\n')
+}
