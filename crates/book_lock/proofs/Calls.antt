@@ -1,5 +1,5 @@
 -- From what a pass knows of the table to what the calls of a shelf say of it.
-use Rattle.std.proofs.Common.{◌≡◌, ◌≢◌, ◌⊎◌, ◌<◌, ◌≤◌, ◌+◌, ◌||◌, ℕ, Bool, true, false, List, [], ◌∷◌, ◌++◌, length, refl, sym, ap, ◌∙◌, subst, arith, Option, Some, None, Result, Ok, Err, IfOk, append_assoc, append-nil, get_or, true≢false}
+use Rattle.std.proofs.Common.{◌≡◌, ◌+◌, ℕ, true, false, List, [], ◌∷◌, ◌++◌, refl, sym, ap, ◌∙◌, subst, Option, Some, None, Ok, Err, append_assoc, append-nil, get_or}
 use Rattle.std.proofs.lemmas.Option.{same_Some}
 use Rattle.atomic_table.specs.Seated.{TableId}
 use Rattle.atomic_table.specs.Table.{rest}
@@ -13,15 +13,15 @@ use Rattle.collector_core.specs.declared.error.BookError.TheVariants as refused
 use Rattle.collector_core.specs.BookAnswer.{book_point}
 use Rattle.collector_core.specs.BookDesk.{entries_append, extended_more, own_append}
 use Rattle.collector_core.specs.Chronicle.{Chronicle, current, extended, point_of}
-use Rattle.collector_core.specs.Desks.{AreOthers, AreOwn, Does, Edits, Reads, State, entries, own_mark, state_of}
+use Rattle.collector_core.specs.Desks.{AreOthers, AreOwn, Does, Edits, Reads, entries, own_mark, state_of}
 use Rattle.collector_core.specs.Edits.{Makes, book_entry, edit_refusal, edited_id}
-use Rattle.collector_core.specs.Standing.{BookView, Enters, Stands, StandsForSome}
+use Rattle.collector_core.specs.Standing.{BookView, Enters, Stands}
 use Rattle.collector_core.proofs.Editing.{book_entry_is_entered}
 use Rattle.collector_core.proofs.Marks.{others_append}
 use Rattle.book_lock.specs.declared.view.View.{View}
 use Rattle.book_lock.specs.Logs.{LegalWith, StandsWith}
-use Rattle.book_lock.specs.Passes.{Closes, IsSound, PassStands, PassView, PassWent, Reports}
-use Rattle.book_lock.specs.Plays.{HasBook, IsAt, Rests, Seated, Took, committing, drawn, holding, pass_of, reached, resting}
+use Rattle.book_lock.specs.Passes.{IsSound, PassStands, PassView, PassWent, Reports}
+use Rattle.book_lock.specs.Plays.{HasBook, IsAt, Rests, Seated, Took, committing, drawn, pass_of, reached, resting}
 
 -- ---- the steps together
 

@@ -1,27 +1,26 @@
 -- Two passes that meet keep the rule; and what the pass learns of it afterwards.
-use Rattle.std.proofs.Common.{◌≡◌, ◌≢◌, ◌⊎◌, ◌<◌, ◌≤◌, ◌+◌, ◌||◌, ℕ, Bool, true, false, List, [], ◌∷◌, ◌++◌, length, set, get_or, refl, sym, ap, ◌∙◌, subst, ⊎_elim, inl, inr, arith, Option, Some, true≢false, append-nil, append_assoc, length-append, length-set}
-use Rattle.std.proofs.lemmas.Bool.{cases_eq, or_cases}
+use Rattle.std.proofs.Common.{◌≡◌, ◌≢◌, ◌⊎◌, ◌≤◌, ◌+◌, ◌||◌, ℕ, Bool, true, false, List, [], ◌∷◌, ◌++◌, length, set, get_or, refl, sym, ap, ◌∙◌, subst, ⊎_elim, inl, inr, arith, true≢false, append-nil, append_assoc, length-append, length-set}
+use Rattle.std.proofs.lemmas.Bool.{or_cases}
 use mathlib.Core.Option as maybe
 use mathlib.Core.Option.{some, none}
 use lib.ListN.{get_elem?}
-use Rattle.atomic_table.specs.Table.{Allows, Joins, State, keeps, step}
-use Rattle.atomic_table.proofs.Lists.{set_else, set_here}
+use Rattle.atomic_table.specs.Table.{Allows, Joins, keeps, step}
+use Rattle.atomic_table.proofs.Lists.{set_else}
 use Rattle.collector_core.specs.declared.chronicle.Entry.{Entry}
 use Rattle.collector_core.specs.declared.chronicle.Mark.{Mark}
 use Rattle.collector_core.specs.Desks.{AreOthers, AreOwn, entries}
 use Rattle.collector_core.specs.Legal.{IsLegal}
-use Rattle.collector_core.specs.Chronicle.{Chronicle, Start, extended}
-use Rattle.collector_core.specs.Standing.{BookView, Stands}
+use Rattle.collector_core.specs.Standing.{BookView}
 use Rattle.collector_core.proofs.Fronts.{legal_front}
 use Rattle.book_lock.specs.declared.view.View.{View}
-use Rattle.book_lock.specs.Logs.{Known, LegalWith, Logged, NoneBy, Saw, StandsWith, entries_in, marked}
+use Rattle.book_lock.specs.Logs.{Known, LegalWith, Logged, NoneBy, Saw, StandsWith, marked}
 use Rattle.book_lock.specs.Passes.{Agree, merged}
-use Rattle.book_lock.specs.Plays.{Seated, Settled, gone, joined, settled, settling}
-use Rattle.book_lock.specs.Rule.{Alone, IsHome, IsOut, Kept, Knows, has_ticket, waiting}
-use Rattle.book_lock.proofs.Keeping.{AllAlone, BoardState, Slots, at_length, distinct_set, each_set, fewer_set, kept_set, place_set, set_read, waiting_set}
-use Rattle.book_lock.proofs.Logs.{AllBy, begins_none, begins_same, entries_marked, length_marked, none_append, none_first, others_marked, own_marked, saw_begins, saw_none, saw_seen}
+use Rattle.book_lock.specs.Plays.{Seated, gone, joined, settled, settling}
+use Rattle.book_lock.specs.Rule.{Alone, IsHome, IsOut, Kept, Knows, has_ticket}
+use Rattle.book_lock.proofs.Keeping.{AllAlone, BoardState, at_length, distinct_set, each_set, fewer_set, kept_set, place_set, set_read, waiting_set}
+use Rattle.book_lock.proofs.Logs.{AllBy, begins_none, begins_same, length_marked, none_first, others_marked, own_marked, saw_begins, saw_none}
 use Rattle.book_lock.proofs.Relabel.{agree_both, entries_relabelled, known_relabelled, length_relabelled, marked_else, none_both, none_else, none_other, relabelled, saw_both, saw_else}
-use Rattle.book_lock.proofs.Turns.{Owes, all_own, sole_rest}
+use Rattle.book_lock.proofs.Turns.{all_own, sole_rest}
 
 -- ---- join
 

@@ -1,16 +1,15 @@
 -- What the rule says of all passes stays true where one of them changes, or a new one comes.
-use Rattle.std.proofs.Common.{◌≡◌, ◌≢◌, ◌⊎◌, ◌<◌, ◌≤◌, ◌+◌, ◌^◌, ℕ, zero, suc, true, false, List, [], ◌∷◌, ◌++◌, length, set, get_or, map, refl, sym, ap, ◌∙◌, subst, ⊎_elim, inl, inr, arith, Option, Some, length-set, length-append}
-use Rattle.std.proofs.lemmas.Bool.{cases_eq, cases_lt}
+use Rattle.std.proofs.Common.{◌≡◌, ◌≢◌, ◌⊎◌, ◌<◌, ◌≤◌, ◌+◌, ◌^◌, ℕ, zero, suc, true, false, List, [], ◌∷◌, ◌++◌, length, set, get_or, refl, sym, ap, ◌∙◌, subst, ⊎_elim, inl, inr, arith, Option, length-set}
+use Rattle.std.proofs.lemmas.Bool.{cases_eq}
 use mathlib.Core.Option as maybe
 use mathlib.Core.Option.{some, none, some-injective, some-ne-none}
 use lib.ListN.{get_elem?}
 use Rattle.atomic_table.specs.Table.{State}
-use Rattle.atomic_table.proofs.Lists.{at_set, set_again, set_here, set_else}
+use Rattle.atomic_table.proofs.Lists.{at_set, set_else}
 use Rattle.collector_core.specs.Standing.{BookView}
 use Rattle.book_lock.specs.declared.view.View.{View}
 use Rattle.book_lock.specs.Logs.{Known, LegalWith, Logged, entries_in}
 use Rattle.book_lock.specs.Rule.{Alone, IsHome, IsOut, Kept, Knows, has_ticket, waiting}
-use Rattle.book_lock.proofs.Logs.{known_more}
 
 abbrev pub BoardState : Type 0
 BoardState = State (Option BookView) View

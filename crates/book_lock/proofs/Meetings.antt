@@ -1,5 +1,5 @@
 -- What is true of passes that come from one another, and meet.
-use Rattle.std.proofs.Common.{◌≡◌, ◌≤◌, ◌||◌, ◌&&◌, not, ℕ, Bool, true, false, List, [], ◌∷◌, length, refl, sym, ap, ◌∙◌, subst, Option, true≢false}
+use Rattle.std.proofs.Common.{◌≡◌, ◌&&◌, not, ℕ, Bool, true, false, List, [], ◌∷◌, refl, sym, ap, ◌∙◌, subst, Option, true≢false}
 use Rattle.atomic_table.specs.Seated.{TableId}
 use Rattle.collector_core.specs.declared.chronicle.Entry.{Entry}
 use Rattle.collector_core.specs.declared.chronicle.Mark.{Mark}
@@ -7,8 +7,8 @@ use Rattle.collector_core.specs.Desks.{AreOthers, AreOwn, entries}
 use Rattle.collector_core.specs.Standing.{BookView, StandsForSome}
 use Rattle.book_lock.specs.declared.view.View.{View}
 use Rattle.book_lock.specs.Logs.{LegalWith}
-use Rattle.book_lock.specs.Passes.{Agree, IsSound, PassView, as_other, as_others, merged, met, split_from}
-use Rattle.book_lock.specs.Plays.{Rests, Seated, Settled, joined, other_of, pass_of, settling, shared}
+use Rattle.book_lock.specs.Passes.{Agree, IsSound, PassView, as_others, met, split_from}
+use Rattle.book_lock.specs.Plays.{Rests, Seated, Settled, joined, other_of, pass_of, shared}
 use Rattle.book_lock.proofs.Together.{merged_left, merged_right}
 
 -- ---- split

@@ -1,16 +1,12 @@
 -- Whose the entries are that were made since a shelf was opened.
-use Rattle.std.proofs.Common.{◌≡◌, ◌<◌, ◌+◌, ℕ, zero, suc, Bool, true, false, eqb, List, [], ◌∷◌, ◌++◌, length, refl, sym, ap, ◌∙◌, subst, arith, eq-eqb, eqb-true, true≢false, append-nil}
-use mathlib.Core.Option.{some}
-use lib.ListN.{get_elem?}
+use Rattle.std.proofs.Common.{◌≡◌, ◌<◌, ◌+◌, ℕ, zero, suc, true, false, eqb, List, [], ◌∷◌, ◌++◌, length, refl, sym, ap, ◌∙◌, subst, arith, eq-eqb, eqb-true, true≢false, append-nil}
 use Rattle.collector_core.specs.declared.chronicle.Mark.{Mark}
-use Rattle.collector_core.specs.Desks.{AreOthers, AreOwn, entries}
+use Rattle.collector_core.specs.Desks.{AreOthers, AreOwn}
 use Rattle.collector_core.specs.Standing.{BookView}
-use Rattle.book_lock.specs.declared.view.View.{View}
-use Rattle.book_lock.specs.Logs.{Known, Logged, NoneBy, StandsWith, marked}
+use Rattle.book_lock.specs.Logs.{Known, Logged, NoneBy, marked}
 use Rattle.book_lock.specs.Meaning.{EachIsOwned, MetAreTheChronicle, Owns, SoleHasSeenAll}
-use Rattle.book_lock.specs.Passes.{Closes, PassView}
 use Rattle.book_lock.specs.Rule.{Kept}
-use Rattle.book_lock.specs.Together.{MetAll, one_if, own_at, owners}
+use Rattle.book_lock.specs.Together.{one_if, own_at}
 use Rattle.book_lock.proofs.Keeping.{BoardState, view_at}
 use Rattle.book_lock.proofs.Logs.{AllBy, own_marked}
 use Rattle.book_lock.proofs.Turns.{all_own, sole_rest}

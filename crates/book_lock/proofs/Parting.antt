@@ -1,22 +1,19 @@
 -- A shelf that is opened meets the rule, and a pass that is split from another keeps it.
-use Rattle.std.proofs.Common.{◌≡◌, ◌≢◌, ◌⊎◌, ◌<◌, ◌≤◌, ◌+◌, ◌^◌, ℕ, zero, suc, Bool, true, false, List, [], ◌∷◌, ◌++◌, length, set, map, refl, sym, ap, ◌∙◌, subst, ⊎_elim, inl, inr, arith, Option, Some, true≢false, length-append, length-set}
+use Rattle.std.proofs.Common.{◌≡◌, ◌≢◌, ◌⊎◌, ◌<◌, ◌+◌, ℕ, zero, suc, Bool, true, false, List, [], ◌∷◌, ◌++◌, length, set, refl, sym, ap, ◌∙◌, subst, ⊎_elim, inl, inr, arith, Option, Some, true≢false, length-append}
 use mathlib.Core.Option as maybe
 use mathlib.Core.Option.{some, none, some-injective, some-ne-none}
 use lib.ListN.{get_elem?}
 use Rattle.atomic_table.specs.Seated.{TableId}
-use Rattle.atomic_table.specs.Table.{Splits, State, opening}
+use Rattle.atomic_table.specs.Table.{Splits, opening}
 use Rattle.atomic_table.proofs.Lists.{at_longer, set_again, set_here}
-use Rattle.collector_core.specs.declared.chronicle.Entry.{Entry}
-use Rattle.collector_core.specs.declared.chronicle.Mark.{Mark}
 use Rattle.collector_core.specs.BookDesk.{extended_none}
-use Rattle.collector_core.specs.Chronicle.{Chronicle, extended}
 use Rattle.collector_core.specs.Standing.{BookView, Stands, StandsForSome}
 use Rattle.book_lock.specs.declared.view.View.{View}
-use Rattle.book_lock.specs.Logs.{Known, LegalWith, Logged, NoneBy, Saw, StandsWith, entries_in, marked}
+use Rattle.book_lock.specs.Logs.{Known, LegalWith, StandsWith}
 use Rattle.book_lock.specs.Passes.{IsSound, as_others}
 use Rattle.book_lock.specs.Plays.{Rests, Seated, changer_of, newcomer, other_of, pass_of, reader_of, shared}
-use Rattle.book_lock.specs.Rule.{Alone, IsHome, IsOut, Kept, Knows, has_ticket, waiting}
-use Rattle.book_lock.proofs.Keeping.{AllAlone, BoardState, Slots, alone_added, at_length, distinct_added, each_added, each_set, fewer_set, kept_set, place_set, waiting_added}
+use Rattle.book_lock.specs.Rule.{Alone, IsHome, IsOut, Kept, Knows, has_ticket}
+use Rattle.book_lock.proofs.Keeping.{BoardState, alone_added, at_length, distinct_added, each_added, each_set, fewer_set, kept_set, place_set, waiting_added}
 use Rattle.book_lock.proofs.Logs.{begins_none, known_first, known_more, known_rest, none_next, others_next, saw_none}
 
 -- ---- open

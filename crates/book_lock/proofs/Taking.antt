@@ -1,20 +1,17 @@
 -- A call that takes the book, and brings it back.
-use Rattle.std.proofs.Common.{◌≡◌, ◌≤◌, ◌+◌, ℕ, Bool, true, false, List, [], ◌∷◌, ◌++◌, refl, sym, ap, ◌∙◌, subst, arith, Option, Some, None, Ok, Err, append_assoc, true≢false}
+use Rattle.std.proofs.Common.{◌≡◌, ◌+◌, true, false, List, [], ◌∷◌, ◌++◌, sym, ap, ◌∙◌, subst, None, Ok, Err, append_assoc, true≢false}
 use Rattle.atomic_table.specs.Seated.{TableId}
-use Rattle.swima_model.specs.declared.report.Point.{Point}
 use Rattle.collector_core.specs.declared.book.edit.Changed.{Changed}
 use Rattle.collector_core.specs.declared.book.edit.Edit.{Edit}
-use Rattle.collector_core.specs.declared.chronicle.Entry.{Entry}
 use Rattle.collector_core.specs.declared.chronicle.Mark.{Mark}
 use Rattle.collector_core.specs.declared.error.BookError.{BookError}
 use Rattle.collector_core.specs.BookAnswer.{book_point}
 use Rattle.collector_core.specs.BookDesk.{book_state}
 use Rattle.collector_core.specs.Chronicle.{Chronicle, point_of}
-use Rattle.collector_core.specs.Desks.{AreOthers, AreOwn, Edits, Reads, entries, own_mark, state_of}
+use Rattle.collector_core.specs.Desks.{AreOwn, Edits, Reads, entries, own_mark, state_of}
 use Rattle.collector_core.specs.Edits.{Makes, book_entry, edit_refusal, edited_id}
 use Rattle.collector_core.specs.Standing.{BookView, Enters, Stands}
 use Rattle.collector_core.proofs.BookDesk.{state_same}
-use Rattle.book_lock.specs.declared.view.View.{View}
 use Rattle.book_lock.specs.Logs.{LegalWith, StandsWith}
 use Rattle.book_lock.specs.Passes.{AddsOwn, Closes, IsSound, PassStands, PassView, PassWent, Reports}
 use Rattle.book_lock.specs.Plays.{HasBook, Rests, Seated, committing, pass_of, resting}

@@ -2,7 +2,6 @@
 use Rattle.std.proofs.Common.{◌≡◌, ◌≢◌, ◌⊎◌, ◌<◌, ◌≤◌, ◌+◌, ◌||◌, ◌&&◌, ℕ, zero, suc, Bool, true, false, List, [], ◌∷◌, ◌++◌, length, refl, sym, ap, ◌∙◌, subst, ⊎_elim, inl, inr, arith, append_assoc, append-nil, length-append, true≢false}
 use Rattle.collector_core.proofs.Marks.{others_append}
 use Rattle.std.specs.List.{list_any}
-use Rattle.std.proofs.lemmas.Bool.{cases_lt}
 use Rattle.atomic_table.specs.Seated.{TableId}
 use Rattle.collector_core.specs.declared.chronicle.Entry.{Entry}
 use Rattle.collector_core.specs.declared.chronicle.Mark.{Mark}

@@ -1,13 +1,12 @@
 -- A pass as a desk: the laws.
-use Rattle.std.proofs.Common.{◌≡◌, true, List, [], ◌∷◌, ◌++◌, refl, sym, ap, ◌∙◌, subst, append_assoc}
+use Rattle.std.proofs.Common.{◌≡◌, List, [], ◌++◌, refl, sym, ap, ◌∙◌, subst, append_assoc}
 use Rattle.std.proofs.lemmas.List.{append-nil}
 use Rattle.collector_core.specs.declared.chronicle.Mark.{Mark}
 use Rattle.collector_core.specs.BookDesk.{entries_append, extended_more, own_append}
 use Rattle.collector_core.specs.Chronicle.{Chronicle, extended}
-use Rattle.collector_core.specs.Desks.{AreOwn, entries}
+use Rattle.collector_core.specs.Desks.{entries}
 use Rattle.collector_core.specs.Legal.{IsLegal}
 use Rattle.collector_core.specs.Standing.{BookView, Stands}
-use Rattle.book_lock.specs.Logs.{LegalWith}
 use Rattle.book_lock.specs.Passes.{PassStands, PassView, PassWent}
 
 pub stays_pass : (pass : PassView) → PassWent pass [] pass

@@ -10,6 +10,8 @@ use crate::view::{Board, Place};
 use collector_core::{Book, Edit};
 use std::snapshot::Snapshot;
 use std::sync::Wait;
+use std::sync::atomic::AtomicU64;
+use std::time::Duration;
 use std::{hint, thread};
 
 /// The word that counts the entries.
@@ -31,14 +33,17 @@ const BOOK: usize = 0;
 const SPINS: u32 = 64;
 
 /// How many looks wait until nobody uses the shelf, before a ticket is drawn all the same.
-const LOOKS: u32 = 12;
+const LOOKS: u32 = 16;
 
 /// How often the processor pauses after the first of these looks; after each later one it pauses
 /// twice as often as after the one before.
 const FEWEST_PAUSES: u32 = 16;
 
-/// How often it pauses at most.
+/// How often it pauses at most. Where it was to pause more often, the thread sleeps.
 const MOST_PAUSES: u32 = 512;
+
+/// How long it sleeps, in microseconds.
+const SLEEP_MICROSECONDS: u64 = 50;
 
 /// Waits for the turn of the pass, and takes the book.
 pub(crate) fn reach<R: Wait>(wait: &R, board: &Board, seat: &mut Place) -> Book
@@ -49,7 +54,7 @@ pub(crate) fn reach<R: Wait>(wait: &R, board: &Board, seat: &mut Place) -> Book
     ensures here { Stays seat.old seat.new }
     ensures reached { HasBook seat.old.me.0 seat.new.me result }
 {
-    await_rest(board);
+    await_rest(wait, board);
     let ticket = draw(wait, board, seat);
     await_turn(wait, board, seat, ticket);
     take(board, seat)
@@ -57,7 +62,7 @@ pub(crate) fn reach<R: Wait>(wait: &R, board: &Board, seat: &mut Place) -> Book
 
 /// Waits until nobody has the book or a ticket, for that many looks at most. So one whose calls come
 /// one after another does several, while the book lies in the memory of its processor.
-fn await_rest(board: &Board)
+fn await_rest<R: Wait>(wait: &R, board: &Board)
     requires words { board.now.shared.table_id.words ≡ 3 }
 {
     let mut pauses = FEWEST_PAUSES;
@@ -65,13 +70,19 @@ fn await_rest(board: &Board)
         if board.shared.peek(TICKETS) == board.shared.peek(TURN) {
             return;
         }
-        rest(pauses);
-        pauses = pauses.saturating_mul(2).min(MOST_PAUSES);
+        rest(wait, pauses);
+        pauses = pauses.saturating_mul(2);
     }
 }
 
-/// Pauses that many times, and leaves the words of the table to others meanwhile.
-fn rest(pauses: u32) {
+/// Pauses that many times, and leaves the words of the table to others meanwhile. Where that is too
+/// often, it leaves its processor to others too.
+fn rest<R: Wait>(wait: &R, pauses: u32) {
+    if MOST_PAUSES < pauses {
+        // A sleep on a word of its own, which nobody wakes.
+        AtomicU64::new(0).park_timeout(wait, 0, Duration::from_micros(SLEEP_MICROSECONDS));
+        return;
+    }
     for _ in 0..pauses {
         hint::spin_loop();
     }

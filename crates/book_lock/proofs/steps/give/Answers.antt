@@ -1,4 +1,4 @@
-use Rattle.std.proofs.Common.{rules, ◌≡◌, ℕ, [], List, ◌∷◌, Option, None, refl, sym, ap, ◌∙◌}
+use Rattle.std.proofs.Common.{rules, ℕ, [], List, ◌∷◌, Option, None, sym, ap, ◌∙◌}
 use Rattle.atomic_table.specs.Table.{rest}
 use Rattle.collector_core.specs.Standing.{BookView}
 use Rattle.book_lock.specs.Plays.{Seated, resting}

@@ -1,5 +1,3 @@
-use Rattle.std.proofs.Common.{rules, ◌≡◌, refl, sym, ap, ◌∙◌}
-use Rattle.book_lock.specs.Plays.{Seated}
 use Rattle.book_lock.proofs.Calls.{reached_book}
 use Rattle.book_lock.proofs.steps.reach.Goals as goal
 

@@ -1,4 +1,4 @@
-use Rattle.std.proofs.Common.{arith, ◌≡◌, refl, sym, ap, ◌∙◌}
+use Rattle.std.proofs.Common.{arith, sym, ap, ◌∙◌}
 use Rattle.book_lock.specs.Passes.{PassView}
 use Rattle.book_lock.proofs.Calls.{is_at}
 use Rattle.book_lock.proofs.Taking.{commit_legal, committed_live, committed_stage, committed_taken, done_adds, done_edits, done_may, done_point, done_rests, done_sound, give_stands, has_taken, holds_it, read_may, read_refused, read_rests, read_same, read_sound, refused_stands, still_live, still_may}

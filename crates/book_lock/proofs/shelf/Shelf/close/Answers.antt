@@ -1,4 +1,3 @@
-use Rattle.std.proofs.Common.{◌≡◌, refl, sym, ap, ◌∙◌}
 use Rattle.book_lock.proofs.Calls.{is_at}
 use Rattle.book_lock.proofs.Taking.{closes_same, closes_sound, closes_with}
 use Rattle.book_lock.proofs.shelf.Shelf.close.Goals as goal

@@ -1,7 +1,6 @@
-use Rattle.std.proofs.Common.{arith, Bool, ◌≡◌, ◌||◌, refl, sym, ap, ◌∙◌, subst}
-use Rattle.atomic_table.specs.Seated.{TableId}
-use Rattle.book_lock.specs.Passes.{IsSound, PassView, met}
-use Rattle.book_lock.specs.Plays.{Seated, pass_of}
+use Rattle.std.proofs.Common.{arith, Bool, ◌||◌, sym, ap, ◌∙◌, subst}
+use Rattle.book_lock.specs.Passes.{IsSound, PassView}
+use Rattle.book_lock.specs.Plays.{Seated}
 use Rattle.book_lock.proofs.Calls.{is_at}
 use Rattle.book_lock.proofs.Joining.{joins}
 use Rattle.book_lock.proofs.Meetings.{agree_as, met_as, met_is, other_sole_as, rests_met, sole_as}

@@ -1,4 +1,4 @@
-use Rattle.std.proofs.Common.{arith, ◌≡◌, refl, sym, ap, ◌∙◌}
+use Rattle.std.proofs.Common.{arith, sym, ap, ◌∙◌}
 use Rattle.book_lock.specs.Passes.{PassView}
 use Rattle.book_lock.proofs.Calls.{is_at}
 use Rattle.book_lock.proofs.Taking.{has_taken, holds_it, read_may, read_reads, read_rests, read_same, read_sound, stands_seen, still_live}

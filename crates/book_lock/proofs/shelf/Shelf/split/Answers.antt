@@ -1,4 +1,4 @@
-use Rattle.std.proofs.Common.{Bool, ◌≡◌, refl, sym, ap, ◌∙◌}
+use Rattle.std.proofs.Common.{Bool, sym, ap, ◌∙◌}
 use Rattle.book_lock.specs.Passes.{PassView, split_from}
 use Rattle.book_lock.proofs.Meetings.{sole_no_more, sole_still}
 use Rattle.book_lock.proofs.shelf.Shelf.split.Goals as goal

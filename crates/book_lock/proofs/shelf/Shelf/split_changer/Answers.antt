@@ -1,7 +1,6 @@
-use Rattle.std.proofs.Common.{arith, true, false, ◌≡◌, refl, sym, ap, ◌∙◌, subst}
-use Rattle.atomic_table.specs.Seated.{TableId}
+use Rattle.std.proofs.Common.{arith, true, false, sym, ap, ◌∙◌}
 use Rattle.book_lock.specs.Passes.{PassView, split_from}
-use Rattle.book_lock.specs.Plays.{Seated, pass_of}
+use Rattle.book_lock.specs.Plays.{Seated}
 use Rattle.book_lock.proofs.Calls.{is_at}
 use Rattle.book_lock.proofs.Meetings.{other_is, rests_other, rests_shared, shared_is}
 use Rattle.book_lock.proofs.Parting.{splits_changer}
