@@ -20,7 +20,7 @@ use Rattle.command_text.specs.Text.{line, mirror_text, refusal}
 
 -- ---- the day
 
--- A day has that many packages, so many that each change finds the one that it changes.
+-- A day has that many packages. They suffice for each change to find the one that it changes.
 abbrev pub IsCount : ℕ → Type 0
 IsCount count = (40 ≤ count) × (count ≤ 5000)
 

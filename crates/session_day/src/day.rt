@@ -34,7 +34,7 @@ const CHANGES: u32 = 40;
 
 /// A day as far as it was played.
 #[derive(Debug, Drop)]
-pub struct Day {
+pub(crate) struct Day {
     /// The inventory, the mirror of it, and the session between them.
     pub world: World,
     /// What was reported, in order.
@@ -44,7 +44,7 @@ pub struct Day {
 }
 
 /// The whole day of an endpoint with that many packages; `Memory` where there is no room.
-pub fn play_day(alloc: Global, count: u32) -> Result<Day, Memory>
+pub(crate) fn play_day(alloc: Global, count: u32) -> Result<Day, Memory>
     requires count { IsCount count }
     ensures day { IfOk result (λ day. PlaysDay count day) }
 {

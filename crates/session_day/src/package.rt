@@ -16,14 +16,14 @@ use swima_model::{Body, Content, Ident, Locator, Model};
 use wire_base::{List, Memory, Text};
 
 /// The number after a number of the sequence that says how long summaries are.
-pub fn next_number(number: u32) -> u32
+pub(crate) fn next_number(number: u32) -> u32
     ensures next { result ≡ next_number number }
 {
     ((1_103_515_245 * u64::from(number) + 12_345) % 2_147_483_648) as u32
 }
 
 /// The number of a package, in the sequence that begins with the count of packages.
-pub fn number_of(count: u32, place: u32) -> u32
+pub(crate) fn number_of(count: u32, place: u32) -> u32
     ensures number { result ≡ number_of count place }
 {
     let mut number = count;
@@ -35,7 +35,12 @@ pub fn number_of(count: u32, place: u32) -> u32
 
 /// The content of the record of a package, whose tag has this tag-version. `number` is that of the
 /// package in the sequence.
-pub fn package(alloc: Global, place: u32, version: u32, number: u32) -> Result<Content, Memory>
+pub(crate) fn package(
+    alloc: Global,
+    place: u32,
+    version: u32,
+    number: u32,
+) -> Result<Content, Memory>
     ensures content { IfOk result (λ made. made ≡ content_by place version number) }
 {
     let tag = package_tag(alloc, place, version, number)?;

@@ -1,7 +1,7 @@
 //! The summary of a day.
 
 ghost use Rattle.std.specs.Prelude.{◌≡◌, ◌++◌, IfOk, OnOk};
-ghost use Rattle.session_day.specs.Day.{IsCount, MakeTells, count_of, digest_line, is_adopted, is_full, is_report, point_line, summary};
+ghost use Rattle.session_day.specs.Day.{IsCount, MakeTells, count_of, digest_line, is_full, is_report, point_line, summary};
 
 use crate::day::{Day, play_day};
 use command_text::{from_string, mirror_text, refusal};
@@ -50,12 +50,7 @@ fn reports(told: &[Telling]) -> u64
 fn is_report(told: &Telling) -> bool
     ensures is { result ≡ is_report told.now }
 {
-    match told {
-        Telling::Took { .. } => true,
-        Telling::Refused(_) => false,
-        Telling::CollectorEnds(_) => false,
-        Telling::ValidatorEnds(_) => false,
-    }
+    matches!(told, Telling::Took { .. })
 }
 
 /// How many reports were adopted.
@@ -68,29 +63,13 @@ fn adopted(told: &[Telling]) -> u64
 fn is_full(told: &Telling) -> bool
     ensures is { result ≡ is_full told.now }
 {
-    match told {
-        Telling::Took { answer, .. } => is_adopted(*answer),
-        Telling::Refused(_) => false,
-        Telling::CollectorEnds(_) => false,
-        Telling::ValidatorEnds(_) => false,
-    }
-}
-
-fn is_adopted(answer: Taken) -> bool
-    ensures is { result ≡ is_adopted answer }
-{
-    match answer {
-        Taken::Adopted => true,
-        Taken::WrongKind => false,
-        Taken::Stale => false,
-        Taken::Doubled { .. } => false,
-        Taken::Large { .. } => false,
-        Taken::OtherEpoch { .. } => false,
-        Taken::Gap { .. } => false,
-        Taken::Contradiction { .. } => false,
-        Taken::Advanced { .. } => false,
-        Taken::Memory => false,
-    }
+    matches!(
+        told,
+        Telling::Took {
+            answer: Taken::Adopted,
+            ..
+        }
+    )
 }
 
 fn point_line(alloc: Global, point: Option<Point>) -> Result<Octets, Memory>

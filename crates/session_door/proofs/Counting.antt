@@ -1,6 +1,6 @@
 -- Causes of faults, one call after another.
-use Rattle.std.proofs.Common.{◌≡◌, ◌≤◌, ◌+◌, ◌-◌, ◌^◌, ◌||◌, min, ℕ, Bool, true, false, refl, sym, subst, le_trans, MatchBool, arith}
-use Rattle.wire_base.specs.Outside.{HasCause, Rose}
+use Rattle.std.proofs.Common.{◌||◌, ℕ, Bool, true, false, refl, subst, le_trans, arith}
+use Rattle.wire_base.specs.Outside.{HasCause}
 
 pub calm : (count : ℕ) → HasCause count count false
 calm count = record { later = omega arith; cause = refl }

@@ -1,5 +1,5 @@
 -- The sessions of a worker, over the one history.
-use Rattle.std.proofs.Common.{◌≡◌, ◌≤◌, ◌+◌, ◌++◌, ◌∙◌, ℕ, zero, suc, List, [], ◌∷◌, Option, Some, None, length, length-append, map, refl, sym, ap, subst, append_assoc, append-nil, le_trans, le_refl, add-zero, add_assoc, arith}
+use Rattle.std.proofs.Common.{◌≡◌, ◌+◌, ◌++◌, ◌∙◌, ℕ, zero, suc, List, [], ◌∷◌, Option, length, length-append, refl, sym, ap, subst, append_assoc, add-zero, add_assoc, arith}
 use Rattle.wire_base.specs.Turns.{Turn}
 use Rattle.collector_core.specs.declared.chronicle.Entry.{Entry}
 use Rattle.collector_core.specs.declared.chronicle.Mark.{Mark}
@@ -13,7 +13,7 @@ use Rattle.session_rules.specs.declared.end.SessionEnd.{SessionEnd}
 use Rattle.session_rules.specs.declared.end.SessionEnd.TheVariants as end
 use Rattle.session_rules.specs.declared.record.SessionRecord.{SessionRecord}
 use Rattle.session_rules.proofs.Meaning.{later_entries_change_no_part, later_entries_change_nothing}
-use Rattle.session_core.specs.Served.{Broke, Ended, Failed, ServedAt}
+use Rattle.session_core.specs.Served.{Ended, ServedAt}
 use Rattle.session_door.specs.Serving.{EachOver, ServedOn, ServedOver, Serves, SessionsOver}
 use Rattle.session_door.specs.declared.work.Work.{Work}
 use Rattle.session_door.specs.Visits.{DoorState, Visit, VisitsEach, Works}

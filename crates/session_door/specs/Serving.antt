@@ -1,6 +1,6 @@
 -- A worker that serves: whole sessions of a collector, one after another, over what one pass sees.
 -- Each is a session over the one history: over all entries that anybody saw in the end.
-use Rattle.std.specs.Prelude.{◌≡◌, ◌<◌, ◌≤◌, ◌+◌, ℕ, List, [], ◌∷◌, ◌++◌, Option, length}
+use Rattle.std.specs.Prelude.{◌<◌, ◌≤◌, ◌+◌, ℕ, List, [], ◌∷◌, ◌++◌, Option, length}
 use Rattle.wire_base.specs.Outside.{Adds}
 use Rattle.wire_base.specs.Turns.{Turn}
 use Rattle.collector_core.specs.declared.chronicle.Entry.{Entry}

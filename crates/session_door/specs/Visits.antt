@@ -54,12 +54,12 @@ is_failed stop.Held = false
 is_failed stop.Ended = false
 is_failed stop.Memory = false
 
--- What the last call of `next` answered after so many links came, if that was a link.
+-- What the last call of `next` answered after that many links came, if that was a link.
 abbrev pub last_after : ℕ → LastCame → LastCame
 last_after zero before = before
 last_after (suc count) before = LinkCame
 
--- Why no further link was taken after so many. All sessions were held; or fewer, since the door's
+-- Why no further link was taken after that many. All sessions were held; or fewer, since the door's
 -- last answer was that there is none, and then none is left; or that it failed; or since memory ran
 -- out, and then it was not asked.
 abbrev pub Stops : {L : Type 0} → ℕ → ℕ → Stop → DoorState L → DoorState L → Type 0

@@ -1,4 +1,4 @@
-//! Who is told of each session.
+//! Who is called before and after each session.
 
 /// Who is called before and after each session of a pool, by the worker that holds it. It may wait.
 pub trait Gate {

@@ -1,5 +1,5 @@
 -- One text fits each script, line by line.
-use Rattle.std.proofs.Common.{◌≡◌, ℕ, zero, suc, ◌+◌, Bool, true, false, List, [], ◌∷◌, Option, Some, None, length, take, refl, sym, ap, ap₂, subst, ◌∙◌}
+use Rattle.std.proofs.Common.{◌≡◌, ℕ, zero, suc, ◌+◌, Bool, List, [], ◌∷◌, Option, Some, None, length, take, refl, sym, ap, ap₂, subst, ◌∙◌}
 use Rattle.std.specs.Prelude.{nat_lt, option_map, unwrap_or}
 use Rattle.swima_model.specs.declared.record.Content.{Content}
 use Rattle.swima_model.specs.declared.record.Record.{Record}
@@ -19,13 +19,12 @@ use Rattle.session_world.specs.Lines as lines
 use Rattle.session_world.specs.Lines.{Told}
 use Rattle.session_world.specs.World.{World}
 use Rattle.command_text.specs.declared.answer.Answer.{Answer}
-use Rattle.command_text.specs.declared.ending.Ending.{Ending}
 use Rattle.session_script.specs.declared.header.Header.{Header}
 use Rattle.session_script.specs.declared.line.Line.{Line}
 use Rattle.session_script.specs.declared.line.Line.TheVariants as line
 use Rattle.session_script.specs.OneText.{OneReplayText}
 use Rattle.session_script.specs.Replay.{Begins, Changes, Enters, IsEntered, IsPlayed, Played, Playing, Plays, PlaysFirst, PlaysLine, PlaysScript, SCRIPT_OCTETS, after_text, opened_by, told_in}
-use Rattle.session_script.specs.Script.{HeaderIs, LineIs, split_once, words_of}
+use Rattle.session_script.specs.Script.{split_once, words_of}
 use Rattle.session_script.proofs.OneWord.{header_one, line_one, stamp_one}
 
 -- ---- a change

@@ -1,10 +1,10 @@
 -- A line has one meaning: its words spell one value each.
-use Rattle.std.proofs.Common.{◌≡◌, ℕ, ◌<◌, ◌^◌, ◌++◌, List, [], ◌∷◌, Option, Some, None, Ok, refl, sym, ap, ap₂, subst, ◌∙◌, pos}
+use Rattle.std.proofs.Common.{◌≡◌, ℕ, ◌++◌, List, [], ◌∷◌, Option, Ok, sym, ap, ap₂, ◌∙◌, pos}
 use Rattle.std.specs.Prelude.{codes}
 use Rattle.jiff_core.proofs.DateLemmas.{epoch_day_injective}
 use Rattle.jiff_core.proofs.DateTimeLemmas.{civil_nanos_injective, time_nanos_injective}
 use Rattle.swima_model.specs.declared.record.Content.{Content}
-use Rattle.wire_base.specs.Stamp.{IsStampAt, digits, moment_text}
+use Rattle.wire_base.specs.Stamp.{IsStampAt, digits}
 use Rattle.line_words.specs.Reading.{FindsExactly, IsNumber}
 use Rattle.line_words.proofs.Finding.{content_same, found_one, one_hex, one_number, one_text}
 use Rattle.session_script.specs.declared.header.Header.{Header}

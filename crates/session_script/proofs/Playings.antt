@@ -1,5 +1,5 @@
 -- What is made of a line that is played.
-use Rattle.std.proofs.Common.{◌≡◌, ◌∙◌, ℕ, ◌+◌, ◌++◌, [], List, Result, Ok, Err, refl, sym, ap, subst}
+use Rattle.std.proofs.Common.{◌≡◌, ◌∙◌, ℕ, ◌+◌, ◌++◌, [], List, Result, Ok, Err, refl, ap, subst}
 use Rattle.std.specs.Borrow.{Bor}
 use Rattle.std.specs.Prelude.{IfOk}
 use Rattle.std.specs.List.{flat_map}
@@ -11,7 +11,7 @@ use Rattle.collector_core.specs.declared.book.edit.Edit.{Edit}
 use Rattle.collector_core.specs.declared.book.edit.Edit.TheVariants as edit
 use Rattle.session_world.specs.declared.telling.Telling.{Telling}
 use Rattle.session_world.specs.Lines.{Told, enters}
-use Rattle.session_world.specs.Standing.{Does, WorldView, StandsFor as WorldStandsFor}
+use Rattle.session_world.specs.Standing.{Does, WorldView}
 use Rattle.session_world.specs.World.{World}
 use Rattle.session_script.specs.declared.line.Line.{Line}
 use Rattle.session_script.specs.declared.line.Line.TheVariants as line

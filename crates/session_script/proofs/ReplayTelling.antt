@@ -1,10 +1,9 @@
 -- What is printed of octets of which not all may be looked at, and of those that may.
-use Rattle.std.proofs.Common.{◌≡◌, ℕ, zero, suc, ◌+◌, ◌<◌, ◌≤◌, min, Bool, true, false, List, [], ◌∷◌, Option, Some, None, length, take, Result, Ok, Err, refl, sym, ap, subst₂, ◌∙◌, arith}
+use Rattle.std.proofs.Common.{◌≡◌, ℕ, zero, suc, ◌+◌, min, Bool, true, List, [], ◌∷◌, Option, Some, None, length, take, Result, Ok, Err, refl, ap, subst₂, ◌∙◌}
 use Rattle.std.specs.Prelude.{IfOk, nat_lt}
 use Rattle.std.proofs.lemmas.List.{take_min}
 use Rattle.wire_base.specs.declared.values.memory.Memory.{Memory}
 use Rattle.command_text.specs.declared.answer.Answer.{Answer}
-use Rattle.command_text.specs.declared.ending.Ending.{Ending}
 use Rattle.command_text.specs.declared.ending.Ending.TheVariants as ending
 use Rattle.session_script.specs.declared.header.Header.{Header}
 use Rattle.session_script.specs.declared.line.Line.{Line}

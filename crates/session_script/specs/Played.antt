@@ -1,5 +1,5 @@
 -- What a script that is being played stands for.
-use Rattle.std.specs.Prelude.{◌≡◌, ◌++◌, ℕ, Bool, true, false, List, Option, Some, None}
+use Rattle.std.specs.Prelude.{◌≡◌, ◌++◌, ℕ, Bool, true, false, List, Some, None}
 use Rattle.std.specs.List.{flat_map}
 use Rattle.session_world.specs.Lines.{Told}
 use Rattle.session_world.specs.World.{World}

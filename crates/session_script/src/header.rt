@@ -11,7 +11,7 @@ use wire_base::Memory;
 /// What the first line says: the epoch of the inventory and how many events it keeps, the most
 /// octets of the reports in a batch, the kind of the mirror, and whether the validator subscribes.
 #[derive(Clone, Copy, Debug, PartialEq, Eq)]
-pub struct Header {
+pub(crate) struct Header {
     /// The epoch, at least 1.
     pub epoch: u32,
     /// How many events are kept, 1 to 4096.
@@ -25,7 +25,7 @@ pub struct Header {
 }
 
 /// The first line of a script, if it is one.
-pub fn read_header(alloc: Global, line: &[u8]) -> Result<Option<Header>, Memory>
+pub(crate) fn read_header(alloc: Global, line: &[u8]) -> Result<Option<Header>, Memory>
     ensures header { IfOk result (λ header. HeaderIs (words_of line.now) header) }
     ensures bounds { IfOk result (λ header. IfSome header IsHeader) }
 {

@@ -44,7 +44,7 @@ pub enum Line {
 }
 
 /// The line, if it is one.
-pub fn read_line(alloc: Global, line: &[u8]) -> Result<Option<Line>, Memory>
+pub(crate) fn read_line(alloc: Global, line: &[u8]) -> Result<Option<Line>, Memory>
     ensures line { IfOk result (λ said. LineIs (words_of line.now) said) }
 {
     let words = words_of(alloc, line)?;

@@ -22,14 +22,14 @@ use wire_base::{List, Memory, Octets};
 
 /// The world, and how many lines changed the inventory or were refused.
 #[derive(Debug, Drop)]
-pub struct Playing {
+pub(crate) struct Playing {
     world: World,
     changes: u32,
 }
 
 impl Playing {
     /// The world that the first line opens.
-    pub fn new(alloc: Global, header: Header) -> Result<Self, Memory>
+    pub(crate) fn new(alloc: Global, header: Header) -> Result<Self, Memory>
         requires header { IsHeader header }
         ensures opened { IfOk result (λ made. StandsFor made (opened_by header)) }
         ensures changes { IfOk result (λ made. made.changes ≡ 0) }
@@ -46,7 +46,7 @@ impl Playing {
     }
 
     /// Plays a line, and gives what is printed of it.
-    pub fn play(&mut self, alloc: Global, line: Line) -> Result<Octets, Memory>
+    pub(crate) fn play(&mut self, alloc: Global, line: Line) -> Result<Octets, Memory>
         requires changes { self.old.changes < 100000 }
         ensures plays { IfOk result (λ text. (p : PlayingValue) → StandsFor self.old p → PlaysSo p line text self.new) }
         ensures changes { self.new.changes ≤ self.old.changes + 1 }

@@ -15,7 +15,7 @@ use std::alloc::Global;
 use wire_base::{List, Memory, Octets};
 
 /// What is reported, a line for each.
-pub fn told_text(alloc: Global, told: &Tellings) -> Result<Octets, Memory>
+pub(crate) fn told_text(alloc: Global, told: &Tellings) -> Result<Octets, Memory>
     ensures text { IfOk result (λ made. made ≡ flat_map telling_line told.now) }
 {
     let mut out = List::new(alloc);
@@ -104,7 +104,7 @@ fn word(alloc: Global, who: &str, how: &str) -> Result<Octets, Memory>
 }
 
 /// What waits for the validator, and for the collector.
-pub fn waits_text(alloc: Global, up: &[u8], down: &[u8]) -> Result<Octets, Memory>
+pub(crate) fn waits_text(alloc: Global, up: &[u8], down: &[u8]) -> Result<Octets, Memory>
     ensures text { IfOk result (λ made. made ≡ waits_text up.now down.now) }
 {
     let mut out = waits_line(alloc, "up", up)?;

@@ -11,7 +11,7 @@ use std::alloc::Global;
 use wire_base::Memory;
 
 /// The octets before the first `separator`, and those after it; `None` where there is none.
-pub fn split_once(octets: &[u8], separator: u8) -> Option<(&[u8], &[u8])>
+pub(crate) fn split_once(octets: &[u8], separator: u8) -> Option<(&[u8], &[u8])>
     ensures parts { option_map (λ parts. (parts.0.now, parts.1.now)) result ≡ split_once separator octets.now }
 {
     match place_of(octets, separator) {
@@ -29,7 +29,7 @@ fn place_of(octets: &[u8], wanted: u8) -> Option<usize>
 }
 
 /// The words of a line, which stand between single spaces: at most seven.
-pub fn words_of(alloc: Global, line: &[u8]) -> Result<Vec<&[u8]>, Memory>
+pub(crate) fn words_of(alloc: Global, line: &[u8]) -> Result<Vec<&[u8]>, Memory>
     ensures words { IfOk result (λ found. map (λ word. word.now) found.items ≡ words_of line.now) }
 {
     let mut words = Words::new(line);
@@ -44,14 +44,14 @@ pub fn words_of(alloc: Global, line: &[u8]) -> Result<Vec<&[u8]>, Memory>
 }
 
 /// Whether a word is this one.
-pub fn is_word(word: &[u8], wanted: &str) -> bool
+pub(crate) fn is_word(word: &[u8], wanted: &str) -> bool
     ensures word { result ≡ bytes_eq word.now wanted.now }
 {
     word == wanted.as_bytes()
 }
 
 /// The number that a word is, if it is one and not below `least` or above `most`.
-pub fn number_within(word: &[u8], least: u32, most: u32) -> Option<u32>
+pub(crate) fn number_within(word: &[u8], least: u32, most: u32) -> Option<u32>
     ensures number { IsNumberWithin least most word.now result }
 {
     match read_number(word) {

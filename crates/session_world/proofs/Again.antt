@@ -1,38 +1,21 @@
 -- In a session, the mirror has just judged the last report that it took.
-use Rattle.std.proofs.Common.{◌≡◌, ℕ, ◌+◌, Bool, true, false, cond, nat_le, nat_lt, length, List, [], ◌∷◌, ◌++◌, Option, Some, None, refl, sym, ap, subst, ◌∙◌}
+use Rattle.std.proofs.Common.{◌≡◌, ℕ, List, [], Option, Some, None, refl, sym, ap, ◌∙◌}
 use Rattle.swima_model.specs.declared.report.Report.{Report}
-use Rattle.pb_batch.specs.declared.batch.Batch.{Batch}
-use Rattle.pb_batch.specs.declared.batch.Message.{Message}
-use Rattle.pb_batch.specs.declared.kind.BatchKind.{BatchKind}
 use Rattle.pb_batch.specs.declared.kind.BatchKind.TheVariants as kinds
-use Rattle.pb_machine.specs.declared.machine.State.{State}
-use Rattle.pb_machine.specs.declared.machine.State.TheVariants.{Init, ServerWorking, ClientWorking, Decided, End}
-use Rattle.pb_machine.specs.Table.{received}
 use Rattle.validator_core.specs.Held.{Held}
 use Rattle.validator_core.specs.Judge.{judge}
 use Rattle.validator_core.proofs.Again.{judged_again_changes_nothing}
 use Rattle.wire_base.specs.Turns.{Turn}
 use Rattle.session_talk.specs.Talk.{Talk, Done, Ask, Write, Note}
-use Rattle.session_talk.specs.Keeping.{Keeps, NotesAre}
+use Rattle.session_talk.specs.Keeping.{NotesAre}
 use Rattle.session_talk.proofs.Keeping.{keeps_gives}
 use Rattle.session_rules.proofs.Kept.{session_keeps}
-use Rattle.session_hear.specs.Step.{Step, Came, Faulty, Quiet, Spent, Cut}
-use Rattle.session_hear.specs.Hearing.{heard}
-use Rattle.session_hear.specs.Serving.{serve}
 use Rattle.session_rules.specs.declared.config.FollowConfig.{FollowConfig}
 use Rattle.session_rules.specs.declared.end.SessionEnd.TheVariants as end
-use Rattle.session_rules.specs.Messages.{error_attribute, pa_message}
-use Rattle.session_rules.specs.Numbers.{next_number}
-use Rattle.session_rules.specs.Following.{Notes, Stand, Draft, begin, draft, ends, nothing_noted}
+use Rattle.session_rules.specs.Following.{Notes, Stand}
 use Rattle.session_rules.specs.FollowRules as following
-use Rattle.session_rules.specs.Saying.{Said, Says, Refused, says, swima_body}
-use Rattle.session_rules.specs.declared.word.ValidatorWord.{ValidatorWord as Word}
-use Rattle.session_rules.specs.declared.word.ValidatorWord.TheVariants.{Reports, Lists, Failure}
-use Rattle.session_rules.specs.Taking.{NoQuestion, NoReply, takes, speaks, takes_said, takes_body, takes_message, drafts, SUPPORTED, word_of}
+use Rattle.session_rules.specs.Taking.{NoQuestion, NoReply}
 use Rattle.session_rules.specs.Transcripts.{nobody, Follows}
-use Rattle.session_rules.specs.declared.verdict.Verdict.{Verdict}
-use Rattle.session_rules.specs.declared.verdict.Verdict.TheVariants.{PassesOver, Refuses, EndsBy, GoesOn}
-use Rattle.session_rules.specs.Verdict.{verdict}
 
 -- The mirror is what comes of judging the report.
 abbrev pub IsJudged : Option Report → Held → Type 0

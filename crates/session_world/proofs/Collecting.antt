@@ -1,15 +1,14 @@
 -- The collector hears turns: what it stands for then.
-use Rattle.std.proofs.Common.{◌≡◌, ◌≢◌, ℕ, List, [], ◌∷◌, ◌++◌, Option, Some, None, length, refl, sym, ap, subst, subst₂, ◌∙◌, append-nil}
-use Rattle.std.specs.Prelude.{take, drop, ◌-◌}
-use Rattle.wire_base.specs.Turns.{Turn, turns_of}
+use Rattle.std.proofs.Common.{◌≡◌, ℕ, List, [], ◌∷◌, ◌++◌, Option, Some, None, length, refl, sym, ap, subst, ◌∙◌, append-nil}
+use Rattle.std.specs.Prelude.{drop, ◌-◌}
+use Rattle.wire_base.specs.Turns.{Turn}
 use Rattle.validator_core.specs.Held.{Held}
-use Rattle.collector_core.specs.declared.chronicle.Entry.{Entry}
 use Rattle.collector_core.specs.declared.chronicle.Mark.{Mark}
 use Rattle.collector_core.specs.BookDesk.{BookWent, extended_none}
 use Rattle.collector_core.specs.Chronicle.{Chronicle, extended}
 use Rattle.collector_core.specs.Desks.{Rise, behind, entries}
 use Rattle.collector_core.specs.Standing.{BookView, Stands}
-use Rattle.collector_session.specs.Cores.{Core, Fell, Stands as CoreStands, StandsBy, Stood, Turned, over}
+use Rattle.collector_session.specs.Cores.{Core, StandsBy, Stood, Turned, over}
 use Rattle.collector_session.specs.Standing.{stand_of}
 use Rattle.session_talk.specs.Course.{Gives}
 use Rattle.session_rules.specs.declared.config.ServeConfig.{ServeConfig}
@@ -25,10 +24,10 @@ use Rattle.session_world.specs.declared.terms.Terms.{Terms}
 use Rattle.session_world.specs.declared.joined.Joined.{Joined as JoinedView}
 use Rattle.session_world.specs.declared.telling.Telling.{Telling}
 use Rattle.session_world.specs.declared.telling.Telling.TheVariants.{CollectorEnds}
-use Rattle.session_world.specs.Lines.{Told, ends, served_on, serves, serves_by, serves_to, used}
+use Rattle.session_world.specs.Lines.{ends, served_on, serves, serves_by}
 use Rattle.session_world.specs.Standing.{JoinedStands, StandsFor, joined_view}
-use Rattle.session_world.specs.World.{World, Joined, MOST, collector_end, down_waits, following, serve_config, serving, unless_over}
-use Rattle.session_world.proofs.Nows.{AreNow, given_now, none_both, placed_now, steps_now}
+use Rattle.session_world.specs.World.{World, Joined, collector_end, down_waits, following, serve_config, serving, unless_over}
+use Rattle.session_world.proofs.Nows.{AreNow, none_both, placed_now, steps_now}
 
 -- ---- a core that memory did not run out for
 

@@ -1,5 +1,5 @@
 -- A change of the inventory, as a line.
-use Rattle.std.proofs.Common.{◌≡◌, ◌≢◌, ◌≤◌, ◌+◌, ℕ, List, [], ◌∷◌, ◌++◌, Option, Some, None, Result, Ok, Err, length, refl, sym, ap, subst, ◌∙◌, append-nil, length-append, arith}
+use Rattle.std.proofs.Common.{◌≡◌, ◌≢◌, ◌+◌, ℕ, List, [], ◌∷◌, ◌++◌, Option, Some, None, Result, Ok, Err, length, refl, sym, ap, subst, ◌∙◌, append-nil, length-append, arith}
 use Rattle.std.specs.Prelude.{option_map, unwrap_or}
 use Rattle.wire_base.specs.Turns.{Turn}
 use Rattle.swima_model.specs.declared.record.Record.{Record}
@@ -23,10 +23,10 @@ use Rattle.session_world.specs.declared.terms.Terms.{Terms}
 use Rattle.session_world.specs.declared.joined.Joined.{Joined as JoinedView}
 use Rattle.session_world.specs.declared.telling.Telling.{Telling}
 use Rattle.session_world.specs.declared.telling.Telling.TheVariants.{Refused}
-use Rattle.session_world.specs.Lines.{Told, cuts, enters, enters_by, opens}
+use Rattle.session_world.specs.Lines.{cuts, enters, enters_by, opens}
 use Rattle.session_world.specs.Standing.{Does, JoinedBy, JoinedStands, StandsFor, WorldView}
 use Rattle.session_world.specs.Tellings.{ToldOf}
-use Rattle.session_world.specs.World.{World, Joined, opened}
+use Rattle.session_world.specs.World.{Joined, opened}
 
 -- A core stands for the same session over a longer chronicle.
 longer_stood : (chronicle : Chronicle) (more : List Entry) (places : List ℕ) (turns : List Turn) (carried : List ℕ) (core : Core) → Stood chronicle places turns carried core → Stood (extended chronicle more) places turns carried core

@@ -1,5 +1,5 @@
 -- The validator hears turns: what it stands for then.
-use Rattle.std.proofs.Common.{◌≡◌, ◌⊎◌, ℕ, zero, suc, ◌≤◌, false, List, [], ◌∷◌, ◌++◌, Option, Some, None, inl, inr, length, refl, sym, ap, ap₂, subst, ◌∙◌, append-nil, append_assoc, arith}
+use Rattle.std.proofs.Common.{◌≡◌, ℕ, zero, suc, ◌≤◌, false, List, [], ◌∷◌, ◌++◌, Option, Some, None, inl, inr, length, refl, sym, ap, ap₂, subst, ◌∙◌, append-nil, append_assoc, arith}
 use Rattle.std.specs.Prelude.{drop, is_some, map, min, take}
 use Rattle.std.proofs.lemmas.Bool.{cases_lt}
 use Rattle.std.proofs.lemmas.List.{drop_all, take_all}
@@ -12,11 +12,10 @@ use Rattle.session_rules.specs.declared.config.FollowConfig.{FollowConfig}
 use Rattle.session_rules.specs.declared.end.SessionEnd.{SessionEnd}
 use Rattle.session_rules.specs.declared.end.SessionEnd.TheVariants as end
 use Rattle.session_rules.specs.Following.{Stand, TakenReport}
-use Rattle.session_rules.specs.Transcripts.{followed, follow_end, follow_mirror, nobody}
+use Rattle.session_rules.specs.Transcripts.{follow_end, follow_mirror, nobody}
 use Rattle.session_rules.proofs.Meaning.{followed_is_so}
-use Rattle.validator_session.specs.declared.inner.Inner.{Inner as Core}
 use Rattle.validator_session.specs.declared.notes.TakenReport.{TakenReport as TakenValue}
-use Rattle.validator_session.specs.Core.{Fell, Stood, Turned, over_of}
+use Rattle.validator_session.specs.Core.{Stood, Turned, over_of}
 use Rattle.validator_session.specs.Standing.{report_of, stand_of}
 use Rattle.session_world.specs.declared.terms.Terms.{Terms}
 use Rattle.session_world.specs.declared.joined.Joined.{Joined as JoinedView}

@@ -1,10 +1,9 @@
 -- The calls of a session, as lines.
-use Rattle.std.proofs.Common.{◌≡◌, ◌≢◌, ◌≤◌, ◌<◌, ℕ, Bool, true, false, cond, List, [], ◌∷◌, ◌++◌, Option, Some, None, Result, Ok, Err, length, nat_lt, refl, sym, ap, ap₂, subst, subst₂, ◌∙◌, append-nil}
+use Rattle.std.proofs.Common.{◌≡◌, ℕ, Bool, true, false, cond, List, [], ◌∷◌, ◌++◌, Option, Some, None, Result, Ok, Err, length, nat_lt, refl, sym, ap, ap₂, subst, subst₂, ◌∙◌, append-nil}
 use Rattle.std.specs.Prelude.{take, drop, map, is_some, OnOk, ◌-◌, ◌^◌}
 use Rattle.wire_base.specs.Turns.{Turn, Idle, turns_of}
 use Rattle.swima_model.specs.declared.report.Report.{Report}
 use Rattle.swima_model.specs.Size.{report_count}
-use Rattle.validator_core.specs.declared.mirror.Taken.{Taken}
 use Rattle.validator_core.specs.Held.{Held}
 use Rattle.validator_core.specs.Judge.{judge}
 use Rattle.collector_core.specs.Chronicle.{Chronicle}
@@ -20,7 +19,7 @@ use Rattle.session_rules.specs.declared.end.Turn.TheVariants as turn
 use Rattle.session_rules.specs.Answering.{point_in}
 use Rattle.session_rules.specs.Following.{Stand}
 use Rattle.session_rules.specs.Transcripts.{nobody}
-use Rattle.validator_session.specs.Core.{Stood as FollowStood, over_of, received_of, turn_of as follow_turn_of}
+use Rattle.validator_session.specs.Core.{Stood as FollowStood, received_of, turn_of as follow_turn_of}
 use Rattle.validator_session.specs.Standing.{stand_of}
 use Rattle.session_world.specs.declared.terms.Terms.{Terms}
 use Rattle.session_world.specs.declared.joined.Joined.{Joined as JoinedView}
@@ -29,7 +28,7 @@ use Rattle.session_world.specs.declared.telling.Telling.TheVariants.{CollectorEn
 use Rattle.session_world.specs.Lines.{Told, again, carries_down, carries_up, collector_rests, downs, ends, follows, in_session, serves, takes_again, ups, used, validator_rests}
 use Rattle.session_world.specs.Standing.{Does, JoinedStands, StandsFor, joined_view}
 use Rattle.session_world.specs.Tellings.{TookAgain, TookBy, ended_by, taken_telling}
-use Rattle.session_world.specs.World.{World, Joined, MOST, down_waits, follow_config, following, opened, serve_config, serving, unless_over, up_waits}
+use Rattle.session_world.specs.World.{World, Joined, MOST, down_waits, follow_config, following, opened, serve_config, unless_over, up_waits}
 use Rattle.session_world.proofs.Again.{IsJudged, judged_same, session_judged}
 use Rattle.session_world.proofs.Collecting as collecting
 use Rattle.session_world.proofs.Collecting.{by_stood, down_is, serves_live, serves_over, stood_by, up_is, world_of}

@@ -1,11 +1,10 @@
 -- Lines of a world, and runs.
-use Rattle.std.proofs.Common.{◌≡◌, ◌≤◌, ◌<◌, ◌-◌, ◌+◌, ◌==◌, ◌&&◌, ℕ, zero, suc, Bool, true, false, cond, List, [], ◌∷◌, ◌++◌, Option, Some, None, length, refl, sym, ap, ap₂, subst, ◌∙◌, append-nil, append_assoc, arith, inl, inr}
+use Rattle.std.proofs.Common.{◌≡◌, ◌-◌, ◌+◌, ◌==◌, ◌&&◌, ℕ, suc, Bool, true, false, cond, List, [], ◌∷◌, ◌++◌, Option, Some, None, length, refl, sym, ap, ap₂, subst, ◌∙◌, append-nil, append_assoc, arith, inl, inr}
 use Rattle.std.specs.Prelude.{drop, is_some, min, take, ◌⊎◌}
 use Rattle.std.proofs.lemmas.Bool.{cases_lt, eqb-true}
 use Rattle.std.proofs.lemmas.List.{take_all}
 use Rattle.validator_core.specs.Held.{Held}
 use Rattle.collector_core.specs.Chronicle.{Chronicle}
-use Rattle.collector_core.specs.Standing.{BookView}
 use Rattle.session_rules.specs.declared.end.SessionEnd.{SessionEnd}
 use Rattle.session_rules.specs.Following.{Stand}
 use Rattle.session_world.specs.declared.terms.Terms.{Terms}
@@ -13,7 +12,7 @@ use Rattle.session_world.specs.declared.joined.Joined.{Joined as JoinedView}
 use Rattle.session_world.specs.declared.telling.Telling.{Telling}
 use Rattle.wire_base.specs.Turns.{Turn, turns_of}
 use Rattle.session_world.specs.Lines.{Told, all_down, all_up, and_on, carries_down, carries_up, downs, follows_by, in_session, is_none, is_quiet, round, rounds, serves_by, ups, used, MOST_ROUNDS}
-use Rattle.session_world.specs.Standing.{Does, JoinedBy, JoinedStands, StandsFor, WorldView, joined_view, view_down, view_up}
+use Rattle.session_world.specs.Standing.{Does, JoinedBy, StandsFor, WorldView, view_down, view_up}
 use Rattle.session_world.specs.World.{World, Joined, carried_up, collector_end, down_waits, serving, unless_over, up_waits, validator_end, waits_down, waits_up}
 use Rattle.session_world.proofs.Collecting.{down_is, up_is, world_of}
 use Rattle.session_world.proofs.Following.{following_is, validator_is}

@@ -4,10 +4,8 @@ use Rattle.std.specs.Prelude.{◌-◌, ◌^◌, ◌&&◌, ℕ, zero, suc, Bool, 
 use Rattle.wire_base.specs.Turns.{Turn, Idle, turns_of}
 use Rattle.swima_model.specs.declared.report.Report.{Report}
 use Rattle.swima_model.specs.Size.{report_count}
-use Rattle.validator_core.specs.declared.mirror.Taken.{Taken}
 use Rattle.validator_core.specs.Judge.{judge}
 use Rattle.collector_core.specs.declared.book.edit.Edit.{Edit}
-use Rattle.collector_core.specs.declared.chronicle.Entry.{Entry}
 use Rattle.collector_core.specs.declared.chronicle.Entry.TheVariants as entry
 use Rattle.collector_core.specs.declared.error.BookError.{BookError}
 use Rattle.collector_core.specs.Chronicle.{extended}

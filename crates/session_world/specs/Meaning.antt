@@ -1,5 +1,5 @@
 -- What the lines of a script mean.
-use Rattle.std.specs.Prelude.{◌≡◌, ℕ, List, []}
+use Rattle.std.specs.Prelude.{◌≡◌, []}
 use Rattle.session_world.specs.Lines.{runs}
 use Rattle.session_world.specs.World.{World, waits_down, waits_up}
 

@@ -18,7 +18,7 @@ const MOST_OCTETS: usize = 4_194_304;
 
 /// Octets of lines that were not reported, and the number of the first of these lines.
 #[derive(Debug, Drop)]
-pub struct LineBuffer {
+pub(crate) struct LineBuffer {
     /// Octets that were read. Those before `place` are of lines that were reported.
     octets: Vec<u8>,
     place: usize,
@@ -29,7 +29,7 @@ pub struct LineBuffer {
 
 /// What octets begin with.
 #[derive(Clone, Copy, Debug, PartialEq, Eq)]
-pub enum Front {
+pub(crate) enum Front {
     /// A line of that many octets, with its line feed.
     Line(usize),
     /// More octets than a line may have.
@@ -58,7 +58,7 @@ impl Model for LineBuffer {
 
 impl LineBuffer {
     /// No octets, before the line 1. It takes no memory.
-    pub fn new(alloc: Global) -> Self
+    pub(crate) fn new(alloc: Global) -> Self
         ensures held { result.held ≡ [] }
         ensures number { result.number ≡ 1 }
     {
@@ -72,7 +72,7 @@ impl LineBuffer {
 
     /// What the octets begin with. An octet that was searched for a line feed is not searched
     /// again. It takes no memory.
-    pub fn front(&mut self) -> Front
+    pub(crate) fn front(&mut self) -> Front
         ensures front { BeginsWith self.old.held result }
         ensures same { SameLines self.old self.new }
     {
@@ -91,7 +91,7 @@ impl LineBuffer {
 
     /// The item of the line of that many octets, which goes with its line feed. At `Memory` the
     /// line stays.
-    pub fn take_line(&mut self, len: usize) -> Result<Told, Memory>
+    pub(crate) fn take_line(&mut self, len: usize) -> Result<Told, Memory>
         requires within { len < length self.old.held }
         ensures item { IfOk result (IsItem self.old.number (take len self.old.held)) }
         ensures rest { OnOk result (self.new.held ≡ drop (len + 1) self.old.held) }
@@ -106,7 +106,7 @@ impl LineBuffer {
     }
 
     /// As many octets as a line may have are a bad line, and go. It takes no memory.
-    pub fn take_long(&mut self) -> Told
+    pub(crate) fn take_long(&mut self) -> Told
         requires within { MOST_OCTETS ≤ length self.old.held }
         ensures item { result ≡ told.Bad self.old.number }
         ensures rest { self.new.held ≡ drop MOST_OCTETS self.old.held }
@@ -129,7 +129,7 @@ impl LineBuffer {
     }
 
     /// Makes room for that many more octets. The octets of lines that were reported are given up.
-    pub fn make_room(&mut self, count: usize) -> Result<(), Memory>
+    pub(crate) fn make_room(&mut self, count: usize) -> Result<(), Memory>
         ensures room { OnOk result (count ≤ self.new.room) }
         ensures same { SameLines self.old self.new }
     {
@@ -141,7 +141,7 @@ impl LineBuffer {
     }
 
     /// Puts a piece at the end, for which there is room. It takes no memory.
-    pub fn put(&mut self, piece: &[u8])
+    pub(crate) fn put(&mut self, piece: &[u8])
         requires room { length piece.now ≤ self.old.room }
         ensures held { self.new.held ≡ self.old.held ++ piece.now }
         ensures number { self.new.number ≡ self.old.number }

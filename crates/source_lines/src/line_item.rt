@@ -14,7 +14,7 @@ use wire_base::Memory;
 
 /// A key, and what the record of its software says.
 #[derive(Debug, Drop)]
-pub struct Keyed {
+pub(crate) struct Keyed {
     /// The key.
     pub key: u32,
     /// The content, with source number 0.
@@ -22,7 +22,7 @@ pub struct Keyed {
 }
 
 /// The item that the line is; `None` exactly where it is none.
-pub fn item_of(alloc: Global, line: &[u8]) -> Result<Option<Told>, Memory>
+pub(crate) fn item_of(alloc: Global, line: &[u8]) -> Result<Option<Told>, Memory>
     ensures item { Finds (Says line.now) result }
 {
     let mut words = Words::new(line);

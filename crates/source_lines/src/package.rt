@@ -17,7 +17,7 @@ use wire_base::Memory;
 
 /// What a tag says of its software, and the octets that it is kept as.
 #[derive(Debug, Drop)]
-pub struct Package {
+pub(crate) struct Package {
     /// The software identifier.
     pub ident: Ident,
     /// The canonical octets.
@@ -25,7 +25,7 @@ pub struct Package {
 }
 
 /// The package whose tag the octets are, all of them.
-pub fn read_package(alloc: Global, octets: &[u8]) -> Result<Option<Package>, Memory>
+pub(crate) fn read_package(alloc: Global, octets: &[u8]) -> Result<Option<Package>, Memory>
     ensures whole { Finds (IsPackage octets.now) result }
 {
     match read_tag(alloc, octets) {

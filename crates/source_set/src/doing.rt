@@ -17,7 +17,7 @@ use swima_model::Content;
 
 /// Why an item was not done.
 #[derive(Clone, Copy, Debug, PartialEq, Eq)]
-pub enum Undone {
+pub(crate) enum Undone {
     /// No record has the key.
     UnknownKey {
         /// The key.
@@ -28,7 +28,7 @@ pub enum Undone {
 }
 
 /// Does an item of a source that holds these keys.
-pub fn perform<D: Desk>(
+pub(crate) fn perform<D: Desk>(
     alloc: Global,
     keys: &mut Keys,
     desk: &mut D,

@@ -10,7 +10,7 @@ use wire_base::{List, Memory};
 
 /// The keys that a source added and that are not gone, each with the identifier of its record.
 #[derive(Debug, Drop)]
-pub struct Keys {
+pub(crate) struct Keys {
     ids: BTreeMap<u32, u32>,
 }
 
@@ -25,7 +25,7 @@ impl Model for Keys {
 
 impl Keys {
     /// No key. It takes no memory.
-    pub fn new(alloc: Global) -> Self
+    pub(crate) fn new(alloc: Global) -> Self
         ensures none { result ≡ [] }
     {
         Keys {
@@ -34,7 +34,7 @@ impl Keys {
     }
 
     /// The identifier of the record of a key, where the key is held. It takes no memory.
-    pub fn id_at(&self, key: u32) -> Option<u32>
+    pub(crate) fn id_at(&self, key: u32) -> Option<u32>
         ensures id { result ≡ id_at key self.now }
     {
         match self.ids.get(&key) {
@@ -45,7 +45,7 @@ impl Keys {
 
     /// Holds a key from now on, with the identifier 0 until `set` puts another. This takes the
     /// memory for the key. At `Memory` nothing is changed.
-    pub fn hold(&mut self, key: u32) -> Result<(), Memory>
+    pub(crate) fn hold(&mut self, key: u32) -> Result<(), Memory>
         ensures held { OnOk result (self.new ≡ with_key key 0 self.old) }
         ensures unchanged { OnErr result (self.new ≡ self.old) }
     {
@@ -56,7 +56,7 @@ impl Keys {
     }
 
     /// Puts the identifier of the record of a key that is held. It takes no memory.
-    pub fn set(&mut self, key: u32, id: u32)
+    pub(crate) fn set(&mut self, key: u32, id: u32)
         requires held { IsSome (id_at key self.old) }
         ensures set { self.new ≡ with_key key id self.old }
     {
@@ -67,21 +67,21 @@ impl Keys {
     }
 
     /// Holds a key no longer. It takes no memory.
-    pub fn remove(&mut self, key: u32)
+    pub(crate) fn remove(&mut self, key: u32)
         ensures without { self.new ≡ without key self.old }
     {
         self.ids.remove(&key);
     }
 
     /// Holds no key. It takes no memory.
-    pub fn clear(&mut self)
+    pub(crate) fn clear(&mut self)
         ensures none { self.new ≡ [] }
     {
         self.ids.clear();
     }
 
     /// The keys and the identifiers of their records, in order of identifier.
-    pub fn by_id(&self, alloc: Global) -> Result<List<(u32, u32)>, Memory>
+    pub(crate) fn by_id(&self, alloc: Global) -> Result<List<(u32, u32)>, Memory>
         ensures order { IfOk result (λ held. held ≡ by_id self.now) }
     {
         let mut held = entries_of(alloc, &self.ids)?;

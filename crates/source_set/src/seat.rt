@@ -19,7 +19,7 @@ const MOST_ITEMS: u32 = 1024;
 
 /// A source, unless it was given up, and the records of its keys.
 #[derive(Drop)]
-pub struct Seat<S: Drop> {
+pub(crate) struct Seat<S: Drop> {
     /// The source.
     pub source: Option<S>,
     /// The keys that it holds.
@@ -28,7 +28,7 @@ pub struct Seat<S: Drop> {
 
 /// Why a source was asked no further, and its item where that is to be done first next time.
 #[derive(Debug, Drop)]
-pub struct Stop {
+pub(crate) struct Stop {
     /// The error.
     pub error: SweepError,
     /// The item.
@@ -36,7 +36,7 @@ pub struct Stop {
 }
 
 /// Asks a source until it is quiet, has ended or has reported 1024 items.
-pub fn ask<S: TagSource, D: Desk>(
+pub(crate) fn ask<S: TagSource, D: Desk>(
     alloc: Global,
     seat: &mut Seat<S>,
     number: u8,
@@ -149,7 +149,7 @@ fn with_item(error: SweepError, item: Told) -> Stop
 }
 
 /// Does an item of a source, and gives the source up where it ended.
-pub fn do_item<S: Drop, D: Desk>(
+pub(crate) fn do_item<S: Drop, D: Desk>(
     alloc: Global,
     seat: &mut Seat<S>,
     number: u8,

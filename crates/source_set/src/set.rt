@@ -19,7 +19,7 @@ pub type SourceSet = Sources<Box<dyn TagSource + Send>>;
 
 /// An item that was reported and is not done, and the number of its source.
 #[derive(Debug, Drop)]
-pub struct Kept {
+pub(crate) struct Kept {
     /// The number of the source.
     pub source: u8,
     /// The item.

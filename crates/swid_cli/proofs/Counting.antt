@@ -1,5 +1,5 @@
 -- Which words are a number of packages.
-use Rattle.std.proofs.Common.{◌≡◌, ◌<◌, ◌≤◌, ◌^◌, ℕ, List, subst, arith}
+use Rattle.std.proofs.Common.{ℕ, List, subst, arith}
 use Rattle.line_words.specs.Reading.{IsNumber}
 use Rattle.line_words.proofs.Finding.{one_number}
 use Rattle.session_day.specs.Day.{IsCount}

@@ -1,12 +1,11 @@
 -- What `links` reports of octets.
-use Rattle.std.proofs.Common.{◌≡◌, ℕ, ◌<◌, ◌≤◌, ◌⊎◌, inl, inr, min, Bool, true, false, cond, List, [], length, take, Result, Ok, Err, refl, sym, ap, subst, ◌∙◌, arith}
-use Rattle.std.specs.Prelude.{IfOk, nat_lt, ◌&&◌}
+use Rattle.std.proofs.Common.{◌≡◌, ℕ, ◌<◌, inl, inr, min, Bool, true, false, cond, List, length, take, Result, Ok, Err, refl, sym, ap, subst, ◌∙◌}
+use Rattle.std.specs.Prelude.{IfOk, nat_lt}
 use Rattle.std.proofs.lemmas.Bool.{cases_lt, lt-ltb}
 use Rattle.std.proofs.lemmas.List.{take_min}
 use Rattle.wire_base.specs.declared.values.memory.Memory.{Memory}
 use Rattle.coswid_tag.specs.declared.tag.Tag.{Tag}
 use Rattle.command_text.specs.declared.answer.Answer.{Answer}
-use Rattle.command_text.specs.declared.ending.Ending.{Ending}
 use Rattle.command_text.specs.declared.ending.Ending.TheVariants as ending
 use Rattle.swid_cli.specs.declared.links.tag_list.Behind.{Behind}
 use Rattle.swid_cli.specs.declared.links.tag_list.Behind.TheVariants as behind

@@ -1,10 +1,9 @@
 -- What the words print and read, from what their command did.
-use Rattle.std.proofs.Common.{◌≡◌, ◌≢◌, ◌⊎◌, ◌∙◌, ap, ℕ, Bool, true, false, [], List, Option, Some, None, Result, Ok, Err, inl, inr, refl}
+use Rattle.std.proofs.Common.{◌≡◌, ◌≢◌, ◌∙◌, ap, ℕ, [], List, Option, Some, None, Result, Ok, Err, inl, inr, refl}
 use Rattle.std.specs.Prelude.{IfSome}
 use Rattle.std.proofs.lemmas.List.{append-nil}
 use Rattle.wire_base.specs.NamedFile.{Read}
 use Rattle.wire_base.specs.Passing.{AddsFront}
-use Rattle.wire_base.specs.declared.outside.files.NamedFile.{NamedFile}
 use Rattle.wire_base.specs.declared.outside.stopped.Stopped.{Stopped}
 use Rattle.wire_base.specs.declared.outside.stopped.Stopped.TheVariants as stopped
 use Rattle.swima_model.specs.declared.report.Kind.{Kind}
@@ -12,7 +11,7 @@ use Rattle.swid_cli.specs.declared.command.Command.{Command}
 use Rattle.swid_cli.specs.declared.command.Command.TheVariants as command
 use Rattle.command_text.specs.declared.ending.Ending.{Ending}
 use Rattle.swid_cli.specs.Commands.{Says}
-use Rattle.swid_cli.specs.Printing.{CommandPrints, CommandReads, Output, PrintsAll, PrintsPart, WordsRead, of_input, of_nothing}
+use Rattle.swid_cli.specs.Printing.{CommandReads, PrintsAll, PrintsPart, WordsRead, of_input, of_nothing}
 use Rattle.swid_cli.specs.Run.{Prints, Ran, ending_status, status_of}
 use Rattle.swid_cli.specs.Stream.{Printed, stream_text}
 use Rattle.swid_cli.specs.TagReads.{TagReads}

@@ -1,7 +1,6 @@
 -- What `replay` reports of octets.
-use Rattle.std.proofs.Common.{◌≡◌, ◌<◌, ◌≤◌, inl, inr, Bool, List, ℕ, length, take, sym, subst, subst₂, ◌∙◌}
+use Rattle.std.proofs.Common.{◌≡◌, inl, inr, Bool, List, ℕ, length, take, sym, subst, subst₂, ◌∙◌}
 use Rattle.std.proofs.lemmas.Bool.{cases_lt, lt-ltb}
-use Rattle.command_text.specs.declared.ending.Ending.{Ending}
 use Rattle.command_text.specs.declared.ending.Ending.TheVariants as ending
 use Rattle.session_script.specs.Replay.{PlaysScript, ReplayTells, SCRIPT_OCTETS}
 use Rattle.session_script.specs.Script.{split_once}

@@ -1,5 +1,5 @@
 -- What `tag` reports of octets.
-use Rattle.std.proofs.Common.{◌≡◌, ℕ, ◌<◌, ◌≤◌, ◌⊎◌, inl, inr, Bool, true, false, List, [], ◌∷◌, length, Option, Result, Ok, Err, refl, sym, ap, subst, ◌∙◌, arith}
+use Rattle.std.proofs.Common.{◌≡◌, ℕ, ◌≤◌, ◌⊎◌, inl, inr, false, List, [], ◌∷◌, length, Option, Result, Ok, Err, refl, sym, subst, ◌∙◌, arith}
 use Rattle.std.specs.Bool.{OnTrue}
 use Rattle.wire_base.specs.Outside.{HasCause, Rose}
 use Rattle.wire_base.specs.Passing.{is_fault}
@@ -15,7 +15,7 @@ use Rattle.command_text.specs.declared.answer.Answer.{Answer}
 use Rattle.swid_cli.specs.declared.command.Command.TheVariants as command
 use Rattle.command_text.specs.declared.ending.Ending.{Ending}
 use Rattle.command_text.specs.declared.ending.Ending.TheVariants as ending
-use Rattle.command_text.specs.Answer.{ending_of, refusal_answer}
+use Rattle.command_text.specs.Answer.{refusal_answer}
 use Rattle.swid_cli.specs.Checking.{TagVerdicts, checked_ending, checked_text}
 use Rattle.swid_cli.specs.Commands.{Says}
 use Rattle.swid_cli.specs.Run.{status_of}

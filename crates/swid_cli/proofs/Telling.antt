@@ -1,5 +1,5 @@
 -- What was read of the input decides what a command prints that reads all of it first.
-use Rattle.std.proofs.Common.{◌≡◌, ◌≢◌, ℕ, zero, ◌+◌, ◌<◌, ◌≤◌, List, [], ◌∷◌, ◌++◌, length, take, drop, length-append, ◌⊎◌, Option, Some, None, Result, Ok, Err, refl, sym, ap, subst, ◌∙◌, arith, inl, inr}
+use Rattle.std.proofs.Common.{◌≡◌, ◌≢◌, ℕ, ◌+◌, ◌<◌, ◌≤◌, List, [], ◌++◌, length, take, drop, length-append, Option, Some, None, Result, Ok, Err, refl, sym, ap, subst, ◌∙◌, arith, inl, inr}
 use Rattle.std.specs.Prelude.{IfSome}
 use Rattle.std.proofs.lemmas.Bool.{cases_lt}
 use Rattle.std.proofs.lemmas.List.{append-nil, drop_all, take-append-le}
@@ -12,7 +12,7 @@ use Rattle.command_text.specs.declared.ending.Ending.TheVariants as ending
 use Rattle.swid_cli.specs.Run.{Prints, status_of}
 use Rattle.swid_cli.specs.Stream.{Printed}
 use Rattle.swid_cli.specs.Telling.{IsTold, PrintsFront, RanTelling}
-use Rattle.swid_cli.proofs.Fronts.{HasRead, first_read, rest_is, seen_held}
+use Rattle.swid_cli.proofs.Fronts.{HasRead, first_read, rest_is}
 use Rattle.swid_cli.proofs.Running.{prints_of}
 
 module _ (most : ℕ) (Tells : List ℕ → List ℕ → Ending → Type 0) where

@@ -10,7 +10,6 @@ use Rattle.coswid_res.specs.Verify.{IsVerdicts}
 use Rattle.coswid_res.specs.declared.resources.payload.Payload.{Payload}
 use Rattle.coswid_res.specs.declared.verification.verdict.Verdict.{Verdict}
 use Rattle.coswid_res.specs.declared.verification.verdict.Verdict.TheVariants as verdict
-use Rattle.coswid_tag.specs.Findings.{findings}
 use Rattle.coswid_tag.specs.declared.tag.Tag.{Tag}
 use Rattle.coswid_codec.specs.Items.{tag_item}
 use Rattle.coswid_codec.specs.TagText.{canonical_line, summary_text}

@@ -1,6 +1,5 @@
 -- The lines before this one were played and printed.
 use Rattle.std.proofs.Common.{◌≡◌, ◌-◌, ◌+◌, ◌∙◌, ℕ, Bool, List, suc, sym, ap, subst, arith}
-use Rattle.command_text.specs.declared.answer.Answer.{Answer}
 use Rattle.session_script.specs.Played.{PlaysOne}
 use Rattle.session_script.specs.Replay.{Plays, after_text, at_end, bad, past_lines}
 use Rattle.session_script.proofs.Scripting.{all_played, reached_bad, reached_end, reached_next, reached_past}

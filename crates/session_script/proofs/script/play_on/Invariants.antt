@@ -1,5 +1,5 @@
 -- The lines before this one were played and printed.
-use Rattle.std.proofs.Common.{◌≡◌, ◌-◌, ◌+◌, ◌≤◌}
+use Rattle.std.proofs.Common.{◌-◌, ◌+◌, ◌≤◌}
 use Rattle.session_script.specs.Played.{StandsFor}
 use Rattle.session_script.specs.Replay.{Playing}
 use Rattle.session_script.proofs.Scripting.{Reached}

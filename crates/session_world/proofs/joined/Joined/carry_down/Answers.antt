@@ -1,4 +1,4 @@
-use Rattle.std.proofs.Common.{◌≡◌, ◌++◌, List, refl, sym, ap, ◌∙◌}
+use Rattle.std.proofs.Common.{refl, sym, ◌∙◌}
 use Rattle.session_world.specs.declared.joined.Joined.{Joined as JoinedView}
 use Rattle.session_world.proofs.Joining.{down_live, down_over, ended_is, none_of, on_ok, some_of}
 use Rattle.session_world.proofs.joined.Joined.carry_down.Goals as goal

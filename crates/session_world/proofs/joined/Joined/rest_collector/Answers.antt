@@ -1,4 +1,4 @@
-use Rattle.std.proofs.Common.{◌≡◌, ◌++◌, List, refl, sym, ap, ◌∙◌}
+use Rattle.std.proofs.Common.{refl, sym, ◌∙◌}
 use Rattle.session_world.specs.declared.joined.Joined.{Joined as JoinedView}
 use Rattle.session_world.proofs.Joining.{ended_is, none_of, on_ok, rest_live, rest_over, some_of}
 use Rattle.session_world.proofs.joined.Joined.rest_collector.Goals as goal

@@ -1,12 +1,10 @@
-use Rattle.std.proofs.Common.{◌≡◌, ℕ, ◌-◌, ◌+◌, ◌++◌, List, [], Option, Some, None, length, refl, sym, ap, ap₂, subst, ◌∙◌, arith}
-use Rattle.std.specs.Prelude.{min, ◌&&◌}
+use Rattle.std.proofs.Common.{◌≡◌, ◌-◌, Option, Some, None, sym, ap, subst, ◌∙◌}
 use Rattle.session_world.specs.declared.joined.Joined.{Joined as JoinedView}
-use Rattle.session_world.specs.Lines.{carries_down, carries_up, downs, follows, serves, ups, collector_rests, validator_rests}
+use Rattle.session_world.specs.Lines.{carries_up, ups}
 use Rattle.session_world.specs.Standing.{Does, DoesOk, WorldView, joined_view}
-use Rattle.session_world.specs.World.{World, Joined, down_waits, up_waits}
+use Rattle.session_world.specs.World.{World, Joined, up_waits}
 use Rattle.session_world.proofs.Rounds.{no_session}
-use Rattle.wire_base.specs.Turns.{Idle}
-use Rattle.std.specs.Prelude.{take, ◌∷◌}
+use Rattle.std.specs.Prelude.{take}
 use Rattle.session_world.proofs.world.World.carry_up.Goals as goal
 
 pub returns-in-None : goal.returns-in-None

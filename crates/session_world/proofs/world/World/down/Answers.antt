@@ -1,5 +1,5 @@
-use Rattle.std.proofs.Common.{◌≡◌, ℕ, ◌-◌, ◌+◌, ◌++◌, List, [], Option, Some, None, length, refl, sym, ap, ap₂, subst, ◌∙◌, arith}
-use Rattle.std.specs.Prelude.{min, ◌&&◌}
+use Rattle.std.proofs.Common.{ℕ, ◌-◌, List, length, ap, ◌∙◌}
+use Rattle.std.specs.Prelude.{min}
 use Rattle.session_world.specs.Lines.{downs}
 use Rattle.session_world.proofs.Joining.{on_ok}
 use Rattle.session_world.proofs.Rounds.{does_same, downs_within}

@@ -1,5 +1,4 @@
-use Rattle.std.proofs.Common.{◌≡◌, ℕ, ◌-◌, ◌+◌, ◌++◌, List, [], Option, Some, None, length, refl, sym, ap, ap₂, subst, ◌∙◌, arith}
-use Rattle.std.specs.Prelude.{min, ◌&&◌}
+use Rattle.std.proofs.Common.{◌-◌, subst}
 use Rattle.session_world.specs.Lines.{enters}
 use Rattle.session_world.specs.Standing.{Does, WorldView}
 use Rattle.session_world.proofs.Entering.{enters_does}

@@ -1,5 +1,4 @@
-use Rattle.std.proofs.Common.{◌≡◌, ℕ, ◌-◌, ◌+◌, ◌++◌, List, [], Option, Some, None, length, refl, sym, ap, ap₂, subst, ◌∙◌, arith}
-use Rattle.std.specs.Prelude.{min, ◌&&◌}
+use Rattle.std.proofs.Common.{◌-◌}
 use Rattle.session_world.specs.Lines.{collector_rests, validator_rests}
 use Rattle.session_world.proofs.Joining.{on_ok}
 use Rattle.session_world.proofs.Rounds.{does_then}

@@ -1,4 +1,4 @@
-use Rattle.std.proofs.Common.{◌≡◌, Option, Some, None, refl, sym, ap, ◌∙◌}
+use Rattle.std.proofs.Common.{Option, Some, None, sym, ap, ◌∙◌}
 use Rattle.std.specs.Prelude.{is_some}
 use Rattle.session_world.specs.declared.joined.Joined.{Joined as JoinedView}
 use Rattle.session_world.specs.Standing.{WorldView}

@@ -1,5 +1,5 @@
-use Rattle.std.proofs.Common.{◌≡◌, ℕ, ◌-◌, ◌+◌, ◌++◌, List, [], Option, Some, None, length, refl, sym, ap, ap₂, subst, ◌∙◌, arith}
-use Rattle.std.specs.Prelude.{min, ◌&&◌}
+use Rattle.std.proofs.Common.{ℕ, ◌-◌, List, sym, ap, ap₂, ◌∙◌}
+use Rattle.std.specs.Prelude.{◌&&◌}
 use Rattle.session_world.specs.Lines.{is_none}
 use Rattle.session_world.specs.World.{waits_down}
 use Rattle.session_world.proofs.Rounds.{quiet_else, quiet_then}

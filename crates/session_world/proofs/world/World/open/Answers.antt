@@ -1,6 +1,4 @@
-use Rattle.std.proofs.Common.{◌≡◌, ℕ, ◌-◌, ◌+◌, ◌++◌, List, [], Option, Some, None, length, refl, sym, ap, ap₂, subst, ◌∙◌, arith}
-use Rattle.std.specs.Prelude.{min, ◌&&◌}
-use Rattle.session_world.specs.declared.joined.Joined.{Joined as JoinedView}
+use Rattle.std.proofs.Common.{◌-◌, [], Some, subst}
 use Rattle.session_world.specs.Lines.{opens}
 use Rattle.session_world.specs.Standing.{Does, WorldView}
 use Rattle.session_world.proofs.Entering.{opened_does}

@@ -1,5 +1,4 @@
-use Rattle.std.proofs.Common.{◌≡◌, ℕ, ◌-◌, ◌+◌, ◌++◌, List, [], Option, Some, None, length, refl, sym, ap, ap₂, subst, ◌∙◌, arith}
-use Rattle.std.specs.Prelude.{min, ◌&&◌}
+use Rattle.std.proofs.Common.{◌≡◌, ◌-◌, ◌+◌, arith}
 use Rattle.std.specs.Prelude.{suc}
 use Rattle.session_world.specs.Lines.{MOST_ROUNDS}
 use Rattle.session_world.proofs.Rounds.{Anything, ends_does, most_rounds, run_ends, run_is_over, runs_none, runs_on}

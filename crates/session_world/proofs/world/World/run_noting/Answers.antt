@@ -1,8 +1,7 @@
-use Rattle.std.proofs.Common.{◌≡◌, ℕ, ◌-◌, ◌+◌, ◌++◌, List, [], Option, Some, None, length, refl, sym, ap, ap₂, subst, ◌∙◌, arith}
-use Rattle.std.specs.Prelude.{min, ◌&&◌}
+use Rattle.std.proofs.Common.{◌≡◌, ℕ, ◌-◌, ◌+◌, ◌++◌, List, sym, ap₂, ◌∙◌, arith}
 use Rattle.std.specs.Prelude.{suc}
 use Rattle.session_world.specs.Lines.{MOST_ROUNDS}
-use Rattle.session_world.specs.World.{World, carried_up}
+use Rattle.session_world.specs.World.{carried_up}
 use Rattle.session_world.proofs.Rounds.{ends_does, most_rounds, round_carried, run_ends, run_is_over, runs_none, runs_on}
 use Rattle.session_world.proofs.world.World.run_noting.Goals as goal
 

@@ -1,6 +1,6 @@
-use Rattle.std.proofs.Common.{◌≡◌, ℕ, List, [], refl}
-use Rattle.session_world.specs.Standing.{WorldView, StandsFor, view_down}
-use Rattle.session_world.specs.World.{World, waits_down}
+use Rattle.std.proofs.Common.{[], refl}
+use Rattle.session_world.specs.Standing.{WorldView, view_down}
+use Rattle.session_world.specs.World.{waits_down}
 use Rattle.session_world.proofs.Rounds.{down_waits_are, waiting}
 use Rattle.session_world.proofs.world.World.waiting_down.Goals as goal
 

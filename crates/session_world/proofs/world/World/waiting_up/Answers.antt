@@ -1,6 +1,6 @@
-use Rattle.std.proofs.Common.{◌≡◌, ℕ, List, [], refl}
-use Rattle.session_world.specs.Standing.{WorldView, StandsFor, view_up}
-use Rattle.session_world.specs.World.{World, waits_up}
+use Rattle.std.proofs.Common.{[], refl}
+use Rattle.session_world.specs.Standing.{WorldView, view_up}
+use Rattle.session_world.specs.World.{waits_up}
 use Rattle.session_world.proofs.Rounds.{up_waits_are, waiting}
 use Rattle.session_world.proofs.world.World.waiting_up.Goals as goal
 
