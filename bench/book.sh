@@ -67,8 +67,8 @@ row() {
     printf '%s\t%s\t%s\t%s\t%s\n' "$1" "$2" "$3" "$none" "$some"
 }
 
-works=('answer 20' 'targets 2000' 'events 2000' 'change 20000' 'rename 20000' 'first 20000'
-    'middle 20000' 'last 20000')
+works=('answer 20' 'targets 10000' 'events 20000' 'change 500000' 'rename 500000' 'first 200000'
+    'middle 200000' 'last 200000')
 
 {
     for records in 1000 10000 65536; do

@@ -7,7 +7,7 @@ use crate::trouble::Trouble;
 use collector_core::{Answer, Book};
 use std::alloc::Global;
 use swima_model::{Body, Content, Ident, Kind, Locator, Model, Report};
-use swima_request::Request;
+use swima_request::{Idents, Request};
 use wire_base::{List, is_stamp};
 
 /// How many events the book keeps.
@@ -72,20 +72,31 @@ impl Work {
 /// Does the work that many times on a book of that many records, at least 1. It gives the number of
 /// records or events of all answers, or the number of changes.
 pub(crate) fn done(alloc: Global, records: u32, work: Work, times: u32) -> Result<u64, Trouble> {
-    let mut book = book_of(alloc, records, KEPT)?;
-    alterations(alloc, &mut book, KEPT)?;
+    let mut book = full_book(alloc, records)?;
+    done_on(alloc, &mut book, work, times)
+}
+
+/// Does the work that many times on a book.
+fn done_on(alloc: Global, book: &mut Book, work: Work, times: u32) -> Result<u64, Trouble> {
     let count = book.count();
     match work {
-        Work::Answer => answers(&book, &latest(alloc, 0), times),
-        Work::Targets => answers(&book, &targeted(alloc, count)?, times),
-        Work::Events => answers(&book, &latest(alloc, KEPT - EVENTS + 1), times),
-        Work::Change => alterations(alloc, &mut book, times),
-        Work::Rename => renames(alloc, &mut book, times),
-        Work::First => exchanges(alloc, &mut book, 1, times),
-        Work::Middle => exchanges(alloc, &mut book, count / 2 + 1, times),
-        Work::Last => exchanges(alloc, &mut book, count, times),
-        Work::Delete => deletions(&mut book, times),
+        Work::Answer => latest_answers(alloc, book, 0, times),
+        Work::Targets => targeted_answers(alloc, book, times),
+        Work::Events => latest_answers(alloc, book, KEPT - EVENTS + 1, times),
+        Work::Change => alterations(alloc, book, times),
+        Work::Rename => renames(alloc, book, times),
+        Work::First => exchanges(alloc, book, 1, times),
+        Work::Middle => exchanges(alloc, book, count / 2 + 1, times),
+        Work::Last => exchanges(alloc, book, count, times),
+        Work::Delete => deletions(book, times),
     }
+}
+
+/// A book of that many records whose log is full.
+pub(crate) fn full_book(alloc: Global, records: u32) -> Result<Book, Trouble> {
+    let mut book = book_of(alloc, records, KEPT)?;
+    alterations(alloc, &mut book, KEPT)?;
+    Ok(book)
 }
 
 /// A book of that many records, which keeps that many events. Each record has a software identifier
@@ -95,12 +106,17 @@ pub(crate) fn book_of(alloc: Global, records: u32, kept: u32) -> Result<Book, Tr
     requires few { kept ≤ 4096 }
 {
     let mut base = List::new(alloc);
-    for number in 0..records {
-        let mut one = content(alloc, &BODY)?;
-        one.ident = ident_of(alloc, number)?;
-        base.push(one)?;
-    }
+    push_contents(alloc, &mut base, records)?;
     Ok(Book::new(alloc, 1, kept as usize, base.as_slice())?)
+}
+
+/// Pushes that many contents, each with a software identifier of its own.
+fn push_contents(alloc: Global, base: &mut List<Content>, records: u32) -> Result<(), Trouble> {
+    for number in 0..records {
+        let ident = ident_of(alloc, number)?;
+        base.push(content_with(alloc, ident, &BODY)?)?;
+    }
+    Ok(())
 }
 
 /// The software identifier of this number.
@@ -113,11 +129,18 @@ fn ident_of(alloc: Global, number: u32) -> Result<Ident, Trouble> {
 
 /// A content with this body.
 pub(crate) fn content(alloc: Global, body: &[u8]) -> Result<Content, Trouble> {
+    let ident = Ident::new(alloc, b"example.com__org.example.software_1.0")?;
+    content_with(alloc, ident, body)
+}
+
+/// A content with this software identifier and body.
+fn content_with(alloc: Global, ident: Ident, body: &[u8]) -> Result<Content, Trouble> {
+    let locator = Locator::new(alloc, b"/opt/example/software")?;
     Ok(Content {
         model: Model { pen: 0, kind: 2 },
         source: 1,
-        ident: Ident::new(alloc, b"example.com__org.example.software_1.0")?,
-        locator: Locator::new(alloc, b"/opt/example/software")?,
+        ident,
+        locator,
         body: Body::new(alloc, body)?,
     })
 }
@@ -125,9 +148,14 @@ pub(crate) fn content(alloc: Global, body: &[u8]) -> Result<Content, Trouble> {
 /// Alters the first record that many times, and gives how often that was done.
 pub(crate) fn alterations(alloc: Global, book: &mut Book, times: u32) -> Result<u64, Trouble> {
     let other = content(alloc, &OTHER_BODY)?;
+    alter_times(book, &other, times)
+}
+
+/// Gives the first record a content that many times, and gives how often that was done.
+fn alter_times(book: &mut Book, content: &Content, times: u32) -> Result<u64, Trouble> {
     let mut done: u64 = 0;
     for _ in 0..times {
-        alter(book, &other)?;
+        alter(book, content)?;
         done = done.saturating_add(1);
     }
     Ok(done)
@@ -145,15 +173,21 @@ fn alter(book: &mut Book, content: &Content) -> Result<(), Trouble> {
 /// done.
 fn renames(alloc: Global, book: &mut Book, times: u32) -> Result<u64, Trouble> {
     let one = content(alloc, &BODY)?;
-    let mut other = content(alloc, &BODY)?;
-    other.ident = ident_of(alloc, u32::MAX)?;
+    let other = content_with(alloc, ident_of(alloc, u32::MAX)?, &BODY)?;
+    alter_in_turns(book, &one, &other, times)
+}
+
+/// Gives the first record one of two contents in turns, the second at first, that many times, and
+/// gives how often that was done.
+fn alter_in_turns(
+    book: &mut Book,
+    one: &Content,
+    other: &Content,
+    times: u32,
+) -> Result<u64, Trouble> {
     let mut done: u64 = 0;
     for turn in 0..times {
-        if turn % 2 == 0 {
-            alter(book, &other)?;
-        } else {
-            alter(book, &one)?;
-        }
+        alter(book, if turn % 2 == 0 { other } else { one })?;
         done = done.saturating_add(1);
     }
     Ok(done)
@@ -180,9 +214,19 @@ fn delete(book: &mut Book, id: u32) -> Result<(), Trouble> {
 /// each stands at the place of the first.
 fn exchanges(alloc: Global, book: &mut Book, first: u32, times: u32) -> Result<u64, Trouble> {
     let other = content(alloc, &BODY)?;
+    exchange_from(book, first, &other, times)
+}
+
+/// Deletes a record and creates one of this content, that many times.
+fn exchange_from(
+    book: &mut Book,
+    first: u32,
+    content: &Content,
+    times: u32,
+) -> Result<u64, Trouble> {
     let mut done: u64 = 0;
     for further in 0..times {
-        exchange(book, first.saturating_add(further), &other)?;
+        exchange(book, first.saturating_add(further), content)?;
         done = done.saturating_add(1);
     }
     Ok(done)
@@ -198,8 +242,25 @@ fn exchange(book: &mut Book, id: u32, content: &Content) -> Result<(), Trouble> 
     Ok(())
 }
 
+/// How many records or events that many answers have, of whole records and from this event on.
+pub(crate) fn latest_answers(
+    alloc: Global,
+    book: &Book,
+    earliest: u32,
+    times: u32,
+) -> Result<u64, Trouble> {
+    let request = latest(alloc, earliest);
+    answers(book, &request, times)
+}
+
+/// How many records that many answers to a request for 100 software identifiers have.
+fn targeted_answers(alloc: Global, book: &Book, times: u32) -> Result<u64, Trouble> {
+    let request = targeted(alloc, book.count())?;
+    answers(book, &request, times)
+}
+
 /// How many records or events that many answers to a request have.
-pub(crate) fn answers(book: &Book, request: &Request, times: u32) -> Result<u64, Trouble> {
+fn answers(book: &Book, request: &Request, times: u32) -> Result<u64, Trouble> {
     let mut counted: u64 = 0;
     for _ in 0..times {
         counted = counted.saturating_add(count_of(book.answer(request, u32::MAX))?);
@@ -210,12 +271,16 @@ pub(crate) fn answers(book: &Book, request: &Request, times: u32) -> Result<u64,
 /// A request for the whole records of 100 software identifiers, of that many records.
 fn targeted(alloc: Global, records: u32) -> Result<Request, Trouble> {
     let mut request = latest(alloc, 0);
-    let apart = records / TARGETS;
-    for turn in 0..TARGETS {
-        let ident = ident_of(alloc, turn.saturating_mul(apart))?;
-        request.targets.push(ident)?;
-    }
+    push_targets(alloc, &mut request.targets, records / TARGETS)?;
     Ok(request)
+}
+
+/// Pushes 100 software identifiers of records that many apart.
+fn push_targets(alloc: Global, targets: &mut Idents, apart: u32) -> Result<(), Trouble> {
+    for turn in 0..TARGETS {
+        targets.push(ident_of(alloc, turn.saturating_mul(apart))?)?;
+    }
+    Ok(())
 }
 
 /// A request for whole records, from this event on.
@@ -232,7 +297,7 @@ pub(crate) fn latest(alloc: Global, earliest: u32) -> Request {
 
 /// How many records or events the answer has.
 pub(crate) fn count_of(answer: Answer) -> Result<u64, Trouble> {
-    match answer {
+    match &answer {
         Answer::Report(Report::Inventory { records, .. }) => Ok(records.len() as u64),
         Answer::Report(Report::Events { events, .. }) => Ok(events.len() as u64),
         Answer::TooLarge { .. } => Err(Trouble::Book),

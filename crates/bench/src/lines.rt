@@ -15,21 +15,32 @@ pub(crate) fn items(rt: &HostRuntime, count: u32) -> Result<u64, Trouble> {
     let mut source = LineSource::new(rt.alloc(), StdinSource::new(rt.stdin()))?;
     let mut items: u64 = 0;
     for _ in 0..count {
-        match source.next() {
-            Told::Memory => return Err(Trouble::Memory),
-            Told::Failed => return Err(Trouble::Input),
-            Told::Bad { .. } | Told::Quiet => return Err(Trouble::Line),
-            _ => items = items.saturating_add(1),
-        }
+        is_item(&source.next())?;
+        items = items.saturating_add(1);
     }
     Ok(items)
+}
+
+/// Whether a line is an item, or why not.
+fn is_item(told: &Told) -> Result<(), Trouble> {
+    match told {
+        Told::Memory => Err(Trouble::Memory),
+        Told::Failed => Err(Trouble::Input),
+        Told::Bad { .. } | Told::Quiet => Err(Trouble::Line),
+        _ => Ok(()),
+    }
 }
 
 /// How many of the first `count` lines of standard input are the digits of a tag: all, or it says
 /// why not.
 pub(crate) fn digits(rt: &HostRuntime, count: u32) -> Result<u64, Trouble> {
     let octets = all_input(rt)?;
-    let mut rest = octets.as_slice();
+    tags_in(rt.alloc(), octets.as_slice(), count)
+}
+
+/// How many of the first `count` lines of the octets are the digits of a tag.
+fn tags_in(alloc: Global, octets: &[u8], count: u32) -> Result<u64, Trouble> {
+    let mut rest = octets;
     let mut tags: u64 = 0;
     for _ in 0..count {
         let Some(place) = memchr(b'\n', rest) else {
@@ -37,7 +48,7 @@ pub(crate) fn digits(rt: &HostRuntime, count: u32) -> Result<u64, Trouble> {
         };
         let (line, _) = rest.split_at(place);
         let (_, after) = rest.split_at(place + 1);
-        tag_of(rt.alloc(), line)?;
+        tag_of(alloc, line)?;
         tags = tags.saturating_add(1);
         rest = after;
     }

@@ -1,8 +1,7 @@
 //! Idle turns of a collector that holds as many subscriptions as a session may have, each with many
 //! targets, over a book whose log is full of events that none of them is for.
 
-use crate::book::{KEPT, alterations};
-use crate::sessions::full_book;
+use crate::book::{KEPT, alterations, full_book};
 use crate::trouble::Trouble;
 use collector_core::Book;
 use collector_session::ServeCore;
@@ -40,11 +39,26 @@ const RESULT: [u8; 24] = [
 /// filled anew. It gives how many there were.
 pub(crate) fn looks(alloc: Global, records: u32, times: u32) -> Result<u64, Trouble> {
     let mut book = full_book(alloc, records)?;
-    let mut serve = subscribed(alloc, &mut book)?;
-    alterations(alloc, &mut book, KEPT)?;
+    looks_over(alloc, &mut book, times)
+}
+
+/// That many idle turns over a book, whose log is filled anew after the subscriptions.
+fn looks_over(alloc: Global, book: &mut Book, times: u32) -> Result<u64, Trouble> {
+    let mut serve = subscribed(alloc, book)?;
+    alterations(alloc, book, KEPT)?;
+    look_times(alloc, &mut serve, book, times)
+}
+
+/// That many idle turns. It gives how many there were.
+fn look_times(
+    alloc: Global,
+    serve: &mut ServeCore,
+    book: &mut Book,
+    times: u32,
+) -> Result<u64, Trouble> {
     let mut done: u64 = 0;
     for _ in 0..times {
-        look(alloc, &mut serve, &mut book)?;
+        look(alloc, serve, book)?;
         done = done.saturating_add(1);
     }
     Ok(done)
@@ -60,8 +74,8 @@ fn look(alloc: Global, serve: &mut ServeCore, book: &mut Book) -> Result<(), Tro
 
 /// A collector that holds the subscriptions, once the validator has decided.
 fn subscribed(alloc: Global, book: &mut Book) -> Result<ServeCore, Trouble> {
-    let mut serve = ServeCore::new(alloc, &LOOKING)?;
     let octets = subscriptions(alloc)?;
+    let mut serve = ServeCore::new(alloc, &LOOKING)?;
     serve.hear(alloc, book, octets.as_slice());
     serve.hear(alloc, book, &RESULT);
     let count = serve.waiting().len();
@@ -72,11 +86,17 @@ fn subscribed(alloc: Global, book: &mut Book) -> Result<ServeCore, Trouble> {
 /// An SDATA that asks for all of them.
 fn subscriptions(alloc: Global) -> Result<Octets, Memory> {
     let mut octets = List::new(alloc);
+    put_subscriptions(&mut octets)?;
+    Ok(octets)
+}
+
+/// The headers, and the attributes of all subscriptions.
+fn put_subscriptions(octets: &mut Octets) -> Result<(), Memory> {
     octets.extend(&HEADERS)?;
     for id in 0..SUBSCRIPTIONS {
-        put_subscription(&mut octets, id)?;
+        put_subscription(octets, id)?;
     }
-    Ok(octets)
+    Ok(())
 }
 
 /// The attribute of a request that subscribes, for identifiers only.

@@ -46,6 +46,7 @@ use crate::book::Work;
 use crate::figures::Figures;
 use crate::shelf::Task;
 use crate::trouble::Trouble;
+use std::alloc::Global;
 use std::env;
 use std::process::ExitCode;
 use std::sync::Wait;
@@ -67,11 +68,17 @@ fn main(rt: HostRuntime) -> ExitCode {
 /// What the command line asks for. Threads are of `threads`.
 fn run<R: Threads + Wait + Sync>(rt: &HostRuntime, threads: &R) -> Result<Figures, Trouble> {
     let owned = words(rt)?;
-    let mut words = Vec::new(rt.alloc());
-    for word in &owned {
+    let words = borrowed(rt.alloc(), &owned)?;
+    measured(rt, threads, &words)
+}
+
+/// The words, borrowed.
+fn borrowed(alloc: Global, owned: &[String]) -> Result<Vec<&str>, Trouble> {
+    let mut words = Vec::new(alloc);
+    for word in owned {
         words.push(word.as_str())?;
     }
-    measured(rt, threads, &words)
+    Ok(words)
 }
 
 /// The words of the command line without the program's name.
@@ -99,47 +106,114 @@ fn measured<R: Threads + Wait + Sync>(
     }
 }
 
-/// What the words ask for, where that is one figure.
+/// What the words ask for, where that is one figure. The first word names the subject.
 fn figure(rt: &HostRuntime, words: &[&str]) -> Result<u64, Trouble> {
-    match words {
-        ["book", records, work, times] => book::done(
-            rt.alloc(),
-            number(records)?,
-            Work::from_name(work)?,
-            number(times)?,
-        ),
-        ["batches", piece, "large"] => batches::large(rt.alloc(), size(piece)?),
-        ["batches", piece, "small"] => batches::small(rt.alloc(), size(piece)?),
-        ["sessions", "first", records, piece] => {
-            sessions::first(rt.alloc(), number(records)?, size(piece)?)
-        }
-        ["sessions", "alone", records] => sessions::alone(rt.alloc(), number(records)?),
-        ["sessions", "update", records, events, times] => sessions::updates(
-            rt.alloc(),
-            number(records)?,
-            number(events)?,
-            number(times)?,
-        ),
-        ["sessions", "looks", records, times] => {
-            looks::looks(rt.alloc(), number(records)?, number(times)?)
-        }
-        ["sources", items, changes, quiet] => sources::swept(
-            rt.alloc(),
-            number(items)?,
-            number(changes)?,
-            number(quiet)?,
-        ),
-        ["lines", "items", count] => lines::items(rt, number(count)?),
-        ["lines", "digits", count] => lines::digits(rt, number(count)?),
-        ["cbor", "read"] => cbor::read(rt),
-        ["cbor", "write"] => cbor::write(rt),
-        ["cbor", "feed", piece] => cbor::feed(rt, size(piece)?),
-        ["links", "read"] => links::read(rt),
-        ["links", "check"] => links::check(rt),
-        ["tags", "read"] => tags::read(rt),
-        ["tags", "write"] => tags::write(rt),
+    let Some((subject, words)) = words.split_first() else {
+        return Err(Trouble::Words);
+    };
+    match *subject {
+        "book" => book_figure(rt.alloc(), words),
+        "batches" => batch_figure(rt.alloc(), words),
+        "sessions" => session_figure(rt.alloc(), words),
+        "sources" => source_figure(rt.alloc(), words),
+        "lines" => line_figure(rt, words),
+        "cbor" => cbor_figure(rt, words),
+        "links" => link_figure(rt, words),
+        "tags" => tag_figure(rt, words),
         _ => Err(Trouble::Words),
     }
+}
+
+fn book_figure(alloc: Global, words: &[&str]) -> Result<u64, Trouble> {
+    match words {
+        [records, work, times] => {
+            let (records, times) = two(records, times)?;
+            book::done(alloc, records, Work::from_name(work)?, times)
+        }
+        _ => Err(Trouble::Words),
+    }
+}
+
+fn batch_figure(alloc: Global, words: &[&str]) -> Result<u64, Trouble> {
+    match words {
+        [piece, "large"] => batches::large(alloc, size(piece)?),
+        [piece, "small"] => batches::small(alloc, size(piece)?),
+        _ => Err(Trouble::Words),
+    }
+}
+
+fn session_figure(alloc: Global, words: &[&str]) -> Result<u64, Trouble> {
+    match words {
+        ["alone", records] => sessions::alone(alloc, number(records)?),
+        [task, records, other] => session_of_two(alloc, task, records, other),
+        ["update", records, events, times] => {
+            let (records, events, times) = three(records, events, times)?;
+            sessions::updates(alloc, records, events, times)
+        }
+        _ => Err(Trouble::Words),
+    }
+}
+
+/// The figure of a task of sessions that has two numbers.
+fn session_of_two(alloc: Global, task: &str, records: &str, other: &str) -> Result<u64, Trouble> {
+    match task {
+        "first" => sessions::first(alloc, number(records)?, size(other)?),
+        "looks" => looks::looks(alloc, number(records)?, number(other)?),
+        _ => Err(Trouble::Words),
+    }
+}
+
+fn source_figure(alloc: Global, words: &[&str]) -> Result<u64, Trouble> {
+    match words {
+        [items, changes, quiet] => {
+            let (items, changes, quiet) = three(items, changes, quiet)?;
+            sources::swept(alloc, items, changes, quiet)
+        }
+        _ => Err(Trouble::Words),
+    }
+}
+
+fn line_figure(rt: &HostRuntime, words: &[&str]) -> Result<u64, Trouble> {
+    match words {
+        ["items", count] => lines::items(rt, number(count)?),
+        ["digits", count] => lines::digits(rt, number(count)?),
+        _ => Err(Trouble::Words),
+    }
+}
+
+fn cbor_figure(rt: &HostRuntime, words: &[&str]) -> Result<u64, Trouble> {
+    match words {
+        ["read"] => cbor::read(rt),
+        ["write"] => cbor::write(rt),
+        ["feed", piece] => cbor::feed(rt, size(piece)?),
+        _ => Err(Trouble::Words),
+    }
+}
+
+fn link_figure(rt: &HostRuntime, words: &[&str]) -> Result<u64, Trouble> {
+    match words {
+        ["read"] => links::read(rt),
+        ["check"] => links::check(rt),
+        _ => Err(Trouble::Words),
+    }
+}
+
+fn tag_figure(rt: &HostRuntime, words: &[&str]) -> Result<u64, Trouble> {
+    match words {
+        ["read"] => tags::read(rt),
+        ["write"] => tags::write(rt),
+        _ => Err(Trouble::Words),
+    }
+}
+
+/// The numbers that two words spell.
+fn two(first: &str, second: &str) -> Result<(u32, u32), Trouble> {
+    Ok((number(first)?, number(second)?))
+}
+
+/// The numbers that three words spell.
+fn three(first: &str, second: &str, third: &str) -> Result<(u32, u32, u32), Trouble> {
+    Ok((number(first)?, number(second)?, number(third)?))
 }
 
 /// The number that the word spells.

@@ -5,7 +5,7 @@ ghost use Rattle.std.specs.Bool.{OnTrue};
 ghost use Rattle.std.specs.Prelude.{◌<◌, ◌^◌};
 ghost use Rattle.swima_model.specs.Size.{report_count};
 
-use crate::book::{KEPT, alterations, book_of, latest};
+use crate::book::{alterations, full_book, latest};
 use crate::trouble::Trouble;
 use collector_core::{Answer, Book};
 use collector_session::ServeCore;
@@ -43,23 +43,42 @@ pub(crate) fn first(alloc: Global, records: u32, size: usize) -> Result<u64, Tro
     requires some { 0 < size }
 {
     let mut book = full_book(alloc, records)?;
+    first_over(alloc, &mut book, size)
+}
+
+/// The first session over a book.
+fn first_over(alloc: Global, book: &mut Book, size: usize) -> Result<u64, Trouble>
+    requires some { 0 < size }
+{
     let mut mirror = Mirror::new(alloc, Kind::Full);
-    exchange(alloc, &mut book, &mut mirror, size)?;
+    exchange(alloc, book, &mut mirror, size)?;
     Ok(u64::from(mirror.count()))
 }
 
 /// The inventory of a book of that many records, and the mirror that takes it.
 pub(crate) fn alone(alloc: Global, records: u32) -> Result<u64, Trouble> {
     let book = full_book(alloc, records)?;
-    let mut mirror = Mirror::new(alloc, Kind::Full);
-    match book.answer(&latest(alloc, 0), MOST) {
-        Answer::Report(report) if is_countable(&report) => {
-            mirror.take_owned(report);
-            Ok(u64::from(mirror.count()))
-        }
+    match inventory(alloc, &book) {
+        Answer::Report(report) => mirrored(alloc, report),
+        Answer::TooLarge { .. } => Err(Trouble::Book),
         Answer::Memory => Err(Trouble::Memory),
-        _ => Err(Trouble::Book),
     }
+}
+
+/// The inventory of a book.
+fn inventory(alloc: Global, book: &Book) -> Answer {
+    let request = latest(alloc, 0);
+    book.answer(&request, MOST)
+}
+
+/// How many records a mirror has that takes a report.
+fn mirrored(alloc: Global, report: Report) -> Result<u64, Trouble> {
+    if !is_countable(&report) {
+        return Err(Trouble::Book);
+    }
+    let mut mirror = Mirror::new(alloc, Kind::Full);
+    mirror.take_owned(report);
+    Ok(u64::from(mirror.count()))
 }
 
 /// Whether the records or events of a report are fewer than 2^32.
@@ -83,20 +102,24 @@ pub(crate) fn updates(
     let mut book = full_book(alloc, records)?;
     let mut mirror = Mirror::new(alloc, Kind::Full);
     exchange(alloc, &mut book, &mut mirror, usize::MAX)?;
+    update(alloc, &mut book, &mut mirror, events, times)
+}
+
+/// That many sessions, each after `events` alterations. It gives how many sessions there were.
+fn update(
+    alloc: Global,
+    book: &mut Book,
+    mirror: &mut Mirror,
+    events: u32,
+    times: u32,
+) -> Result<u64, Trouble> {
     let mut done: u64 = 0;
     for _ in 0..times {
-        alterations(alloc, &mut book, events)?;
-        exchange(alloc, &mut book, &mut mirror, usize::MAX)?;
+        alterations(alloc, book, events)?;
+        exchange(alloc, book, mirror, usize::MAX)?;
         done = done.saturating_add(1);
     }
     Ok(done)
-}
-
-/// A book of that many records whose log is full.
-pub(crate) fn full_book(alloc: Global, records: u32) -> Result<Book, Trouble> {
-    let mut book = book_of(alloc, records, KEPT)?;
-    alterations(alloc, &mut book, KEPT)?;
-    Ok(book)
 }
 
 /// A session of one round, in pieces of `size` octets.

@@ -4,7 +4,7 @@
 
 ghost use Rattle.std.specs.Prelude.{◌≡◌, ◌≤◌, true};
 
-use crate::book::{KEPT, STAMP, alterations, answers, book_of, content, count_of, latest};
+use crate::book::{KEPT, STAMP, alterations, book_of, content, count_of, latest, latest_answers};
 use crate::trouble::Trouble;
 use book_lock::{Pass, Shelf};
 use collector_core::{Book, Edit};
@@ -83,13 +83,19 @@ pub(crate) fn done<R: Threads + Wait + Sync>(
 /// Does a task that many times on a book alone.
 fn alone(alloc: Global, task: Task, times: u32) -> Result<u64, Trouble> {
     let mut book = small_book(alloc, task)?;
-    let request = latest(alloc, task.earliest());
+    alone_on(alloc, &mut book, task, times)
+}
+
+/// Does a task that many times on a book.
+fn alone_on(alloc: Global, book: &mut Book, task: Task, times: u32) -> Result<u64, Trouble> {
+    let earliest = task.earliest();
     match task {
-        Task::Change => alterations(alloc, &mut book, times),
-        Task::Read => answers(&book, &request, times),
+        Task::Change => alterations(alloc, book, times),
+        Task::Read => latest_answers(alloc, book, earliest, times),
         Task::Both => {
-            let changed = alterations(alloc, &mut book, times)?;
-            Ok(changed.saturating_add(answers(&book, &request, times)?))
+            let changed = alterations(alloc, book, times)?;
+            let read = latest_answers(alloc, book, earliest, times)?;
+            Ok(changed.saturating_add(read))
         }
         Task::Events => Err(Trouble::Words),
     }
@@ -186,9 +192,25 @@ fn work<R: Wait>(
 {
     let other = content(alloc, &[0; 65])?;
     let mut request = latest(alloc, task.earliest());
+    repeat(wait, shelf, &mut pass, task, &other, &mut request, times)
+}
+
+/// Does a task that many times, and gives how many changes and events that were.
+fn repeat<R: Wait>(
+    wait: &R,
+    shelf: &Shelf,
+    pass: &mut Pass,
+    task: Task,
+    other: &Content,
+    request: &mut Request,
+    times: u32,
+) -> Result<u64, Trouble>
+    requires here { pass.old.shelf ≡ shelf.now }
+    requires may { pass.old.may_change ≡ true }
+{
     let mut done: u64 = 0;
     for _ in 0..times {
-        let more = once(wait, shelf, &mut pass, task, &other, &mut request)?;
+        let more = once(wait, shelf, pass, task, other, request)?;
         done = done.saturating_add(more);
     }
     Ok(done)

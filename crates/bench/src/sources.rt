@@ -6,7 +6,7 @@ use collector_core::Book;
 use source_set::{SourceSet, TagSource, Told};
 use std::alloc::Global;
 use swima_model::{Body, Content, Ident, Locator, Model};
-use wire_base::{Memory, is_stamp};
+use wire_base::is_stamp;
 
 /// How many events the book keeps.
 const KEPT: usize = 4096;
@@ -29,7 +29,7 @@ impl TagSource for Counted {
     ghost faults = { λ source. 0 };
 
     fn next(&mut self) -> Told {
-        let Ok(content) = content(self.alloc) else {
+        let Some(content) = content(self.alloc) else {
             return Told::Memory;
         };
         let key = self.next;
@@ -49,38 +49,42 @@ impl TagSource for Counted {
     }
 }
 
-/// What each item says.
-fn content(alloc: Global) -> Result<Content, Memory> {
-    Ok(Content {
+/// What each item says; `None` where memory ran out.
+fn content(alloc: Global) -> Option<Content> {
+    let ident = Ident::new(alloc, b"example.org__abc").ok()?;
+    Some(Content {
         model: Model { pen: 0, kind: 2 },
         source: 0,
-        ident: Ident::new(alloc, b"example.org__abc").map_err(|_| Memory)?,
+        ident,
         locator: Locator::empty(alloc),
-        body: Body::new(alloc, &BODY).map_err(|_| Memory)?,
+        body: Body::new(alloc, &BODY).ok()?,
     })
 }
 
 /// Sweeps that add that many items and change that many, and then that many quiet ones. It gives the
 /// number of items that were done.
 pub(crate) fn swept(alloc: Global, adds: u32, changes: u32, quiet: u32) -> Result<u64, Trouble> {
-    let mut boxes: Vec<Box<dyn TagSource + Send>> = Vec::new(alloc);
-    boxes.push(Box::new(
+    let source = Counted {
         alloc,
-        Counted {
-            alloc,
-            adds,
-            changes,
-            next: 0,
-        },
-    )?)?;
+        adds,
+        changes,
+        next: 0,
+    };
+    let mut boxes: Vec<Box<dyn TagSource + Send>> = Vec::new(alloc);
+    boxes.push(Box::new(alloc, source)?)?;
     let mut set = SourceSet::new(alloc, boxes)?;
     let mut book = Book::new(alloc, 1, KEPT, &[])?;
     let sweeps = (adds / 1024)
         .saturating_add(changes / 1024)
         .saturating_add(2);
+    sweep(&mut set, &mut book, sweeps.saturating_add(quiet))
+}
+
+/// That many sweeps. It gives the number of items that were done.
+fn sweep(set: &mut SourceSet, book: &mut Book, times: u32) -> Result<u64, Trouble> {
     let mut done: u64 = 0;
-    for _ in 0..sweeps.saturating_add(quiet) {
-        done = done.saturating_add(once(&mut set, &mut book)?);
+    for _ in 0..times {
+        done = done.saturating_add(once(set, book)?);
     }
     Ok(done)
 }

@@ -1,8 +1,6 @@
 //! A book, its changes, and what it answers.
 
-ghost use Rattle.std.specs.Prelude.{IfSome};
-ghost use Rattle.collector_core.specs.Edits.{IsStamped};
-ghost use Rattle.wire_base.specs.Stamp.{IsStamp};
+ghost use Rattle.std.specs.Prelude.{◌≤◌};
 
 use collector_core::{Answer, Book, BookError, Changed, Edit};
 use conformance_words::{kind_of, record_text, report_text, word_list};
@@ -45,17 +43,32 @@ fn begin(alloc: Global, book: &mut Book, words: &str) -> Option<String> {
     if epoch == 0 || room == 0 || room > 4096 {
         return None;
     }
-    let base = contents_of(alloc, words.next()?)?;
-    *book = Book::new(alloc, epoch, room, base.as_slice()).ok()?;
+    *book = new_book(alloc, epoch, room, words.next()?)?;
     state_text(alloc, book)
 }
 
+/// A book of these contents at an epoch, which keeps that many events.
+fn new_book(alloc: Global, epoch: u32, room: usize, list: &str) -> Option<Book>
+    requires epoch { 1 ≤ epoch }
+    requires some { 1 ≤ room }
+    requires few { room ≤ 4096 }
+{
+    let base = contents_of(alloc, list)?;
+    Book::new(alloc, epoch, room, base.as_slice()).ok()
+}
+
 fn contents_of(alloc: Global, list: &str) -> Option<Vec<Content>> {
+    let words = word_list(alloc, list)?;
     let mut contents = Vec::new(alloc);
-    for word in word_list(alloc, list)?.as_slice() {
+    push_contents(alloc, &mut contents, &words)?;
+    Some(contents)
+}
+
+fn push_contents(alloc: Global, contents: &mut Vec<Content>, words: &[&str]) -> Option<()> {
+    for word in words {
         contents.push(content_of(alloc, word)?).ok()?;
     }
-    Some(contents)
+    Some(())
 }
 
 /// The content of a word, from source 3.
@@ -65,81 +78,116 @@ fn content_of(alloc: Global, word: &str) -> Option<Content> {
     if octets > MOST {
         return None;
     }
-    let mut body = Vec::new(alloc);
-    body.resize(octets, 0).ok()?;
+    let ident = Ident::new(alloc, ident.as_bytes()).ok()?;
     Some(Content {
         model: Model { pen: 0, kind: 2 },
         source: 3,
-        ident: Ident::new(alloc, ident.as_bytes()).ok()?,
+        ident,
         locator: Locator::empty(alloc),
-        body: Body::new(alloc, body.as_slice()).ok()?,
+        body: zeros(alloc, octets)?,
     })
+}
+
+/// A body of that many octets.
+fn zeros(alloc: Global, octets: usize) -> Option<Body> {
+    let mut body = Vec::new(alloc);
+    body.resize(octets, 0).ok()?;
+    Body::new(alloc, body.as_slice()).ok()
 }
 
 /// Makes a change by the call of its name.
 pub fn change(alloc: Global, book: &mut Book, word: &str, rest: &str) -> Option<String> {
-    if !is_stamp(&STAMP) {
-        return None;
-    }
     match word {
-        "create" => match book.create(&STAMP, &content_of(alloc, rest)?) {
-            Ok(id) => {
-                let state = state_text(alloc, book)?;
-                format!(in alloc; "record {id}; {state}").ok()
-            }
-            Err(error) => error_text(alloc, error, book),
-        },
-        "alter" => {
-            let (id, content) = rest.split_once(' ')?;
-            let content = content_of(alloc, content)?;
-            done_text(alloc, book.alter(&STAMP, id.parse().ok()?, &content), book)
-        }
-        "delete" => done_text(alloc, book.delete(&STAMP, rest.parse().ok()?), book),
+        "create" => created_text(alloc, create(alloc, book, rest)?, book),
+        "alter" => done_text(alloc, alter(alloc, book, rest)?, book),
+        "delete" => done_text(alloc, delete(book, rest.parse().ok()?)?, book),
         "epoch" => done_text(alloc, book.begin_epoch(rest.parse().ok()?), book),
         "trim" => done_text(alloc, book.trim(rest.parse().ok()?), book),
         _ => None,
     }
 }
 
+fn create(alloc: Global, book: &mut Book, word: &str) -> Option<Result<u32, BookError>> {
+    if !is_stamp(&STAMP) {
+        return None;
+    }
+    let content = content_of(alloc, word)?;
+    Some(book.create(&STAMP, &content))
+}
+
+fn alter(alloc: Global, book: &mut Book, words: &str) -> Option<Result<(), BookError>> {
+    if !is_stamp(&STAMP) {
+        return None;
+    }
+    let (id, word) = words.split_once(' ')?;
+    let id: u32 = id.parse().ok()?;
+    let content = content_of(alloc, word)?;
+    Some(book.alter(&STAMP, id, &content))
+}
+
+fn delete(book: &mut Book, id: u32) -> Option<Result<(), BookError>> {
+    if !is_stamp(&STAMP) {
+        return None;
+    }
+    Some(book.delete(&STAMP, id))
+}
+
 /// Makes a change that is a value.
 fn edit(alloc: Global, book: &mut Book, words: &str) -> Option<String> {
     let (word, rest) = words.split_once(' ')?;
-    let stamp = &STAMP;
-    if !is_stamp(stamp) {
-        return None;
-    }
     let changed = match word {
-        "create" => {
-            let content = content_of(alloc, rest)?;
-            book.apply(Edit::Create {
-                stamp,
-                content: &content,
-            })
-        }
-        "alter" => {
-            let (id, content) = rest.split_once(' ')?;
-            let content = content_of(alloc, content)?;
-            let id: u32 = id.parse().ok()?;
-            book.apply(Edit::Alter {
-                stamp,
-                id,
-                content: &content,
-            })
-        }
-        word => book.apply(short_edit(stamp, word, rest.parse().ok()?)?),
+        "create" => apply_creation(alloc, book, rest)?,
+        "alter" => apply_alteration(alloc, book, rest)?,
+        word => apply_short(book, word, rest.parse().ok()?)?,
     };
     changed_text(alloc, changed, book)
 }
 
-/// A change that has no content.
-fn short_edit<'a>(stamp: &'a [u8; 20], word: &str, number: u32) -> Option<Edit<'a>>
-    requires stamp { IsStamp stamp.now }
-    ensures stamped { IfSome result IsStamped }
-{
+fn apply_creation(
+    alloc: Global,
+    book: &mut Book,
+    word: &str,
+) -> Option<Result<Changed, BookError>> {
+    let stamp = &STAMP;
+    if !is_stamp(stamp) {
+        return None;
+    }
+    let content = content_of(alloc, word)?;
+    Some(book.apply(Edit::Create {
+        stamp,
+        content: &content,
+    }))
+}
+
+fn apply_alteration(
+    alloc: Global,
+    book: &mut Book,
+    words: &str,
+) -> Option<Result<Changed, BookError>> {
+    let stamp = &STAMP;
+    if !is_stamp(stamp) {
+        return None;
+    }
+    let (id, word) = words.split_once(' ')?;
+    let id: u32 = id.parse().ok()?;
+    let content = content_of(alloc, word)?;
+    Some(book.apply(Edit::Alter {
+        stamp,
+        id,
+        content: &content,
+    }))
+}
+
+/// Makes a change that has no content.
+fn apply_short(book: &mut Book, word: &str, number: u32) -> Option<Result<Changed, BookError>> {
+    let stamp = &STAMP;
+    if !is_stamp(stamp) {
+        return None;
+    }
     match word {
-        "delete" => Some(Edit::Delete { stamp, id: number }),
-        "epoch" => Some(Edit::BeginEpoch { epoch: number }),
-        "trim" => Some(Edit::Trim { first: number }),
+        "delete" => Some(book.apply(Edit::Delete { stamp, id: number })),
+        "epoch" => Some(book.apply(Edit::BeginEpoch { epoch: number })),
+        "trim" => Some(book.apply(Edit::Trim { first: number })),
         _ => None,
     }
 }
@@ -170,6 +218,16 @@ fn error_text(alloc: Global, error: BookError, book: &Book) -> Option<String> {
     format!(in alloc; "{error}; {state}").ok()
 }
 
+fn created_text(alloc: Global, created: Result<u32, BookError>, book: &Book) -> Option<String> {
+    match created {
+        Ok(id) => {
+            let state = state_text(alloc, book)?;
+            format!(in alloc; "record {id}; {state}").ok()
+        }
+        Err(error) => error_text(alloc, error, book),
+    }
+}
+
 /// The point of the book, the first event that it keeps, and how many records are live.
 fn state_text(alloc: Global, book: &Book) -> Option<String> {
     let Point { epoch, eid } = book.point();
@@ -197,30 +255,47 @@ fn moved(alloc: Global, book: &Book, words: &str) -> Option<String> {
 
 /// The software identifiers between commas; a `-` is none. An identifier may be empty.
 fn idents_of(alloc: Global, list: &str) -> Option<Idents> {
+    let words = word_list(alloc, list)?;
     let mut idents = List::new(alloc);
-    for word in word_list(alloc, list)?.as_slice() {
-        idents.push(Ident::new(alloc, word.as_bytes()).ok()?).ok()?;
-    }
+    push_idents(alloc, &mut idents, &words)?;
     Some(idents)
 }
 
+fn push_idents(alloc: Global, idents: &mut Idents, words: &[&str]) -> Option<()> {
+    for word in words {
+        idents.push(Ident::new(alloc, word.as_bytes()).ok()?).ok()?;
+    }
+    Some(())
+}
+
 fn ask(alloc: Global, book: &Book, words: &str) -> Option<String> {
+    let answer = answered(alloc, book, words)?;
+    match &answer {
+        Answer::Report(report) => report_text(alloc, report),
+        Answer::TooLarge { size, max } => large_text(alloc, *size, *max),
+        Answer::Memory => None,
+    }
+}
+
+fn large_text(alloc: Global, size: u64, max: u32) -> Option<String> {
+    format!(in alloc; "too large {size} {max}").ok()
+}
+
+/// The answer to the request of these words.
+fn answered(alloc: Global, book: &Book, words: &str) -> Option<Answer> {
     let mut words = words.split(' ');
     let kind = kind_of(words.next()?)?;
     let id: u32 = words.next()?.parse().ok()?;
     let earliest: u32 = words.next()?.parse().ok()?;
     let most: u32 = words.next()?.parse().ok()?;
+    let targets = idents_of(alloc, words.next()?)?;
     let request = Request {
         clear: false,
         subscribe: false,
         kind,
         id,
         earliest,
-        targets: idents_of(alloc, words.next()?)?,
+        targets,
     };
-    match book.answer(&request, most) {
-        Answer::Report(report) => report_text(alloc, &report),
-        Answer::TooLarge { size, max } => format!(in alloc; "too large {size} {max}").ok(),
-        Answer::Memory => None,
-    }
+    Some(book.answer(&request, most))
 }

@@ -41,17 +41,23 @@ fn step_of(alloc: Global, log: &mut EventLog, word: &str, number: u32) -> Option
 
 /// Pushes the next event.
 fn push(alloc: Global, log: &mut EventLog) -> Option<String> {
+    let dropped = push_next(alloc, log)?;
+    let state = state_text(alloc, log)?;
+    match dropped {
+        None => Some(state),
+        Some(eid) => format!(in alloc; "dropped {eid}; {state}").ok(),
+    }
+}
+
+/// Pushes the next event, and gives the one that was dropped for it. `None` where there is no next.
+fn push_next(alloc: Global, log: &mut EventLog) -> Option<Option<u32>> {
     let last = log.last();
     if last == u32::MAX {
         return None;
     }
     match log.push(event(alloc, last + 1)) {
-        None => state_text(alloc, log),
-        Some(oldest) => {
-            let eid = oldest.eid;
-            let state = state_text(alloc, log)?;
-            format!(in alloc; "dropped {eid}; {state}").ok()
-        }
+        None => Some(None),
+        Some(oldest) => Some(Some(oldest.eid)),
     }
 }
 
@@ -77,11 +83,17 @@ fn event(alloc: Global, eid: u32) -> Event
 fn state_text(alloc: Global, log: &EventLog) -> Option<String> {
     let (first, last) = (log.first(), log.last());
     let mut out = format!(in alloc; "first {first}, last {last}, kept").ok()?;
+    push_kept(alloc, &mut out, log)?;
+    Some(out)
+}
+
+/// The events below 9 that are kept.
+fn push_kept(alloc: Global, out: &mut String, log: &EventLog) -> Option<()> {
     for eid in 0..9 {
         if let Some(event) = log.get(eid) {
             let kept = event.eid;
-            push_text(&mut out, format!(in alloc; " {kept}").ok())?;
+            push_text(out, format!(in alloc; " {kept}").ok())?;
         }
     }
-    Some(out)
+    Some(())
 }

@@ -3,7 +3,8 @@
 use conformance_words::{action_of, kind_of, kind_word, push_text, word_list};
 use std::alloc::Global;
 use swima_model::{
-    Action, Body, Content, Event, Events, Ident, Locator, Model, Point, Record, Records, Report,
+    Action, Body, Content, Event, Events, Ident, Kind, Locator, Model, Point, Record, Records,
+    Report,
 };
 use validator_core::{Mirror, Taken, Want};
 use wire_base::List;
@@ -21,17 +22,20 @@ const MOST: usize = 100;
 pub fn step(alloc: Global, mirror: &mut Mirror, words: &str) -> Option<String> {
     let (word, rest) = words.split_once(' ')?;
     match word {
-        "new" => {
-            *mirror = Mirror::new(alloc, kind_of(rest)?);
-            let kind = kind_word(mirror.kind());
-            let state = state_text(alloc, mirror)?;
-            format!(in alloc; "{kind}; {state}").ok()
-        }
+        "new" => begin(alloc, mirror, kind_of(rest)?),
         "inventory" => inventory(alloc, mirror, rest),
         "events" => events(alloc, mirror, rest),
         "source" => source(alloc, mirror, rest.parse().ok()?),
         _ => None,
     }
+}
+
+/// Begins a mirror anew.
+fn begin(alloc: Global, mirror: &mut Mirror, kind: Kind) -> Option<String> {
+    *mirror = Mirror::new(alloc, kind);
+    let kind = kind_word(mirror.kind());
+    let state = state_text(alloc, mirror)?;
+    format!(in alloc; "{kind}; {state}").ok()
 }
 
 /// Takes an inventory of records.
@@ -92,19 +96,31 @@ fn point_of(epoch: &str, eid: &str) -> Option<Point> {
 
 /// Records, from the source 0 unless they say another.
 fn records_of(alloc: Global, list: &str) -> Option<Records> {
+    let words = word_list(alloc, list)?;
     let mut records = List::new(alloc);
-    for word in word_list(alloc, list)?.as_slice() {
-        records.push(record_of(alloc, word, 0)?).ok()?;
-    }
+    push_records(alloc, &mut records, &words)?;
     Some(records)
 }
 
+fn push_records(alloc: Global, records: &mut Records, words: &[&str]) -> Option<()> {
+    for word in words {
+        records.push(record_of(alloc, word, 0)?).ok()?;
+    }
+    Some(())
+}
+
 fn events_of(alloc: Global, list: &str) -> Option<Events> {
+    let words = word_list(alloc, list)?;
     let mut events = List::new(alloc);
-    for word in word_list(alloc, list)?.as_slice() {
+    push_events(alloc, &mut events, &words)?;
+    Some(events)
+}
+
+fn push_events(alloc: Global, events: &mut Events, words: &[&str]) -> Option<()> {
+    for word in words {
         events.push(event_of(alloc, word)?).ok()?;
     }
-    Some(events)
+    Some(())
 }
 
 /// The event of a word. Its record has the event identifier as its source, and that of a deletion
@@ -137,16 +153,23 @@ fn record_of(alloc: Global, word: &str, source: u8) -> Option<Record> {
         locator: Locator::empty(alloc),
         body: Body::empty(alloc),
     };
-    for part in parts {
-        content = with_part(alloc, content, part)?;
-    }
+    set_parts(alloc, &mut content, word)?;
     Some(Record { id, content })
 }
 
-/// The content with what a part of a word says.
-fn with_part(alloc: Global, content: Content, part: &str) -> Option<Content> {
+/// Sets what the parts of a word after the first say.
+fn set_parts(alloc: Global, content: &mut Content, word: &str) -> Option<()> {
+    let mut parts = word.split('+');
+    parts.next()?;
+    for part in parts {
+        set_part(alloc, content, part)?;
+    }
+    Some(())
+}
+
+/// Sets what a part of a word says.
+fn set_part(alloc: Global, content: &mut Content, part: &str) -> Option<()> {
     let (field, text) = part.split_at_checked(1)?;
-    let mut content = content;
     match field {
         "s" => content.source = text.parse().ok()?,
         "p" => content.model = model_of(text.parse().ok()?, content.model.kind)?,
@@ -156,7 +179,7 @@ fn with_part(alloc: Global, content: Content, part: &str) -> Option<Content> {
         "b" => content.body = Body::new(alloc, text.as_bytes()).ok()?,
         _ => return None,
     }
-    Some(content)
+    Some(())
 }
 
 /// The data model of two numbers, where the first is below 2^24.
@@ -197,20 +220,31 @@ pub fn taken_text(alloc: Global, taken: Taken) -> Option<String> {
 /// The point of the mirror, the identifiers of its records, whether its mark is set, and what it
 /// wants.
 pub fn state_text(alloc: Global, mirror: &Mirror) -> Option<String> {
-    let mut out = match mirror.point() {
-        None => String::from_str(alloc, "no point; records").ok()?,
-        Some(Point { epoch, eid }) => format!(in alloc; "point {epoch} {eid}; records").ok()?,
-    };
-    push_ids(alloc, &mut out, mirror)?;
+    let mut out = point_text(alloc, mirror.point())?;
+    push_state(alloc, &mut out, mirror)?;
+    Some(out)
+}
+
+fn point_text(alloc: Global, point: Option<Point>) -> Option<String> {
+    match point {
+        None => String::from_str(alloc, "no point; records").ok(),
+        Some(Point { epoch, eid }) => format!(in alloc; "point {epoch} {eid}; records").ok(),
+    }
+}
+
+fn push_state(alloc: Global, out: &mut String, mirror: &Mirror) -> Option<()> {
+    push_ids(alloc, out, mirror)?;
     out.push_str(if mirror.off() { "; marked" } else { "" })
         .ok()?;
-    let want = match mirror.want() {
-        Want::Full => String::from_str(alloc, "; wants an inventory").ok()?,
-        Want::EventsFrom(eid) => format!(in alloc; "; wants events from {eid}").ok()?,
-        Want::Spent => String::from_str(alloc, "; wants nothing").ok()?,
-    };
-    out.push_str(want.as_str()).ok()?;
-    Some(out)
+    push_text(out, want_text(alloc, mirror.want()))
+}
+
+fn want_text(alloc: Global, want: Want) -> Option<String> {
+    match want {
+        Want::Full => String::from_str(alloc, "; wants an inventory").ok(),
+        Want::EventsFrom(eid) => format!(in alloc; "; wants events from {eid}").ok(),
+        Want::Spent => String::from_str(alloc, "; wants nothing").ok(),
+    }
 }
 
 fn push_ids(alloc: Global, out: &mut String, mirror: &Mirror) -> Option<()> {

@@ -1,6 +1,6 @@
 //! How many records, octets and events a book may have.
 
-use crate::books::{STAMP, content, create, is_at};
+use crate::books::{STAMP, alter, content, create, is_at};
 use collector_core::{Book, BookError};
 use std::alloc::Global;
 use swima_model::Content;
@@ -10,10 +10,16 @@ use wire_base::{TryCopy, is_stamp};
 fn contents(alloc: Global, count: usize, octets: usize) -> Option<Vec<Content>> {
     let one = content(alloc, b"", octets)?;
     let mut contents = Vec::with_capacity(alloc, count).ok()?;
+    push_copies(&mut contents, &one, count)?;
+    Some(contents)
+}
+
+/// Pushes that many copies of a content.
+fn push_copies(contents: &mut Vec<Content>, one: &Content, count: usize) -> Option<()> {
     for _ in 0..count {
         contents.push(one.copy().ok()?).ok()?;
     }
-    Some(contents)
+    Some(())
 }
 
 /// A book of that many contents, each with that many octets of a body.
@@ -26,28 +32,30 @@ fn book_of(alloc: Global, count: usize, octets: usize) -> Option<Book> {
 /// identifier `a`.
 fn base_refused(alloc: Global, count: usize, octets: usize) -> Option<BookError> {
     let mut base = contents(alloc, count, octets)?;
-    base.push(content(alloc, b"a", 0)?).ok()?;
-    match Book::new(alloc, 1, 4, base.as_slice()) {
-        Ok(_) => None,
-        Err(error) => Some(error),
-    }
+    push_a(alloc, &mut base)?;
+    Book::new(alloc, 1, 4, base.as_slice()).err()
+}
+
+/// Pushes a content of the identifier `a`.
+fn push_a(alloc: Global, contents: &mut Vec<Content>) -> Option<()> {
+    contents.push(content(alloc, b"a", 0)?).ok()
 }
 
 /// Why a book does not create a record of the identifier `a`, without a body.
 fn creation_refused(alloc: Global, book: &mut Book) -> Option<BookError> {
-    let one = content(alloc, b"a", 0)?;
     if !is_stamp(&STAMP) {
         return None;
     }
+    let one = content(alloc, b"a", 0)?;
     book.create(&STAMP, &one).err()
 }
 
 /// Why record 1 of a book does not get the identifier `a` and that many octets of a body.
 fn alteration_refused(alloc: Global, book: &mut Book, octets: usize) -> Option<BookError> {
-    let other = content(alloc, b"a", octets)?;
     if !is_stamp(&STAMP) {
         return None;
     }
+    let other = content(alloc, b"a", octets)?;
     book.alter(&STAMP, 1, &other).err()
 }
 
@@ -69,9 +77,14 @@ fn a_book_has_so_many_records(rt: HostRuntime) {
 /// one more, and whether it is as it was.
 fn of_most_octets(alloc: Global) -> Option<(BookError, BookError, bool)> {
     let mut book = book_of(alloc, 256, 1_048_576)?;
-    let more = creation_refused(alloc, &mut book)?;
-    let longer = alteration_refused(alloc, &mut book, 1_048_576)?;
-    Some((more, longer, is_at(&book, 0, 1, 256)))
+    refuses_octets(alloc, &mut book)
+}
+
+/// What `of_most_octets` answers for its book.
+fn refuses_octets(alloc: Global, book: &mut Book) -> Option<(BookError, BookError, bool)> {
+    let more = creation_refused(alloc, book)?;
+    let longer = alteration_refused(alloc, book, 1_048_576)?;
+    Some((more, longer, is_at(book, 0, 1, 256)))
 }
 
 #[test]
@@ -99,11 +112,13 @@ fn a_base_has_so_many_octets(rt: HostRuntime) {
 /// Alters record 1 that many times.
 fn alter_times(alloc: Global, book: &mut Book, times: u32) -> Option<()> {
     let other = content(alloc, b"b", 0)?;
+    alter_to(book, &other, times)
+}
+
+/// Alters record 1 that many times, to one content.
+fn alter_to(book: &mut Book, content: &Content, times: u32) -> Option<()> {
     for _ in 0..times {
-        if !is_stamp(&STAMP) {
-            return None;
-        }
-        book.alter(&STAMP, 1, &other).ok()?;
+        alter(book, 1, content)?;
     }
     Some(())
 }
@@ -111,11 +126,16 @@ fn alter_times(alloc: Global, book: &mut Book, times: u32) -> Option<()> {
 /// Whether a book that keeps 4096 events keeps the first that many, and then the last.
 fn keeps_4096_events(alloc: Global) -> Option<bool> {
     let mut book = Book::new(alloc, 1, 4096, &[]).ok()?;
-    create(alloc, &mut book, b"a")?;
-    alter_times(alloc, &mut book, 4095)?;
-    let all = is_at(&book, 4096, 1, 1);
-    alter_times(alloc, &mut book, 4)?;
-    Some(all & is_at(&book, 4100, 5, 1))
+    fills_and_passes(alloc, &mut book)
+}
+
+/// What `keeps_4096_events` answers for its book.
+fn fills_and_passes(alloc: Global, book: &mut Book) -> Option<bool> {
+    create(alloc, book, b"a")?;
+    alter_times(alloc, book, 4095)?;
+    let all = is_at(book, 4096, 1, 1);
+    alter_times(alloc, book, 4)?;
+    Some(all & is_at(book, 4100, 5, 1))
 }
 
 #[test]

@@ -3,10 +3,10 @@
 ghost use Rattle.std.specs.Prelude.{◌≡◌, true};
 ghost use Rattle.wire_base.specs.Stamp.{IsStamp};
 
-use crate::books::{STAMP, content, six_created};
+use crate::books::{STAMP, content, created, request, six_created};
 use collector_core::{Answer, Book, BookError, Desk, answers_in_turn};
 use std::alloc::Global;
-use swima_model::{Content, Kind, Point};
+use swima_model::{Content, Point};
 use swima_request::{Idents, Request};
 use wire_base::{List, is_stamp};
 
@@ -54,27 +54,44 @@ fn has_ident(book: &Book, id: u32, ident: &[u8]) -> bool {
 
 /// Whether a desk gives a record its identifier, and then another content.
 fn creates_and_alters(alloc: Global) -> Option<bool> {
-    let mut book = Book::new(alloc, 1, 4, &[]).ok()?;
-    let one = content(alloc, b"a", 3)?;
-    let other = content(alloc, b"b", 0)?;
+    let mut book = created(alloc, &[])?;
+    let first = creates(alloc, &mut book) == Some(true);
+    let altered = alters(alloc, &mut book) == Some(true);
+    Some(first & altered & has_ident(&book, 1, b"b"))
+}
+
+/// Whether a new record gets the identifier 1.
+fn creates(alloc: Global, book: &mut Book) -> Option<bool> {
     if !is_stamp(&STAMP) {
         return None;
     }
-    let created = create_at(&mut book, &STAMP, &one) == Ok(1);
-    let altered = alter_at(&mut book, &STAMP, 1, &other) == Ok(());
-    Some(created & altered & has_ident(&book, 1, b"b"))
+    let one = content(alloc, b"a", 3)?;
+    Some(matches!(create_at(book, &STAMP, &one), Ok(1)))
+}
+
+/// Whether record 1 gets another content.
+fn alters(alloc: Global, book: &mut Book) -> Option<bool> {
+    if !is_stamp(&STAMP) {
+        return None;
+    }
+    let other = content(alloc, b"b", 0)?;
+    Some(alter_at(book, &STAMP, 1, &other).is_ok())
 }
 
 /// Whether a desk deletes a record once.
 fn deletes(alloc: Global) -> Option<bool> {
     let mut book = six_created(alloc)?;
+    Some(deletes_2_once(&mut book) & (book.count() == 5))
+}
+
+/// Whether a desk deletes record 2, and refuses to delete it again.
+fn deletes_2_once(book: &mut Book) -> bool {
     if !is_stamp(&STAMP) {
-        return None;
+        return false;
     }
-    let deleted = delete_at(&mut book, &STAMP, 2) == Ok(());
-    let unknown = Err(BookError::UnknownRecord { id: 2 });
-    let again = delete_at(&mut book, &STAMP, 2) == unknown;
-    Some(deleted & again & (book.count() == 5))
+    let deleted = delete_at(book, &STAMP, 2).is_ok();
+    let again = delete_at(book, &STAMP, 2);
+    deleted & matches!(again, Err(BookError::UnknownRecord { id: 2 }))
 }
 
 #[test]
@@ -100,27 +117,28 @@ fn a_desk_has_a_point(rt: HostRuntime) {
     assert!(rt; has_its_point(rt.alloc()) == Some(true));
 }
 
-/// The size of a report that is too large, and the most that it may have.
-fn too_large(answer: Answer) -> Option<(u64, u32)> {
+/// Whether a report is too large: it has that many octets, and may have that many.
+fn is_too_large(answer: &Answer, size: u64, max: u32) -> bool {
     match answer {
-        Answer::TooLarge { size, max } => Some((size, max)),
-        _ => None,
+        Answer::TooLarge {
+            size: has,
+            max: most,
+        } => (*has, *most) == (size, max),
+        _ => false,
     }
 }
 
 /// Whether two answers to a request for the last event are that it has 68 octets, and not 67.
 fn answers_twice(alloc: Global) -> Option<bool> {
     let mut book = six_created(alloc)?;
-    let request = Request {
-        clear: false,
-        subscribe: false,
-        kind: Kind::Full,
-        id: 5,
-        earliest: 6,
-        targets: List::new(alloc),
-    };
-    let (first, second) = answers_in_turn(&mut book, &request, &request, 67);
-    Some((too_large(first) == Some((68, 67))) & (too_large(second) == Some((68, 67))))
+    let request = request(6, List::new(alloc));
+    Some(answers_too_large_twice(&mut book, &request))
+}
+
+/// Whether both answers to a request are that 68 octets are too many for 67.
+fn answers_too_large_twice(book: &mut Book, request: &Request) -> bool {
+    let (first, second) = answers_in_turn(book, request, request, 67);
+    is_too_large(&first, 68, 67) & is_too_large(&second, 68, 67)
 }
 
 #[test]

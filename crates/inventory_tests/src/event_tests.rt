@@ -2,31 +2,28 @@
 
 ghost use Rattle.std.specs.Prelude.{◌≤◌};
 
-use crate::books::{STAMP, content, create, is_at};
+use crate::books::{alter, content, create, delete, is_at, request};
 use collector_core::{Answer, Book};
 use std::alloc::Global;
-use swima_model::{Action, Event, Events, Kind, Report};
-use swima_request::Request;
-use wire_base::{List, is_stamp};
+use swima_model::{Action, Event, Report};
+use wire_base::List;
 
-/// The events of a report of whole records, from the earliest on, and the last that was consulted.
-fn told(alloc: Global, book: &Book, earliest: u32, max: u32) -> Option<(Events, u32)> {
-    let request = Request {
-        clear: false,
-        subscribe: false,
-        kind: Kind::Full,
-        id: 9,
-        earliest,
-        targets: List::new(alloc),
-    };
-    match book.answer(&request, max) {
+/// The answer to a request for whole records, from the earliest event on.
+fn asked(alloc: Global, book: &Book, earliest: u32, max: u32) -> Answer {
+    let request = request(earliest, List::new(alloc));
+    book.answer(&request, max)
+}
+
+/// The events of an answer, and the last that was consulted.
+fn events_of(answer: &Answer) -> Option<(&[Event], u32)> {
+    match answer {
         Answer::Report(
             Report::Events {
                 consulted,
                 events,
                 ..
             },
-        ) => Some((events, consulted)),
+        ) => Some((events.as_slice(), *consulted)),
         _ => None,
     }
 }
@@ -34,12 +31,14 @@ fn told(alloc: Global, book: &Book, earliest: u32, max: u32) -> Option<(Events, 
 /// A book at epoch 1 whose record 1 was created with a body of five octets, and deleted.
 fn created_and_deleted(alloc: Global) -> Option<Book> {
     let mut book = Book::new(alloc, 1, 4, &[]).ok()?;
-    create(alloc, &mut book, b"a")?;
-    if !is_stamp(&STAMP) {
-        return None;
-    }
-    book.delete(&STAMP, 1).ok()?;
+    create_and_delete(alloc, &mut book)?;
     Some(book)
+}
+
+/// Creates record 1 and deletes it.
+fn create_and_delete(alloc: Global, book: &mut Book) -> Option<()> {
+    create(alloc, book, b"a")?;
+    delete(book, 1)
 }
 
 /// Whether the event deletes record 1 and carries it whole.
@@ -50,19 +49,29 @@ fn carries_it_whole(alloc: Global, event: &Event) -> Option<bool> {
     Some(of_it & held.carries(carried) & (carried.body.bytes().len() == 5))
 }
 
+/// Whether the last of two events deletes record 1 and carries it whole.
+fn ends_in_whole_deletion(alloc: Global, answer: &Answer) -> Option<bool> {
+    let (events, consulted) = events_of(answer)?;
+    Some(carries_it_whole(alloc, events.get(1)?)? & (consulted == 2))
+}
+
 /// Whether the deletion of a record carries it, in a report with room for both events.
 fn deletion_carries(alloc: Global) -> Option<bool> {
     let book = created_and_deleted(alloc)?;
-    let (events, consulted) = told(alloc, &book, 1, 116)?;
-    let deletion = carries_it_whole(alloc, events.get(1)?)?;
-    Some(deletion & (consulted == 2) & (book.count() == 0))
+    let whole = ends_in_whole_deletion(alloc, &asked(alloc, &book, 1, 116));
+    Some((whole == Some(true)) & (book.count() == 0))
+}
+
+/// How many events an answer has, and the last that was consulted.
+fn counts(answer: &Answer) -> Option<(usize, u32)> {
+    let (events, consulted) = events_of(answer)?;
+    Some((events.len(), consulted))
 }
 
 /// How many events one octet less leaves room for, and the last that was consulted.
 fn told_in_less(alloc: Global) -> Option<(usize, u32)> {
     let book = created_and_deleted(alloc)?;
-    let (events, consulted) = told(alloc, &book, 1, 115)?;
-    Some((events.len(), consulted))
+    counts(&asked(alloc, &book, 1, 115))
 }
 
 #[test]
@@ -77,19 +86,22 @@ fn alter_next(alloc: Global, book: &mut Book, times: u32) -> Option<()> {
     for _ in 0..times {
         let eid = book.point().eid.checked_add(1)?;
         let other = content(alloc, b"a", eid as usize)?;
-        if !is_stamp(&STAMP) {
-            return None;
-        }
-        book.alter(&STAMP, 1, &other).ok()?;
+        alter(book, 1, &other)?;
     }
     Some(())
 }
 
 /// Whether a book keeps the events from `first` up to `last` and no others, each with its own body.
-fn keeps(alloc: Global, book: &Book, first: u32, last: u32) -> Option<bool> {
-    let (events, consulted) = told(alloc, book, first, 1_000_000)?;
+fn keeps(alloc: Global, book: &Book, first: u32, last: u32) -> bool {
+    let answer = asked(alloc, book, first, 1_000_000);
+    (has_each(&answer, first, last) == Some(true)) & is_at(book, last, first, 1)
+}
+
+/// Whether an answer has the events from `first` up to `last` and no others, each with its own body.
+fn has_each(answer: &Answer, first: u32, last: u32) -> Option<bool> {
+    let (events, consulted) = events_of(answer)?;
     let mut next = first;
-    for event in events.as_slice() {
+    for event in events {
         if event.eid != next {
             return Some(false);
         }
@@ -99,7 +111,7 @@ fn keeps(alloc: Global, book: &Book, first: u32, last: u32) -> Option<bool> {
         next = next.checked_add(1)?;
     }
     let all = next == last.checked_add(1)?;
-    Some(all & (consulted == last) & is_at(book, last, first, 1))
+    Some(all & (consulted == last))
 }
 
 /// Whether a book that keeps `cap` events keeps the latest after each of `times` changes.
@@ -107,12 +119,25 @@ fn keeps_the_latest(alloc: Global, cap: usize, times: u32) -> Option<bool>
     requires some { 1 ≤ cap }
     requires few { cap ≤ 4096 }
 {
+    let mut book = book_of_one(alloc, cap)?;
+    altered_keeps_the_latest(alloc, &mut book, cap as u32, times)
+}
+
+/// A book at epoch 1 of one record, which keeps `cap` events.
+fn book_of_one(alloc: Global, cap: usize) -> Option<Book>
+    requires some { 1 ≤ cap }
+    requires few { cap ≤ 4096 }
+{
     let one = content(alloc, b"a", 0)?;
-    let mut book = Book::new(alloc, 1, cap, &[one]).ok()?;
+    Book::new(alloc, 1, cap, &[one]).ok()
+}
+
+/// What `keeps_the_latest` answers for its book.
+fn altered_keeps_the_latest(alloc: Global, book: &mut Book, cap: u32, times: u32) -> Option<bool> {
     for last in 1..times.checked_add(1)? {
-        alter_next(alloc, &mut book, 1)?;
-        let first = last.saturating_sub(cap as u32).checked_add(1)?;
-        if !keeps(alloc, &book, first, last)? {
+        alter_next(alloc, book, 1)?;
+        let first = last.saturating_sub(cap).checked_add(1)?;
+        if !keeps(alloc, book, first, last) {
             return Some(false);
         }
     }
@@ -129,19 +154,29 @@ fn a_full_log_keeps_the_latest_events(rt: HostRuntime) {
 /// Whether a log of four events that has turned round keeps what a trim leaves, and then the next
 /// events up to four and past that.
 fn keeps_after_a_trim(alloc: Global) -> Option<bool> {
-    let one = content(alloc, b"a", 0)?;
-    let mut book = Book::new(alloc, 1, 4, &[one]).ok()?;
-    alter_next(alloc, &mut book, 10)?;
+    let mut book = book_of_one(alloc, 4)?;
+    let trimmed = keeps_what_a_trim_leaves(alloc, &mut book)?;
+    Some(trimmed & (keeps_the_next(alloc, &mut book) == Some(true)))
+}
+
+/// Whether the log keeps the events 9 and 10 after ten changes and a trim.
+fn keeps_what_a_trim_leaves(alloc: Global, book: &mut Book) -> Option<bool> {
+    alter_next(alloc, book, 10)?;
     book.trim(9).ok()?;
-    let trimmed = keeps(alloc, &book, 9, 10)?;
-    alter_next(alloc, &mut book, 2)?;
-    let full = keeps(alloc, &book, 9, 12)?;
-    alter_next(alloc, &mut book, 7)?;
-    let turned = keeps(alloc, &book, 16, 19)?;
+    Some(keeps(alloc, book, 9, 10))
+}
+
+/// Whether the log keeps the next two events, four of the next seven, none after a trim of all, and
+/// then the last four of six.
+fn keeps_the_next(alloc: Global, book: &mut Book) -> Option<bool> {
+    alter_next(alloc, book, 2)?;
+    let full = keeps(alloc, book, 9, 12);
+    alter_next(alloc, book, 7)?;
+    let turned = keeps(alloc, book, 16, 19);
     book.trim(20).ok()?;
-    let none = is_at(&book, 19, 20, 1);
-    alter_next(alloc, &mut book, 6)?;
-    Some(trimmed & full & turned & none & keeps(alloc, &book, 22, 25)?)
+    let none = is_at(book, 19, 20, 1);
+    alter_next(alloc, book, 6)?;
+    Some(full & turned & none & keeps(alloc, book, 22, 25))
 }
 
 #[test]

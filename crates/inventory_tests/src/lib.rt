@@ -18,6 +18,8 @@ mod mirror_limit_tests;
 #[cfg(test)]
 mod mirror_order_tests;
 #[cfg(test)]
+mod reports;
+#[cfg(test)]
 mod target_tests;
 #[cfg(test)]
 mod thread_tests;

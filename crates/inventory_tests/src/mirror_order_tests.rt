@@ -3,91 +3,56 @@
 ghost use Rattle.std.specs.Prelude.{◌<◌, ◌^◌, IfSome};
 ghost use Rattle.swima_model.specs.Size.{report_count};
 
+use crate::reports::{inventory, push_event, push_record, report_of};
 use std::alloc::Global;
 use swima_model::Action::{Alteration, Creation, Deletion};
-use swima_model::{
-    Action, Body, Content, Event, Events, Ident, Kind, Locator, Model, Point, Record, Report,
-};
+use swima_model::{Action, Events, Kind, Point, Records, Report};
 use validator_core::{Mirror, Taken};
 use wire_base::List;
-
-/// A record whose locator is this octet.
-fn record(alloc: Global, id: u32, octet: u8) -> Option<Record> {
-    Some(Record {
-        id,
-        content: Content {
-            model: Model { pen: 9, kind: 1 },
-            source: 0,
-            ident: Ident::empty(alloc),
-            locator: Locator::new(alloc, &[octet]).ok()?,
-            body: Body::empty(alloc),
-        },
-    })
-}
 
 /// A mirror at the event 1 of the epoch 1 that holds the records 10, 20 and 30, which came in
 /// another order.
 fn mirror(alloc: Global) -> Option<Mirror> {
-    let mut records = List::new(alloc);
-    records.push(record(alloc, 20, b'b')?).ok()?;
-    records.push(record(alloc, 30, b'c')?).ok()?;
-    records.push(record(alloc, 10, b'a')?).ok()?;
-    if records.len() > 3 {
-        return None;
-    }
+    let whole = inventory(records(alloc, &[(20, b'b'), (30, b'c'), (10, b'a')])?)?;
     let mut mirror = Mirror::new(alloc, Kind::Full);
-    let taken = mirror.take_owned(Report::Inventory {
-        kind: Kind::Full,
-        fulfil: false,
-        id: 1,
-        point: Point { epoch: 1, eid: 1 },
-        records,
-    });
-    if taken != Taken::Adopted {
-        return None;
+    match mirror.take_owned(whole) {
+        Taken::Adopted => Some(mirror),
+        _ => None,
     }
-    Some(mirror)
 }
 
-/// An event of a record whose locator is this octet.
-fn event(alloc: Global, eid: u32, action: Action, id: u32, octet: u8) -> Option<Event> {
-    Some(Event {
-        eid,
-        stamp: *b"2026-02-03T04:05:06Z",
-        action,
-        subject: record(alloc, id, octet)?,
-    })
+/// Records with these identifiers, whose locators are these octets.
+fn records(alloc: Global, parts: &[(u32, u8)]) -> Option<Records> {
+    let mut records = List::new(alloc);
+    push_all(alloc, &mut records, parts)?;
+    Some(records)
 }
 
-/// A report of these events, which were consulted up to `eid`; `None` where there are more than
-/// 4096.
-fn report_of(events: Events, eid: u32) -> Option<Report>
-    ensures few { IfSome result (λ report. report_count report < 2 ^ 32) }
-{
-    if events.len() > 4096 {
-        return None;
+fn push_all(alloc: Global, records: &mut Records, parts: &[(u32, u8)]) -> Option<()> {
+    for (id, octet) in parts {
+        push_record(alloc, records, *id, &[*octet])?;
     }
-    Some(Report::Events {
-        kind: Kind::Full,
-        fulfil: false,
-        id: 1,
-        point: Point { epoch: 1, eid },
-        consulted: eid,
-        events,
-    })
+    Some(())
 }
 
-/// The events of a report, from the event 2 on: what each does to which record, and the octet.
+/// The events of a report, from the event 2 on: what each does to which record, and the octet that
+/// is the record's locator.
 fn report(alloc: Global, changes: &[(Action, u32, u8)]) -> Option<Report>
     ensures few { IfSome result (λ report. report_count report < 2 ^ 32) }
 {
     let mut events = Events::new(alloc);
+    let eid = push_changes(alloc, &mut events, changes)?;
+    report_of(events, eid)
+}
+
+/// Pushes an event for each change, from the event 2 on, and gives the last event.
+fn push_changes(alloc: Global, events: &mut Events, changes: &[(Action, u32, u8)]) -> Option<u32> {
     let mut eid = 1u32;
     for (action, id, octet) in changes {
         eid = eid.checked_add(1)?;
-        events.push(event(alloc, eid, *action, *id, *octet)?).ok()?;
+        push_event(alloc, events, eid, *action, *id, &[*octet])?;
     }
-    report_of(events, eid)
+    Some(eid)
 }
 
 /// Whether the mirror holds exactly these records, in this order.
@@ -107,10 +72,15 @@ fn holds(mirror: &Mirror, wanted: &[(u32, u8)]) -> bool {
 /// Whether the mirror follows the changes and then holds exactly these records.
 fn makes(alloc: Global, changes: &[(Action, u32, u8)], wanted: &[(u32, u8)]) -> Option<bool> {
     let mut mirror = mirror(alloc)?;
-    let Taken::Advanced { from: 1, .. } = mirror.take_owned(report(alloc, changes)?) else {
-        return None;
-    };
-    Some(holds(&mirror, wanted))
+    Some(advances(alloc, &mut mirror, changes) & holds(&mirror, wanted))
+}
+
+/// Whether the mirror follows the changes from the event 1 on.
+fn advances(alloc: Global, mirror: &mut Mirror, changes: &[(Action, u32, u8)]) -> bool {
+    match report(alloc, changes) {
+        Some(report) => matches!(mirror.take_owned(report), Taken::Advanced { from: 1, .. }),
+        None => false,
+    }
 }
 
 #[test]
@@ -192,19 +162,37 @@ fn last_contradicts(alloc: Global) -> Option<Report>
     ensures few { IfSome result (λ report. report_count report < 2 ^ 32) }
 {
     let mut events = Events::new(alloc);
+    push_falling(alloc, &mut events)?;
+    push_event(alloc, &mut events, 4097, Creation, 20, b"x")?;
+    report_of(events, 4097)
+}
+
+/// Pushes the events 2 to 4096, which create records in falling order of their identifiers.
+fn push_falling(alloc: Global, events: &mut Events) -> Option<()> {
     for eid in 2..4097u32 {
         let id = 5000u32.checked_sub(eid)?;
-        events.push(event(alloc, eid, Creation, id, b'x')?).ok()?;
+        push_event(alloc, events, eid, Creation, id, b"x")?;
     }
-    events.push(event(alloc, 4097, Creation, 20, b'x')?).ok()?;
-    report_of(events, 4097)
+    Some(())
+}
+
+/// Whether a mirror refuses a report for its last event.
+fn refuses_the_last(alloc: Global, mirror: &mut Mirror) -> bool {
+    match last_contradicts(alloc) {
+        Some(report) => {
+            matches!(
+                mirror.take_owned(report),
+                Taken::Contradiction { eid: 4097 }
+            )
+        }
+        None => false,
+    }
 }
 
 /// Whether a report whose last event alone does not fit leaves a mirror as it was, with its mark.
 fn stays_whole(alloc: Global) -> Option<bool> {
     let mut mirror = mirror(alloc)?;
-    let taken = mirror.take_owned(last_contradicts(alloc)?);
-    let refused = taken == Taken::Contradiction { eid: 4097 };
+    let refused = refuses_the_last(alloc, &mut mirror);
     let stays = mirror.point() == Some(Point { epoch: 1, eid: 1 });
     let held = holds(&mirror, &[(10, b'a'), (20, b'b'), (30, b'c')]);
     Some(refused & stays & held & mirror.off())
