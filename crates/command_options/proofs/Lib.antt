@@ -1,0 +1,9 @@
+pub mod RowsFit
+pub mod WordsFit
+pub mod WalkFits
+pub mod TakenRows
+pub mod Values
+pub mod CollectTaken
+pub mod FollowTaken
+pub mod Refusals
+pub mod WorkedWords

@@ -1,0 +1,11 @@
+use Rattle.std.proofs.Common.{◌∙◌, ap, map, subst}
+use Rattle.clap.specs.Words.{App, is_simple_and_free}
+use Rattle.command_options.specs.Given.{Finds}
+use Rattle.command_options.proofs.FollowTaken.{is_plain}
+use Rattle.command_options.proofs.follow.follow_found.Goals as goal
+
+pub found-requires : goal.found-requires
+found-requires c = record { simple = ap is_simple_and_free c.in_ok-follow_command.ensures.app ∙ is_plain }
+
+pub returns : goal.returns
+returns c = record { found = subst (λ (a : App). Finds a (map (λ word. word.now) c.args.words.now) c.found.result) c.in_ok-follow_command.ensures.app c.found.ensures.found }
