@@ -6,6 +6,7 @@ ghost use Rattle.source_lines.specs.LineItems.{IsItem};
 ghost use Rattle.source_lines.specs.Lines.{BeginsWith, MOST_OCTETS, SameLines};
 ghost use Rattle.source_set.specs.declared.told.Told.TheVariants as told;
 
+use crate::line_fault::{LineFault, line_fault};
 use crate::line_item::item_of;
 use memchr::memchr;
 use source_set::Told;
@@ -25,6 +26,8 @@ pub(crate) struct LineBuffer {
     /// No octet from `place` up to here is a line feed.
     searched: usize,
     number: u64,
+    /// Why the last line that was no item is none.
+    fault: Option<LineFault>,
 }
 
 /// What octets begin with.
@@ -67,7 +70,13 @@ impl LineBuffer {
             place: 0,
             searched: 0,
             number: 1,
+            fault: None,
         }
+    }
+
+    /// Why the last line that was no item is none, where one was: for people.
+    pub(crate) fn last_fault(&self) -> Option<LineFault> {
+        self.fault
     }
 
     /// What the octets begin with. An octet that was searched for a line feed is not searched
@@ -100,7 +109,12 @@ impl LineBuffer {
     {
         let (_, held) = self.octets.as_slice().split_at(self.place);
         let (line, _) = held.split_at(len);
-        let told = item_or_bad(item_of(*self.octets.allocator(), line)?, self.number);
+        let alloc = *self.octets.allocator();
+        let item = item_of(alloc, line)?;
+        if item.is_none() {
+            self.fault = line_fault(alloc, line)?;
+        }
+        let told = item_or_bad(item, self.number);
         self.skip(len + 1);
         Ok(told)
     }
@@ -113,6 +127,7 @@ impl LineBuffer {
         ensures number { self.new.number ≡ next self.old.number }
     {
         let line = self.number;
+        self.fault = Some(LineFault::Long);
         self.skip(MOST_OCTETS);
         Told::Bad { line }
     }

@@ -8,6 +8,7 @@ ghost use Rattle.source_set.specs.declared.told.Told.TheVariants as told;
 ghost use Rattle.source_lines.specs.Lines.{HasRead, IfUnread, WillReport};
 
 use crate::line_buffer::{Front, LineBuffer};
+use crate::line_fault::LineFault;
 use source_set::{TagSource, Told};
 use std::alloc::Global;
 use std::marker::Model;
@@ -47,6 +48,11 @@ impl<S: Source + Drop> LineSource<S> {
             input,
             lines: LineBuffer::new(alloc),
         })
+    }
+
+    /// Why the last line that was no item is none, where one was: for people.
+    pub fn last_fault(&self) -> Option<LineFault> {
+        self.lines.last_fault()
     }
 
     /// The next item, or why there is none. Then all items are left.

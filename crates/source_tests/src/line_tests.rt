@@ -1,7 +1,7 @@
 //! Lines of an input that comes in pieces, and calls that fail. Rows of `conformance` have what each
 //! line says.
 
-use source_lines::LineSource;
+use source_lines::{LineFault, LineSource};
 use source_set::{TagSource, Told};
 use std::alloc::Global;
 use wire_base::{Failed, MemSource, Memory, Octets, Source};
@@ -111,5 +111,38 @@ fn a_failed_call_loses_nothing(rt: HostRuntime) -> Result<(), Memory> {
     let mut source = lines(alloc, octets.as_slice(), &[1, 2, 4])?;
     let found = letters(alloc, &mut source, 2)?;
     assert!(rt; found.as_slice() == b"ffacabgbgef".as_slice());
+    Ok(())
+}
+
+/// Lines that are no items, each with why.
+const NO_ITEMS: &[(LineFault, &[u8])] = &[
+    (LineFault::Words, b""),
+    (LineFault::Words, b"sub 1 a -"),
+    (LineFault::Words, b"add 1 \\e"),
+    (LineFault::Words, b"gone 1 2"),
+    (LineFault::Words, b"quiet now"),
+    (LineFault::Key, b"gone 4294967296"),
+    (LineFault::Key, b"xml 01 a \\e -"),
+    (LineFault::Text, b"xml 1 \\q \\e -"),
+    (LineFault::Text, b"xml 1 a \\q -"),
+    (LineFault::Digits, b"xml 1 a \\e 0"),
+    (LineFault::Octets, b"add 1 \\e 00"),
+];
+
+/// Whether the line is none for this reason.
+fn is_none_for(alloc: Global, fault: LineFault, line: &[u8]) -> Result<bool, Memory> {
+    let mut octets = Vec::from_slice(alloc, line)?;
+    octets.push(b'\n')?;
+    let mut source = lines(alloc, octets.as_slice(), &[])?;
+    let is_bad = matches!(source.next(), Told::Bad { line: 1 });
+    Ok(is_bad && source.last_fault() == Some(fault))
+}
+
+#[test]
+fn a_bad_line_says_why(rt: HostRuntime) -> Result<(), Memory> {
+    let alloc = rt.alloc();
+    for (fault, line) in NO_ITEMS.iter() {
+        assert!(rt; is_none_for(alloc, *fault, line)?);
+    }
     Ok(())
 }
