@@ -8,6 +8,7 @@
 //!   threads; the tasks are `change`, `read` and `both`, and on a shelf `events`;
 //! - `sessions first RECORDS SIZE`: the first session over a book, in pieces of that many octets;
 //! - `sessions alone RECORDS`: the same report, without a session;
+//! - `sessions octets RECORDS`: the same report, written and read again, without a session;
 //! - `sessions update RECORDS EVENTS TIMES`: that many sessions more, each after that many events;
 //! - `sessions looks RECORDS TIMES`: that many idle turns of a collector with 16 subscriptions;
 //! - `sources ITEMS CHANGES QUIET`: sweeps over a source of that many items, then of that many
@@ -145,6 +146,7 @@ fn batch_figure(alloc: Global, words: &[&str]) -> Result<u64, Trouble> {
 fn session_figure(alloc: Global, words: &[&str]) -> Result<u64, Trouble> {
     match words {
         ["alone", records] => sessions::alone(alloc, number(records)?),
+        ["octets", records] => sessions::octets(alloc, number(records)?),
         [task, records, other] => session_of_two(alloc, task, records, other),
         ["update", records, events, times] => {
             let (records, events, times) = three(records, events, times)?;

@@ -2,8 +2,9 @@
 //! without batches. The collector's log is full, and the validator's mirror is empty at first.
 
 ghost use Rattle.std.specs.Bool.{OnTrue};
-ghost use Rattle.std.specs.Prelude.{◌<◌, ◌^◌};
-ghost use Rattle.swima_model.specs.Size.{report_count};
+ghost use Rattle.std.specs.Prelude.{◌<◌, ◌≤◌, ◌^◌};
+ghost use Rattle.swima_model.specs.Reports.{ConsultsWithin, HasStamps};
+ghost use Rattle.swima_model.specs.Size.{report_count, report_size};
 
 use crate::book::{alterations, full_book, latest};
 use crate::trouble::Trouble;
@@ -12,11 +13,16 @@ use collector_session::ServeCore;
 use session_rules::{FollowConfig, ServeConfig};
 use std::alloc::Global;
 use swima_model::{Kind, Report};
+use swima_reports::{read_report, report_type, size_of, write_report};
 use validator_core::Mirror;
 use validator_session::FollowCore;
+use wire_base::FieldRefused;
 
 /// How many octets of reports a batch may have.
 const MOST: u32 = 16_000_000;
+
+/// How many octets the value of an attribute may have.
+const MOST_VALUE: u64 = 16_777_000;
 
 /// How the collector serves: to the validator's end.
 const SERVING: ServeConfig = ServeConfig {
@@ -65,6 +71,16 @@ pub(crate) fn alone(alloc: Global, records: u32) -> Result<u64, Trouble> {
     }
 }
 
+/// The same inventory, written and read again, and the mirror that takes it.
+pub(crate) fn octets(alloc: Global, records: u32) -> Result<u64, Trouble> {
+    let book = full_book(alloc, records)?;
+    match inventory(alloc, &book) {
+        Answer::Report(report) => mirrored(alloc, read_again(alloc, &report)?),
+        Answer::TooLarge { .. } => Err(Trouble::Book),
+        Answer::Memory => Err(Trouble::Memory),
+    }
+}
+
 /// The inventory of a book.
 fn inventory(alloc: Global, book: &Book) -> Answer {
     let request = latest(alloc, 0);
@@ -79,6 +95,31 @@ fn mirrored(alloc: Global, report: Report) -> Result<u64, Trouble> {
     let mut mirror = Mirror::new(alloc, Kind::Full);
     mirror.take_owned(report);
     Ok(u64::from(mirror.count()))
+}
+
+/// The report that the octets of an inventory give.
+fn read_again(alloc: Global, report: &Report) -> Result<Report, Trouble> {
+    if !is_writable(report) {
+        return Err(Trouble::Book);
+    }
+    let value = write_report(alloc, report)?;
+    match read_report(alloc, report_type(report), value.as_slice(), 0) {
+        Ok(read) => Ok(read),
+        Err(FieldRefused::Memory) => Err(Trouble::Memory),
+        Err(_) => Err(Trouble::Session),
+    }
+}
+
+/// Whether a report is an inventory that an attribute can hold.
+fn is_writable(report: &Report) -> bool
+    ensures fits { OnTrue result ((report_count report.now < 2 ^ 24) × (report_size report.now ≤ 16777000) × HasStamps report.now × ConsultsWithin report.now) }
+{
+    match report {
+        Report::Inventory { records, .. } => {
+            records.len() < 1 << 24 && size_of(report) <= MOST_VALUE
+        }
+        Report::Events { .. } => false,
+    }
 }
 
 /// Whether the records or events of a report are fewer than 2^32.

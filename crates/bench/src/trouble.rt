@@ -42,7 +42,7 @@ the words are none of these:
   bench shelf alone|1|2|4 change|read|both TIMES
   bench shelf 1|2|4 events TIMES
   bench sessions first RECORDS SIZE
-  bench sessions alone RECORDS
+  bench sessions alone|octets RECORDS
   bench sessions update RECORDS EVENTS TIMES
   bench sessions looks RECORDS TIMES
   bench batches SIZE large|small

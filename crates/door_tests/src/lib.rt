@@ -1,4 +1,4 @@
-//! Tests of workers at doors, over doors in memory.
+//! Tests of workers at doors, over doors in memory, and of what is printed of doors.
 #![tactic(auto)]
 
 #[cfg(test)]
@@ -7,3 +7,5 @@ mod follow_tests;
 mod serve_tests;
 #[cfg(test)]
 mod talks;
+#[cfg(test)]
+mod text_tests;

@@ -8,8 +8,6 @@ use Rattle.collector_core.specs.declared.book.edit.Edit.{Edit}
 use Rattle.collector_core.specs.declared.book.edit.Edit.TheVariants as edit
 use Rattle.collector_core.specs.declared.error.BookError.{BookError}
 use Rattle.collector_core.specs.declared.error.BookError.TheVariants as refused
-use Rattle.session_rules.specs.declared.end.SessionEnd.{SessionEnd}
-use Rattle.session_rules.specs.declared.end.SessionEnd.TheVariants as end
 use Rattle.session_world.specs.declared.telling.Telling.{Telling}
 use Rattle.session_world.specs.declared.telling.Telling.TheVariants.{Refused, Took, CollectorEnds, ValidatorEnds}
 use Rattle.session_world.specs.Lines as lines
@@ -22,6 +20,7 @@ use Rattle.session_script.specs.declared.header.Header.{Header}
 use Rattle.session_script.specs.declared.line.Line.{Line}
 use Rattle.session_script.specs.declared.line.Line.TheVariants as line
 use Rattle.command_text.specs.Answer.{limit_answer, refusal_answer}
+use Rattle.command_text.specs.Ends.{end_words}
 use Rattle.session_script.specs.Script.{HeaderIs, LineIs, split_once, words_of}
 use Rattle.command_text.specs.Text.{line as text_line, mirror_text, refusal, took}
 
@@ -44,19 +43,6 @@ book_words (refused.BytesFull held given) = codes "bytes-full" ∷ decimal held 
 book_words (refused.EpochNotNew latest given) = codes "epoch-not-new" ∷ decimal latest ∷ decimal given ∷ []
 book_words (refused.TrimPast last given) = codes "trim-past" ∷ decimal last ∷ decimal given ∷ []
 book_words refused.Memory = codes "memory" ∷ []
-
--- How an end is over.
-abbrev pub end_words : SessionEnd → List (List ℕ)
-end_words end.Closed = codes "closed" ∷ []
-end_words end.PeerClosed = codes "peer-closed" ∷ []
-end_words (end.PeerError vendor code) = codes "peer-error" ∷ decimal vendor ∷ decimal code ∷ []
-end_words (end.Refused code offset) = codes "refused" ∷ decimal code ∷ decimal offset ∷ []
-end_words end.Ended = codes "ended" ∷ []
-end_words (end.Torn have) = codes "torn" ∷ decimal have ∷ []
-end_words end.LinkFault = codes "link-fault" ∷ []
-end_words (end.IdleOut turns) = codes "idle-out" ∷ decimal turns ∷ []
-end_words end.Enough = codes "enough" ∷ []
-end_words end.Memory = codes "memory" ∷ []
 
 -- A line of what is reported.
 abbrev pub telling_line : Telling → List ℕ

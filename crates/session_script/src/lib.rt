@@ -1,11 +1,11 @@
 //! Scripts of both ends of sessions, over an inventory that changes: what is printed when one is
 //! played.
 //!
-//! It stands on `session_world` for the world that a script changes, on `session_rules` and
-//! `collector_core` for what is printed of ends and refusals, on `command_text` for the lines of
-//! mirrors, on `line_words` for the values of words, on `jiff` and `jiff_core` in the proof that a
-//! second has one stamp, and on `validator_core`, `swima_model`, `wire_base` and `hex`. The command
-//! `replay` rests on this clause of `replay_answer`:
+//! It stands on `session_world` for the world that a script changes, on `collector_core` for what is
+//! printed of refusals, on `command_text` for the lines of mirrors and of ends of sessions, on
+//! `line_words` for the values of words, on `jiff` and `jiff_core` in the proof that a second has
+//! one stamp, and on `validator_core`, `swima_model`, `wire_base` and `hex`. The command `replay`
+//! rests on this clause of `replay_answer`:
 //!
 //! - `told`: what is printed, and how it ends, is what `ReplayTells` says of all octets of the input.
 //!

@@ -3,13 +3,12 @@
 ghost use Rattle.std.specs.Prelude.{◌≡◌, ◌∷◌, [], IfOk, string_bytes};
 ghost use Rattle.std.specs.Fmt.{decimal};
 ghost use Rattle.std.specs.List.{flat_map};
-ghost use Rattle.session_script.specs.Replay.{end_words, octets_text, telling_line, waits_line, waits_text};
+ghost use Rattle.session_script.specs.Replay.{octets_text, telling_line, waits_line, waits_text};
 ghost use Rattle.command_text.specs.Text.{line};
 ghost use Rattle.session_world.specs.declared.telling.Telling.TheVariants as telling;
 
 use collector_core::BookError;
-use command_text::{from_string, refusal, took_line};
-use session_rules::SessionEnd;
+use command_text::{end_line, from_string, refusal, took_line};
 use session_world::{Telling, Tellings};
 use std::alloc::Global;
 use wire_base::{List, Memory, Octets};
@@ -71,36 +70,6 @@ fn two_numbers(alloc: Global, word: &str, one: u64, other: u64) -> Result<Octets
     ensures line { IfOk result (λ made. made ≡ line (word.now ∷ decimal one ∷ decimal other ∷ [])) }
 {
     Ok(from_string(format!(in alloc; "{word} {one} {other}\n")?))
-}
-
-/// How an end is over.
-fn end_line(alloc: Global, who: &str, end: SessionEnd) -> Result<Octets, Memory>
-    ensures line { IfOk result (λ made. made ≡ line (who.now ∷ end_words end)) }
-{
-    match end {
-        SessionEnd::Closed => word(alloc, who, "closed"),
-        SessionEnd::PeerClosed => word(alloc, who, "peer-closed"),
-        SessionEnd::PeerError { vendor, code } => {
-            Ok(from_string(format!(in alloc; "{who} peer-error {vendor} {code}\n")?))
-        }
-        SessionEnd::Refused { code, offset } => {
-            Ok(from_string(format!(in alloc; "{who} refused {code} {offset}\n")?))
-        }
-        SessionEnd::Ended => word(alloc, who, "ended"),
-        SessionEnd::Torn { have } => { Ok(from_string(format!(in alloc; "{who} torn {have}\n")?)) }
-        SessionEnd::LinkFault => word(alloc, who, "link-fault"),
-        SessionEnd::IdleOut { turns } => {
-            Ok(from_string(format!(in alloc; "{who} idle-out {turns}\n")?))
-        }
-        SessionEnd::Enough => word(alloc, who, "enough"),
-        SessionEnd::Memory => word(alloc, who, "memory"),
-    }
-}
-
-fn word(alloc: Global, who: &str, how: &str) -> Result<Octets, Memory>
-    ensures line { IfOk result (λ made. made ≡ line (who.now ∷ how.now ∷ [])) }
-{
-    Ok(from_string(format!(in alloc; "{who} {how}\n")?))
 }
 
 /// What waits for the validator, and for the collector.

@@ -1,14 +1,34 @@
-//! The program `swid`: it makes the real objects and calls `run_plain`, and says on standard error
-//! what a person wants to know of a status of 2 or more.
+//! The program `swid`: it makes the real objects and calls `run`, and says on standard error what a
+//! person wants to know of a status of 2 or more, and of what the system refuses meanwhile.
 //!
-//! It stands on `swid_cli` and `wire_base`.
+//! It stands on `swid_run`, and for the objects on `session_pool`, `source_lines`, `source_set` and
+//! `wire_base`.
+//!
+//! | file | what it holds |
+//! |---|---|
+//! | `outside.rt` | the doors and sources that a command line names |
+//! | `said_net.rt`, `said_lines.rt` | the network and files, which say what failed |
 #![tactic(auto)]
 
+mod outside;
+mod said_lines;
+mod said_net;
+
+ghost use Rattle.std.specs.Prelude.{◌≤◌, length, map};
+ghost use Rattle.session_pool.specs.Stands.{AreReady};
+ghost use Rattle.swid_run.specs.Words.{AreLent, IsFresh};
+
+use crate::outside::{dialling, line_sources, listening};
+use crate::said_net::SaidNet;
+use session_pool::Stand;
+use source_set::{Sources, TagSource};
 use std::io::ErrorKind;
 use std::process::ExitCode;
+use std::sync::Wait;
+use std::thread::Threads;
 use std::{env, io};
-use swid_cli::run_plain;
-use wire_base::{FolderFiles, Memory, StdinSource, StdoutSink, Text};
+use swid_run::{Plan, plan, run};
+use wire_base::{Door, FolderFiles, Memory, StdinSource, StdoutSink, SystemClock, Text};
 
 /// The command lines that there are.
 const COMMANDS: &str = "\
@@ -18,10 +38,14 @@ swid: the words are none of these:
   swid tag verify        does the same, and looks at the files of the tag
   swid links             reads tags one after another, and prints what is wrong between them
   swid replay            plays a script of both ends of sessions, and prints what happens
-  swid make N            plays a day of an endpoint with N packages, 40 to 5000, and prints a summary";
+  swid make N            plays a day of an endpoint with N packages, 40 to 5000, and prints a summary
+  swid collect --listen ADDR --epoch N [--cap N] [--workers N] [--sessions N] [--sweeps N] [FILE..]
+                         serves the inventory that the lines of the files report
+  swid follow [--kind ids|full] [--subscribe yes|no] [--rounds N] [--sessions N] ADDR..
+                         follows the inventories that are served at the addresses, and prints them";
 
 fn main(rt: HostRuntime) -> ExitCode {
-    let status = match run(&rt) {
+    let status = match act(&rt, &rt) {
         Ok(status) => status,
         Err(Memory) => 4,
     };
@@ -34,25 +58,107 @@ fn main(rt: HostRuntime) -> ExitCode {
     ExitCode::from(status)
 }
 
-/// Runs the command line over the standard streams and the files of the system.
-fn run(rt: &HostRuntime) -> Result<u8, Memory> {
-    let alloc = rt.alloc();
-    let owned = words(rt)?;
-    let mut words = Vec::new(alloc);
+/// Runs the command line. `host` is the system, and `rt` the right to wait and to start threads.
+fn act<R: Threads + Wait + Sync>(host: &HostRuntime, rt: &R) -> Result<u8, Memory> {
+    let owned = words(host)?;
+    let mut words = Vec::with_capacity(host.alloc(), owned.len())?;
     for word in &owned {
         words.push(word.as_str())?;
     }
-    let mut input = StdinSource::new(rt.stdin());
-    let mut output = StdoutSink::new(rt.stdout());
-    let mut files = FolderFiles::new(alloc, rt);
-    let status = run_plain(alloc, &words, &mut input, &mut output, &mut files);
-    if status == 3 {
-        let _ = say_fault(rt, "read", "standard input", input.last_error());
-        let _ = say_fault(rt, "write", "standard output", output.last_error());
-        let name = files.failed_name().map_or("a file", Text::as_str);
-        let _ = say_fault(rt, "read", name, files.last_error());
+    run_planned(host, rt, words.as_slice())
+}
+
+/// Runs the command line over the doors and sources that its words name.
+fn run_planned<R: Threads + Wait + Sync>(
+    host: &HostRuntime,
+    rt: &R,
+    words: &[&str],
+) -> Result<u8, Memory> {
+    match plan(host.alloc(), words) {
+        Plan::Plain | Plan::Usage => run_dialling(host, rt, words, &[]),
+        Plan::Collect {
+            listen,
+            workers,
+            names,
+        } => run_listening(host, rt, words, listen.as_str(), workers, names.as_slice()),
+        Plan::Follow { addresses } => run_dialling(host, rt, words, addresses.as_slice()),
+        Plan::Memory => Err(Memory),
     }
-    Ok(status)
+}
+
+/// Runs the command line with a door to one listener for each worker, and the lines of each file.
+fn run_listening<R: Threads + Wait + Sync>(
+    host: &HostRuntime,
+    rt: &R,
+    words: &[&str],
+    address: &str,
+    workers: u32,
+    names: &[Text],
+) -> Result<u8, Memory>
+    requires lent { AreLent (map (λ word. word.now) words.now) workers (length names.now) }
+    requires few { length names.now ≤ 255 }
+{
+    let net = SaidNet::new(host);
+    let mut stands = listening(host.alloc(), &net, address, workers)?;
+    let mut sources = line_sources(host.alloc(), host, names)?;
+    let doors = stands.as_mut_slice();
+    Ok(run_over(host, rt, words, doors, &mut sources))
+}
+
+/// Runs the command line with a door to each address, and no source.
+fn run_dialling<R: Threads + Wait + Sync>(
+    host: &HostRuntime,
+    rt: &R,
+    words: &[&str],
+    addresses: &[Text],
+) -> Result<u8, Memory>
+    requires lent { AreLent (map (λ word. word.now) words.now) (length addresses.now) 0 }
+{
+    let net = SaidNet::new(host);
+    let mut stands = dialling(host.alloc(), &net, addresses)?;
+    let mut sources = line_sources(host.alloc(), host, &[])?;
+    let doors = stands.as_mut_slice();
+    Ok(run_over(host, rt, words, doors, &mut sources))
+}
+
+/// Runs the command line over the standard streams, the files and the clock of the system, with
+/// these doors and sources.
+fn run_over<D: Door + Send, B: TagSource + Send, R: Threads + Wait + Sync>(
+    host: &HostRuntime,
+    rt: &R,
+    words: &[&str],
+    doors: &mut [Stand<D>],
+    sources: &mut Sources<B>,
+) -> u8
+where
+    D::L: Send,
+    requires lent { AreLent (map (λ word. word.now) words.now) (length doors.old) (length sources.old.seats) }
+    requires fresh { IsFresh sources.old }
+    requires ready { AreReady D.out doors.old }
+{
+    let alloc = host.alloc();
+    let mut input = StdinSource::new(host.stdin());
+    let mut output = StdoutSink::new(host.stdout());
+    let mut files = FolderFiles::new(alloc, host);
+    let mut clock = SystemClock::new(host);
+    let status = run(
+        alloc,
+        rt,
+        words,
+        &mut input,
+        &mut output,
+        &mut files,
+        doors,
+        &mut clock,
+        sources,
+    );
+    if status == 3 {
+        let _ = say_fault(host, "read", "standard input", input.last_error());
+        let _ = say_fault(host, "write", "standard output", output.last_error());
+        let name = files.failed_name().map_or("a file", Text::as_str);
+        let _ = say_fault(host, "read", name, files.last_error());
+    }
+    status
 }
 
 /// Says that the stream or file `name` could not be read or written, where its last call failed,

@@ -1,6 +1,6 @@
 //! The words of the command line.
 
-ghost use Rattle.std.specs.Prelude.{◌≡◌, ◌↔◌, IsSome, IfSome, map};
+ghost use Rattle.std.specs.Prelude.{◌≡◌, ◌↔◌, IsSome, IfSome, IsTrue, map};
 ghost use Rattle.swid_cli.specs.Commands.{Says};
 ghost use Rattle.line_words.specs.Reading.{FindsExactly};
 ghost use Rattle.swid_cli.specs.Words.{IsCommandLine, IsCountWord};
@@ -53,6 +53,13 @@ pub(crate) fn command_of(words: &[&str]) -> Option<Command>
         },
         _ => None,
     }
+}
+
+/// Whether the words are a command line.
+pub fn is_command_line(words: &[&str]) -> bool
+    ensures known { IsTrue result ↔ IsCommandLine (map (λ word. word.now) words.now) }
+{
+    command_of(words).is_some()
 }
 
 /// The number of packages that a word is, if a day may have that many.

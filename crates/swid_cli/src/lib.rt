@@ -39,4 +39,5 @@ mod replay;
 mod run;
 mod tag;
 
+pub use command::is_command_line;
 pub use run::run_plain;

@@ -1,0 +1,188 @@
+//! What a command line is lent in tests, by its plan.
+
+ghost use Rattle.std.specs.List.{All};
+ghost use Rattle.std.specs.Prelude.{◌≡◌, ◌≤◌, IfOk, IfSome, length, map};
+ghost use Rattle.session_pool.specs.Stands.{AreReady, IsReady};
+ghost use Rattle.swid_run.specs.Words.{AreLent, IsFresh};
+
+use session_pool::Stand;
+use source_lines::LineSource;
+use source_set::{SourceSet, Sources, TagSource};
+use std::alloc::Global;
+use std::sync::Wait;
+use std::thread::Threads;
+use swid_run::{Plan, plan, run};
+use wire_base::{
+    LinkTurn, List, MemClock, MemDoor, MemFiles, MemLink, MemSink, MemSource, Memory,
+    NoFaultSource, Octets,
+};
+
+/// What each file of sources has: a source adds a tag, is quiet once, and then ends.
+const LINES: &[u8] = b"add 1 /opt/a da53574944a400616101616202a2181f61631821010c00\nquiet\nend\n";
+
+/// What a command line came to.
+#[derive(Drop)]
+pub(crate) struct Ran {
+    /// The status.
+    pub(crate) status: u8,
+    /// What was printed.
+    pub(crate) output: MemSink,
+    /// The doors.
+    pub(crate) doors: Vec<Stand<MemDoor>>,
+}
+
+/// Runs a command line over an empty input, and doors of one link each, on which these octets come.
+/// The calls of the output whose numbers are given fail.
+pub(crate) fn try_run<R: Threads + Wait + Sync>(
+    alloc: Global,
+    rt: &R,
+    words: &[&str],
+    octets: &[u8],
+    failing: &[u64],
+) -> Result<Ran, Memory> {
+    let (doors, sources) = counts_of(alloc, words)?;
+    let mut doors = stands(alloc, doors, octets)?;
+    let mut output = MemSink::new(alloc, 4096, failing)?;
+    let status = status_at(alloc, rt, words, &mut output, doors.as_mut_slice(), sources)?;
+    Ok(Ran {
+        status,
+        output,
+        doors,
+    })
+}
+
+/// Whether a command line ends with a status and prints a text.
+pub(crate) fn prints<R: Threads + Wait + Sync>(
+    alloc: Global,
+    rt: &R,
+    words: &[&str],
+    octets: &[u8],
+    expected: (u8, &str),
+) -> Result<bool, Memory> {
+    let ran = try_run(alloc, rt, words, octets, &[])?;
+    Ok((ran.status == expected.0) & (ran.output.written() == expected.1.as_bytes()))
+}
+
+/// Whether a command line ends with a status and prints nothing, where the output fails at its
+/// first call.
+pub(crate) fn fails<R: Threads + Wait + Sync>(
+    alloc: Global,
+    rt: &R,
+    words: &[&str],
+    octets: &[u8],
+    status: u8,
+) -> Result<bool, Memory> {
+    let ran = try_run(alloc, rt, words, octets, &[1])?;
+    Ok((ran.status == status) & ran.output.written().is_empty())
+}
+
+/// The status of a command line over these doors, and that many sources.
+fn status_at<R: Threads + Wait + Sync>(
+    alloc: Global,
+    rt: &R,
+    words: &[&str],
+    output: &mut MemSink,
+    doors: &mut [Stand<MemDoor>],
+    sources: usize,
+) -> Result<u8, Memory>
+    requires lent { AreLent (map (λ word. word.now) words.now) (length doors.old) sources }
+    requires few { sources ≤ 255 }
+    requires ready { AreReady (λ door. door.out) doors.old }
+{
+    let mut sources = all_sources(alloc, sources)?;
+    Ok(status_over(alloc, rt, words, output, doors, &mut sources))
+}
+
+/// The status of a command line over these doors and sources.
+fn status_over<R: Threads + Wait + Sync>(
+    alloc: Global,
+    rt: &R,
+    words: &[&str],
+    output: &mut MemSink,
+    doors: &mut [Stand<MemDoor>],
+    sources: &mut SourceSet,
+) -> u8
+    requires lent { AreLent (map (λ word. word.now) words.now) (length doors.old) (length sources.old.seats) }
+    requires fresh { IsFresh sources.old }
+    requires ready { AreReady (λ door. door.out) doors.old }
+{
+    let mut input = NoFaultSource::new(List::new(alloc));
+    let mut files = MemFiles::empty(alloc);
+    let mut clock = MemClock::new(List::new(alloc), 0);
+    run(
+        alloc, rt, words, &mut input, output, &mut files, doors, &mut clock, sources,
+    )
+}
+
+/// How many doors and how many sources a command line is lent.
+fn counts_of(alloc: Global, words: &[&str]) -> Result<(usize, usize), Memory>
+    ensures lent { IfOk result (λ counts. AreLent (map (λ word. word.now) words.now) counts.0 counts.1) }
+    ensures few { IfOk result (λ counts. counts.1 ≤ 255) }
+{
+    match plan(alloc, words) {
+        Plan::Plain => Ok((0, 0)),
+        Plan::Collect { workers, names, .. } => Ok((workers as usize, names.len())),
+        Plan::Follow { addresses } => Ok((addresses.len(), 0)),
+        Plan::Usage => Ok((0, 0)),
+        Plan::Memory => Err(Memory),
+    }
+}
+
+/// That many stands at doors of one link each, which gives these octets.
+fn stands(alloc: Global, count: usize, octets: &[u8]) -> Result<Vec<Stand<MemDoor>>, Memory>
+    ensures count { IfOk result (λ made. length made.items ≡ count) }
+    ensures ready { IfOk result (λ made. AreReady (λ door. door.out) made.items) }
+{
+    let mut stands = Vec::new(alloc);
+    for _ in 0..count {
+        stands.push(stand(alloc, octets)?)?;
+    }
+    Ok(stands)
+}
+
+/// A stand at a door of one link, which gives these octets.
+fn stand(alloc: Global, octets: &[u8]) -> Result<Stand<MemDoor>, Memory>
+    ensures ready { IfOk result (λ stand. IsReady (λ door. door.out) stand) }
+{
+    let mut links = List::new(alloc);
+    links.push(link(alloc, octets)?)?;
+    stand_of(alloc, links)
+}
+
+/// A stand at a door of these links.
+fn stand_of(alloc: Global, links: List<MemLink>) -> Result<Stand<MemDoor>, Memory>
+    requires fresh { All (λ link. link.faults ≡ 0) links }
+    ensures ready { IfOk result (λ stand. IsReady (λ door. door.out) stand) }
+{
+    Ok(Stand::new(MemDoor::new(alloc, links, &[])?))
+}
+
+/// A link that gives octets, and then that the other end has closed.
+fn link(alloc: Global, octets: &[u8]) -> Result<MemLink, Memory>
+    ensures fresh { IfOk result (λ link. link.faults ≡ 0) }
+{
+    let mut turns = List::new(alloc);
+    for octet in octets {
+        turns.push(LinkTurn::Octet(*octet))?;
+    }
+    MemLink::new(alloc, turns, 16, 4096, &[])
+}
+
+/// That many sources, of the same lines each.
+fn all_sources(alloc: Global, count: usize) -> Result<SourceSet, Memory>
+    requires few { count ≤ 255 }
+    ensures count { IfOk result (λ made. length made.seats ≡ count) }
+    ensures fresh { IfOk result (λ made. IsFresh made) }
+{
+    let mut boxes: Vec<Box<dyn TagSource + Send>> = Vec::new(alloc);
+    for _ in 0..count {
+        boxes.push(Box::new(alloc, line_source(alloc)?)?)?;
+    }
+    Sources::new(alloc, boxes)
+}
+
+/// A source of the lines.
+fn line_source(alloc: Global) -> Result<LineSource<MemSource>, Memory> {
+    let octets = Octets::from_slice(alloc, LINES)?;
+    LineSource::new(alloc, MemSource::new(alloc, octets, &[])?)
+}

@@ -1,0 +1,11 @@
+//! Tests of the top call, over doors in memory.
+#![tactic(auto)]
+
+#[cfg(test)]
+mod lent;
+#[cfg(test)]
+mod pool_tests;
+#[cfg(test)]
+mod talks;
+#[cfg(test)]
+mod words_tests;

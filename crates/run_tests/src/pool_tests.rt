@@ -1,0 +1,88 @@
+//! `collect` and `follow`: what they print, what they write, and their status.
+
+use crate::lent::{fails, prints, try_run};
+use crate::talks::{COLLECTOR, VALIDATOR};
+use std::alloc::Global;
+use std::sync::Wait;
+use std::test::Fail;
+use std::thread::Threads;
+use wire_base::Memory;
+
+/// Whether a command line ends with a status, prints a text, and writes octets at its one door.
+fn comes_to<R: Threads + Wait + Sync>(
+    alloc: Global,
+    rt: &R,
+    words: &[&str],
+    octets: &[u8],
+    expected: (u8, &str, &[u8]),
+) -> Result<bool, Memory> {
+    let ran = try_run(alloc, rt, words, octets, &[])?;
+    let given = match ran.doors.as_slice() {
+        [stand] => match stand.door.returned() {
+            [link] => link.given() == expected.2,
+            _ => false,
+        },
+        _ => false,
+    };
+    Ok((ran.status == expected.0) & (ran.output.written() == expected.1.as_bytes()) & given)
+}
+
+/// One worker at epoch 7.
+const COLLECT: [&str; 7] = ["collect", "--listen", "a", "--epoch", "7", "--workers", "1"];
+
+#[test]
+fn nothing_is_collected(rt: HostRuntime) -> Result<(), Fail> {
+    let text = "session 1.1 reports 1 peer-closed\nswept 0 0 0 0\nbook 7 0 0\n";
+    assert!(rt; comes_to(rt.alloc(), &rt, &COLLECT, VALIDATOR, (0, text, COLLECTOR))?);
+    Ok(())
+}
+
+/// The same with a source and two sweeps.
+const SWEPT: [&str; 10] = [
+    "collect",
+    "--listen",
+    "a",
+    "--epoch",
+    "7",
+    "--workers",
+    "1",
+    "--sweeps",
+    "2",
+    "lines",
+];
+
+#[test]
+fn a_source_ends_in_the_second_sweep(rt: HostRuntime) -> Result<(), Fail> {
+    let text = "session 1.1 reports 1 peer-closed\nswept 1 0 1 1\nbook 7 2 0\n";
+    assert!(rt; prints(rt.alloc(), &rt, &SWEPT, VALIDATOR, (0, text))?);
+    Ok(())
+}
+
+#[test]
+fn an_inventory_is_followed(rt: HostRuntime) -> Result<(), Fail> {
+    let text = "session 1.1 reports 1 closed\nendpoint 1\nmirror 7 0 0\n";
+    assert!(rt;
+        comes_to(
+            rt.alloc(),
+            &rt,
+            &["follow", "a"],
+            COLLECTOR,
+            (0, text, VALIDATOR)
+        )?
+    );
+    Ok(())
+}
+
+#[test]
+fn a_torn_session_is_a_finding(rt: HostRuntime) -> Result<(), Fail> {
+    let text = "session 1.1 reports 0 torn 3\nswept 0 0 0 0\nbook 7 0 0\n";
+    assert!(rt; prints(rt.alloc(), &rt, &COLLECT, &[0x02, 0x80, 0x00], (1, text))?);
+    Ok(())
+}
+
+#[test]
+fn an_output_that_fails_is_a_fault(rt: HostRuntime) -> Result<(), Fail> {
+    assert!(rt; fails(rt.alloc(), &rt, &COLLECT, VALIDATOR, 3)?);
+    assert!(rt; fails(rt.alloc(), &rt, &["follow", "a"], COLLECTOR, 3)?);
+    Ok(())
+}

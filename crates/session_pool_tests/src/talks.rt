@@ -1,0 +1,91 @@
+//! What doors give in tests: a session in octets, as each end writes it.
+
+ghost use Rattle.std.specs.List.{All};
+ghost use Rattle.std.specs.Prelude.{◌≡◌, ◌∷◌, [], IfOk};
+ghost use Rattle.session_pool.specs.Stands.{AreReady, IsReady};
+
+use session_pool::Stand;
+use std::alloc::Global;
+use wire_base::{LinkTurn, List, MemDoor, MemLink, Memory};
+
+/// What a validator writes in a session of one request, with a collector that has no record.
+pub(crate) const VALIDATOR: &[u8] = &[
+    0x02, 0x80, 0x00, 0x02, 0x00, 0x00, 0x00, 0x40, 0x80, 0x00, 0x00, 0x00, 0x00, 0x00, 0x00, 0x01,
+    0x00, 0x00, 0x00, 0x38, 0x00, 0x00, 0x00, 0x00, 0x00, 0x00, 0x00, 0x09, 0x00, 0x01, 0x00, 0x01,
+    0x01, 0x00, 0x00, 0x00, 0x00, 0x00, 0x00, 0x01, 0x00, 0x00, 0x00, 0x00, 0x00, 0x00, 0x00, 0x0d,
+    0x00, 0x00, 0x00, 0x18, 0x20, 0x00, 0x00, 0x00, 0x00, 0x00, 0x00, 0x01, 0x00, 0x00, 0x00, 0x00,
+    0x02, 0x80, 0x00, 0x03, 0x00, 0x00, 0x00, 0x18, 0x80, 0x00, 0x00, 0x00, 0x00, 0x00, 0x00, 0x02,
+    0x00, 0x00, 0x00, 0x10, 0x00, 0x00, 0x00, 0x04, 0x02, 0x80, 0x00, 0x06, 0x00, 0x00, 0x00, 0x08,
+];
+
+/// What that collector writes, at epoch 7.
+pub(crate) const COLLECTOR: &[u8] = &[
+    0x02, 0x00, 0x00, 0x01, 0x00, 0x00, 0x00, 0x08, 0x02, 0x00, 0x00, 0x01, 0x00, 0x00, 0x00, 0x44,
+    0x80, 0x00, 0x00, 0x00, 0x00, 0x00, 0x00, 0x01, 0x00, 0x00, 0x00, 0x3c, 0x00, 0x00, 0x00, 0x00,
+    0x00, 0x00, 0x00, 0x09, 0x00, 0x01, 0x00, 0x01, 0x01, 0x00, 0x00, 0x00, 0x00, 0x00, 0x00, 0x01,
+    0x00, 0x00, 0x00, 0x00, 0x00, 0x00, 0x00, 0x0e, 0x00, 0x00, 0x00, 0x1c, 0x00, 0x00, 0x00, 0x00,
+    0x00, 0x00, 0x00, 0x01, 0x00, 0x00, 0x00, 0x07, 0x00, 0x00, 0x00, 0x00,
+];
+
+/// A link that gives octets, and then that the other end has closed.
+fn link(alloc: Global, octets: &[u8]) -> Result<MemLink, Memory>
+    ensures fresh { IfOk result (λ link. link.faults ≡ 0) }
+{
+    let mut turns = List::new(alloc);
+    for octet in octets {
+        turns.push(LinkTurn::Octet(*octet))?;
+    }
+    MemLink::new(alloc, turns, 16, 4096, &[])
+}
+
+/// A stand at a door of one link, which gives these octets.
+pub(crate) fn stand(alloc: Global, octets: &[u8]) -> Result<Stand<MemDoor>, Memory>
+    ensures ready { IfOk result (λ stand. IsReady (λ door. door.out) stand) }
+{
+    let mut links = List::new(alloc);
+    links.push(link(alloc, octets)?)?;
+    stand_of(alloc, links)
+}
+
+/// A stand at a door without a link.
+pub(crate) fn empty_stand(alloc: Global) -> Result<Stand<MemDoor>, Memory>
+    ensures ready { IfOk result (λ stand. IsReady (λ door. door.out) stand) }
+{
+    stand_of(alloc, List::new(alloc))
+}
+
+/// A stand at a door of these links.
+fn stand_of(alloc: Global, links: List<MemLink>) -> Result<Stand<MemDoor>, Memory>
+    requires fresh { All (λ link. link.faults ≡ 0) links }
+    ensures ready { IfOk result (λ stand. IsReady (λ door. door.out) stand) }
+{
+    Ok(Stand::new(MemDoor::new(alloc, links, &[])?))
+}
+
+/// One stand.
+pub(crate) fn one(alloc: Global, first: Stand<MemDoor>) -> Result<Vec<Stand<MemDoor>>, Memory>
+    requires ready { IsReady (λ door. door.out) first }
+    ensures stands { IfOk result (λ made. made.items ≡ first ∷ []) }
+    ensures ready { IfOk result (λ made. AreReady (λ door. door.out) made.items) }
+{
+    let mut stands = Vec::new(alloc);
+    stands.push(first)?;
+    Ok(stands)
+}
+
+/// Two stands.
+pub(crate) fn two(
+    alloc: Global,
+    first: Stand<MemDoor>,
+    second: Stand<MemDoor>,
+) -> Result<Vec<Stand<MemDoor>>, Memory>
+    requires first { IsReady (λ door. door.out) first }
+    requires second { IsReady (λ door. door.out) second }
+    ensures stands { IfOk result (λ made. made.items ≡ first ∷ second ∷ []) }
+    ensures ready { IfOk result (λ made. AreReady (λ door. door.out) made.items) }
+{
+    let mut stands = Vec::new(alloc);
+    stands.push(first)?;
+    stands.push(second)?;
+    Ok(stands)
+}

@@ -1,0 +1,8 @@
+pub mod Saying
+pub mod OnePlanLaw
+pub mod Printing
+pub mod Counting
+pub mod Faulting
+pub mod OneChronicle
+pub mod StaysRight
+pub mod Running
