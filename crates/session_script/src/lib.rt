@@ -3,7 +3,7 @@
 //!
 //! It stands on `session_world` for the world that a script changes, on `collector_core` for what is
 //! printed of refusals, on `command_text` for the lines of mirrors and of ends of sessions, on
-//! `line_words` for the values of words, on `jiff` and `jiff_core` in the proof that a second has
+//! `line_words` for the values of words, on `jiff_core` in the proof that a second has
 //! one stamp, and on `validator_core`, `swima_model`, `wire_base` and `hex`. The command `replay`
 //! rests on this clause of `replay_answer`:
 //!

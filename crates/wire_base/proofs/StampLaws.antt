@@ -1,13 +1,15 @@
 -- The test for a stamp, and the words that say what one is.
-use Rattle.std.proofs.Common.{◌≡◌, ℕ, ◌+◌, ◌*◌, ◌/◌, ◌%◌, ◌<◌, ◌≤◌, ◌⊎◌, inl, inr, Bool, true, ◌&&◌, ◌||◌, List, [], ◌∷◌, refl, sym, ap, subst, ◌∙◌, arith, ℤ, pos, negsuc, ◌+ℤ◌, ◌*ℤ◌, ◌≤ℤ◌, ◌<ℤ◌, ◌^◌, to_z, of_z, w64}
+use Rattle.std.proofs.Common.{◌≡◌, ℕ, ◌+◌, ◌*◌, ◌/◌, ◌%◌, ◌<◌, ◌≤◌, ◌⊎◌, inl, inr, Bool, true, ◌&&◌, ◌||◌, List, [], ◌∷◌, refl, sym, ap, subst, ◌∙◌, arith, ℤ, pos, negsuc, ◌*ℤ◌, ◌≤ℤ◌, ◌<ℤ◌, ◌^◌, to_z, of_z}
+use Rattle.std.specs.Int.{w128}
 use Rattle.std.specs.Prelude.{◌↔◌, IsTrue}
 use Rattle.std.specs.Bool.{one_answer}
 use Rattle.std.specs.Str.{bytes_eq}
 use Rattle.std.proofs.lemmas.Bool.{ltb-true, lt-ltb, leb-true, le-leb, and_parts, and_from, or_cases, or_left, or_right, cases_lt}
 use Rattle.std.proofs.lemmas.Slice.Eq.{bytes_eq-Decides}
-use Rattle.jiff.specs.Types.{DateTime}
-use Rattle.jiff.specs.Words.{civil_nanos, epoch_day}
 use Rattle.jiff_core.specs.Calendar.{IsCivilDate}
+use Rattle.jiff_core.specs.Date.{epoch_day}
+use Rattle.jiff_core.specs.DateTime.{civil_nanos}
+use Rattle.jiff_core.specs.declared.civil.datetime.DateTime.{DateTime}
 use Rattle.jiff_core.proofs.SignedLemmas.{back_small, signed_arith}
 use Rattle.jiff_core.proofs.CalendarLemmas.{days_in_month_bounds, day_count-lt_year, day_count-epoch, days_from_civil-day_count}
 use Rattle.jiff_core.proofs.DateTimeLemmas.{civil_nanos-parts}
@@ -119,11 +121,13 @@ test_is text made m real same unknown named decides text_of compared known =
 -- ---- the stamp of a second
 
 -- The nanoseconds that a clock shows, from those of the instant of a second.
-pub shown_nanos : (shown nanos given : ℤ) (second secs : ℕ) → second ≡ secs → secs < 2 ^ 32 → given ≡ pos second → nanos ≡ to_z w64 (of_z w64 given) *ℤ pos 1_000_000_000 → shown ≡ nanos +ℤ pos 0
-    → shown ≡ pos (secs * 1_000_000_000)
-shown_nanos shown nanos given second secs same small number instant clock =
-    let back : to_z w64 (of_z w64 given) ≡ given = back_small w64 given (rw number (omega arith)) in
-    omega (arith, signed_arith, rw back at instant, number, clock, same)
+pub shown_nanos : (shown given : ℤ) (second secs : ℕ) → second ≡ secs → secs < 2 ^ 32 → given ≡ pos second
+    → shown ≡ to_z w128 (of_z w128 (to_z w128 (of_z w128 given) *ℤ pos 1_000_000_000)) → shown ≡ pos (secs * 1_000_000_000)
+shown_nanos shown given second secs same small number instant =
+    let back : to_z w128 (of_z w128 given) ≡ given = back_small w128 given (rw number (omega (arith, same, small))) in
+    let product : given *ℤ pos 1_000_000_000 ≡ pos (secs * 1_000_000_000) = omega (arith, signed_arith, number, same) in
+    let whole : to_z w128 (of_z w128 (pos (secs * 1_000_000_000))) ≡ pos (secs * 1_000_000_000) = back_small w128 (pos (secs * 1_000_000_000)) (omega (arith, small)) in
+    rw (back, product) at instant ∙ whole
 
 -- A number is below another, or not.
 below_or_not : (z : ℤ) (n : ℕ) → (z <ℤ pos n) ⊎ (pos n ≤ℤ z)

@@ -3,9 +3,9 @@
 -- fractions of a second.
 use Rattle.std.specs.Prelude.{◌≡◌, ◌↔◌, ◌⊎◌, ◌+◌, ◌-◌, ◌*◌, ◌/◌, ◌%◌, ◌<◌, ◌≤◌, ◌&&◌, ◌||◌, ℕ, zero, suc, Bool, List, [], ◌∷◌, ◌++◌, Result, Ok, Err, IsTrue, fold, codes, nat_lt, nat_le, pos, slice_range}
 use Rattle.std.specs.Str.{bytes_eq}
-use Rattle.jiff.specs.Types.{DateTime}
-use Rattle.jiff.specs.Words.{days_in_month, civil_nanos}
-use Rattle.jiff_core.specs.Calendar.{IsCivilDate}
+use Rattle.jiff_core.specs.Calendar.{IsCivilDate, days_in_month}
+use Rattle.jiff_core.specs.DateTime.{civil_nanos}
+use Rattle.jiff_core.specs.declared.civil.datetime.DateTime.{DateTime}
 use Rattle.wire_base.specs.declared.values.stamp.ClockRange.{ClockRange}
 use Rattle.wire_base.specs.declared.values.moment.Moment.{Moment}
 

@@ -2,8 +2,8 @@
 //! forms and adapters. `values` has the one list type, texts and stamps. `layout` has numbers in
 //! messages, and the cursor that reads fields.
 //!
-//! It stands on std, on `jiff` for the calendar, and on `thiserror` for the texts of errors. The
-//! crates above rest on:
+//! It stands on std, on `jiff_core`, the plain values of `jiff`, for the calendar, and on
+//! `thiserror` for the texts of errors. The crates above rest on:
 //!
 //! - `reads`, `writes` and `cause` of `Source` and `Sink`: what was left or written, and faults
 //!   that are counted.

@@ -8,8 +8,7 @@ use crate::layout::numbers::{put_u16, put_u32};
 use crate::values::list::Octets;
 use crate::values::memory::Memory;
 
-/// Puts octets at the end, after two octets that count them; at `Memory` the list is as it was, or
-/// has the two octets more.
+/// Puts octets at the end, after two octets that count them.
 pub fn put_counted_u16(out: &mut Octets, octets: &[u8]) -> Result<(), Memory>
     requires fits { length octets.now < 2 ^ 16 }
     ensures appended { OnOk result (out.new ≡ out.old ++ written_field (Counted 2 octets.now)) }
@@ -18,8 +17,7 @@ pub fn put_counted_u16(out: &mut Octets, octets: &[u8]) -> Result<(), Memory>
     out.extend(octets)
 }
 
-/// Puts octets at the end, after four octets that count them; at `Memory` the list is as it was,
-/// or has the four octets more.
+/// Puts octets at the end, after four octets that count them.
 pub fn put_counted_u32(out: &mut Octets, octets: &[u8]) -> Result<(), Memory>
     requires fits { length octets.now < 2 ^ 32 }
     ensures appended { OnOk result (out.new ≡ out.old ++ written_field (Counted 4 octets.now)) }

@@ -4,7 +4,7 @@ ghost use Rattle.std.specs.Prelude.{◌≡◌, ◌+◌, ◌%◌, ◌<◌, ◌^�
 ghost use Rattle.jiff_core.specs.Calendar.{IsCivilDate};
 ghost use Rattle.wire_base.specs.Stamp.{IsMoment, Shows, moment_at, moment_text, spelled};
 
-use jiff::civil::{Date, DateTime};
+use jiff_core::civil::{Date, DateTime};
 
 /// A date and a time of day.
 #[derive(Clone, Copy, Debug)]
@@ -24,12 +24,12 @@ impl Moment {
         ensures shown { Shows clock result }
     {
         Moment {
-            year: u32::from(clock.year().unsigned_abs()),
-            month: u32::from(clock.month().unsigned_abs()),
-            day: u32::from(clock.day().unsigned_abs()),
-            hour: u32::from(clock.hour().unsigned_abs()),
-            minute: u32::from(clock.minute().unsigned_abs()),
-            second: u32::from(clock.second().unsigned_abs()),
+            year: u32::from(clock.date.year.unsigned_abs()),
+            month: u32::from(clock.date.month),
+            day: u32::from(clock.date.day),
+            hour: u32::from(clock.time.hour),
+            minute: u32::from(clock.time.minute),
+            second: u32::from(clock.time.second),
         }
     }
 

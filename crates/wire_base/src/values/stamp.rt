@@ -4,8 +4,7 @@ ghost use Rattle.std.specs.Prelude.{◌≡◌, ◌↔◌, IfOk, IsTrue};
 ghost use Rattle.wire_base.specs.Stamp.{IsStamp, IsStampAt, is_stamp};
 
 use crate::values::moment::Moment;
-use jiff::Timestamp;
-use jiff::tz::Offset;
+use jiff_core::civil::DateTime;
 use thiserror::Error;
 
 /// A moment that has no stamp here: it is later than 2106-02-07T06:28:15Z.
@@ -25,8 +24,8 @@ pub fn stamp_text(secs: u64) -> Result<[u8; 20], ClockRange>
     let Ok(second) = u32::try_from(secs) else {
         return Err(ClockRange { secs });
     };
-    let instant = Timestamp::from_second(i64::from(second)).unwrap();
-    Ok(Moment::from_clock(Offset::UTC.to_datetime(instant)).text())
+    let nanos = i128::from(second) * 1_000_000_000;
+    Ok(Moment::from_clock(DateTime::from_nanosecond_in_range(nanos)).text())
 }
 
 /// Whether the text is a stamp: `YYYY-MM-DDThh:mm:ssZ` with a real date, an hour up to 23, a minute
