@@ -9,8 +9,8 @@ use Rattle.coswid_codec.specs.Items.{tag_item}
 use Rattle.coswid_codec.specs.declared.read.TagRefused.{TagRefused}
 use Rattle.coswid_codec.specs.declared.read.TagRefused.TheVariants as tag_refused
 use Rattle.coswid_codec.proofs.Outcomes.{begins_one_tag, not_both}
-use Rattle.line_words.specs.Reading.{Finds, IsHex}
-use Rattle.line_words.proofs.Finding.{finds_by, one_hex}
+use Rattle.line_words.specs.Reading.{Finds}
+use Rattle.line_words.proofs.Finding.{finds_by}
 use Rattle.source_lines.specs.Package.{FindsNoTag, IsPackage, IsPackageOf}
 use Rattle.source_lines.specs.declared.package.Package.{Package}
 
@@ -50,9 +50,3 @@ pub no_tag_found : (octets : List ℕ) (why : TagRefused) (result : Result (Opti
 no_tag_found octets (tag_refused.Cbor fault) result refusal none = subst (Finds (IsPackage octets)) (sym none) (no_package octets (tag_refused.Cbor fault) (λ e. absurd cc) refusal)
 no_tag_found octets (tag_refused.Form fault) result refusal none = subst (Finds (IsPackage octets)) (sym none) (no_package octets (tag_refused.Form fault) (λ e. absurd cc) refusal)
 no_tag_found octets tag_refused.Memory result refusal none = subst (Finds (IsPackage octets)) (sym none.1) tt
-
--- The octets of the digits are no package's.
-pub no_hex_package : (digits octets slice other : List ℕ) (made : Package) → IsHex digits octets → slice ≡ octets → IsHex digits other → IsPackage other made
-    → ((value : Package) → IsPackage slice value → ⊥) → ⊥
-no_hex_package digits octets slice other made hex same also whole none =
-    none made (subst (λ (o : List ℕ). IsPackage o made) (one_hex digits other octets also hex ∙ sym same) whole)

@@ -4,4 +4,4 @@ pub mod OneItem
 pub mod LinesOf
 pub mod Fronts
 pub mod Holding
-pub mod Saying
+pub mod NoItem

@@ -1,3 +1,4 @@
 pub mod Package
 pub mod LineItems
 pub mod Lines
+pub mod LineFaults

@@ -6,6 +6,7 @@ use Rattle.wire_base.specs.Outside.{Moves, NothingLeft}
 use Rattle.wire_base.specs.declared.outside.stopped.Stopped.{Stopped}
 use Rattle.source_lines.specs.declared.line_buffer.Front.{Front}
 use Rattle.source_lines.specs.declared.line_buffer.Front.TheVariants as front
+use Rattle.source_lines.specs.declared.line_fault.LineFault.{LineFault}
 use Rattle.source_set.specs.declared.told.Told.{Told}
 use Rattle.source_set.specs.declared.told.Told.TheVariants as told
 
@@ -46,17 +47,19 @@ AreItems number octets (item ∷ items) = (rest : List ℕ)
 
 -- ---- what was read of an input
 
--- The octets of lines that were not reported, the number of the first of these lines, and how many
--- more octets there is room for.
+-- The octets of lines that were not reported, the number of the first of these lines, why the last
+-- bad line is no item, where one came, and how many more octets there is room for.
 pub record BufferView : Type 0 where
   pub held : List ℕ
   pub number : ℕ
+  pub fault : Option LineFault
   pub room : ℕ
 
--- The octets and the number are the same.
+-- All but the room is the same.
 pub record SameLines (before after : BufferView) : Type 0 where
   pub held : after.held ≡ before.held
   pub number : after.number ≡ before.number
+  pub fault : after.fault ≡ before.fault
 
 -- What octets begin with.
 abbrev pub BeginsWith : List ℕ → Front → Type 0
@@ -66,12 +69,13 @@ BeginsWith held front.More = IsUnfinished held
 
 -- ---- a source of lines
 
--- A source of lines: its input, the octets that were read of it and not reported, and the number of
--- the next line.
+-- A source of lines: its input, the octets that were read of it and not reported, the number of the
+-- next line, and why the last bad line is no item, where one came.
 pub record LineView (S : Type 0) : Type 0 where
   pub input : S
   pub held : List ℕ
   pub number : ℕ
+  pub fault : Option LineFault
 
 -- Where the input exposes what is left, the items are those of the octets that are held and left.
 abbrev pub WillReport : {S : Type 0} → (S → Option (List ℕ)) → LineView S → List Told → Type 0
@@ -81,6 +85,7 @@ WillReport left source items = (octets : List ℕ) × (left source.input ≡ Som
 pub record Holds {S : Type 0} (left : S → Option (List ℕ)) (before after : LineView S) (more : List ℕ) : Type 0 where
   pub held : after.held ≡ before.held ++ more
   pub number : after.number ≡ before.number
+  pub fault : after.fault ≡ before.fault
   pub moved : Moves (left before.input) (left after.input) more
 
 -- What one call of the input did: it gave some octets, or it has come to its end, or nothing was

@@ -1,12 +1,14 @@
 //! The octets of an input that were read and are of lines that were not reported.
 
-ghost use Rattle.std.specs.Prelude.{◌≡◌, ◌+◌, ◌<◌, ◌≤◌, ◌++◌, [], IfOk, OnErr, OnOk, drop, length, take, unwrap_or};
+ghost use Rattle.std.specs.Prelude.{◌≡◌, ◌+◌, ◌<◌, ◌≤◌, ◌++◌, [], IfOk, None, OnErr, OnOk, Some, drop, length, take};
 ghost use Rattle.wire_base.specs.Counter.{next};
+ghost use Rattle.source_lines.specs.LineFaults.{HasFault, Keeps};
 ghost use Rattle.source_lines.specs.LineItems.{IsItem};
 ghost use Rattle.source_lines.specs.Lines.{BeginsWith, MOST_OCTETS, SameLines};
+ghost use Rattle.source_lines.specs.declared.line_fault.LineFault.TheVariants as faults;
 ghost use Rattle.source_set.specs.declared.told.Told.TheVariants as told;
 
-use crate::line_fault::{LineFault, line_fault};
+use crate::line_fault::{LineFault, LineRefused};
 use crate::line_item::item_of;
 use memchr::memchr;
 use source_set::Told;
@@ -26,7 +28,7 @@ pub(crate) struct LineBuffer {
     /// No octet from `place` up to here is a line feed.
     searched: usize,
     number: u64,
-    /// Why the last line that was no item is none.
+    /// Why the last bad line is no item.
     fault: Option<LineFault>,
 }
 
@@ -50,6 +52,7 @@ impl Model for LineBuffer {
     ghost view = { λ buffer. record {
       held = drop buffer.place buffer.octets.items;
       number = buffer.number;
+      fault = buffer.fault;
       room = vec_capacity buffer.octets - vec_len buffer.octets;
     } };
 
@@ -64,6 +67,7 @@ impl LineBuffer {
     pub(crate) fn new(alloc: Global) -> Self
         ensures held { result.held ≡ [] }
         ensures number { result.number ≡ 1 }
+        ensures fault { result.fault ≡ None }
     {
         LineBuffer {
             octets: Vec::new(alloc),
@@ -74,8 +78,10 @@ impl LineBuffer {
         }
     }
 
-    /// Why the last line that was no item is none, where one was: for people.
-    pub(crate) fn last_fault(&self) -> Option<LineFault> {
+    /// Why the last bad line is no item; `None` where none came.
+    pub(crate) fn last_fault(&self) -> Option<LineFault>
+        ensures fault { result ≡ self.now.fault }
+    {
         self.fault
     }
 
@@ -103,32 +109,45 @@ impl LineBuffer {
     pub(crate) fn take_line(&mut self, len: usize) -> Result<Told, Memory>
         requires within { len < length self.old.held }
         ensures item { IfOk result (IsItem self.old.number (take len self.old.held)) }
+        ensures fault { IfOk result (λ item. Keeps (HasFault (take len self.old.held)) item self.old.fault self.new.fault) }
         ensures rest { OnOk result (self.new.held ≡ drop (len + 1) self.old.held) }
         ensures number { OnOk result (self.new.number ≡ next self.old.number) }
         ensures unchanged { OnErr result (SameLines self.old self.new) }
     {
         let (_, held) = self.octets.as_slice().split_at(self.place);
         let (line, _) = held.split_at(len);
-        let alloc = *self.octets.allocator();
-        let item = item_of(alloc, line)?;
-        if item.is_none() {
-            self.fault = line_fault(alloc, line)?;
+        match item_of(*self.octets.allocator(), line) {
+            Ok(item) => {
+                self.skip(len + 1);
+                Ok(item)
+            }
+            Err(LineRefused::Fault(fault)) => Ok(self.give_up(len + 1, fault)),
+            Err(LineRefused::Memory) => Err(Memory),
         }
-        let told = item_or_bad(item, self.number);
-        self.skip(len + 1);
-        Ok(told)
     }
 
     /// As many octets as a line may have are a bad line, and go. It takes no memory.
     pub(crate) fn take_long(&mut self) -> Told
         requires within { MOST_OCTETS ≤ length self.old.held }
         ensures item { result ≡ told.Bad self.old.number }
+        ensures fault { self.new.fault ≡ Some faults.Long }
         ensures rest { self.new.held ≡ drop MOST_OCTETS self.old.held }
         ensures number { self.new.number ≡ next self.old.number }
     {
+        self.give_up(MOST_OCTETS, LineFault::Long)
+    }
+
+    /// The first octets, that many, are a bad line for that reason, and go.
+    fn give_up(&mut self, count: usize, fault: LineFault) -> Told
+        requires within { count ≤ length self.old.held }
+        ensures item { result ≡ told.Bad self.old.number }
+        ensures fault { self.new.fault ≡ Some fault }
+        ensures rest { self.new.held ≡ drop count self.old.held }
+        ensures number { self.new.number ≡ next self.old.number }
+    {
         let line = self.number;
-        self.fault = Some(LineFault::Long);
-        self.skip(MOST_OCTETS);
+        self.fault = Some(fault);
+        self.skip(count);
         Told::Bad { line }
     }
 
@@ -137,6 +156,7 @@ impl LineBuffer {
         requires within { count ≤ length self.old.held }
         ensures rest { self.new.held ≡ drop count self.old.held }
         ensures number { self.new.number ≡ next self.old.number }
+        ensures fault { self.new.fault ≡ self.old.fault }
     {
         self.place += count;
         self.searched = self.place;
@@ -160,17 +180,8 @@ impl LineBuffer {
         requires room { length piece.now ≤ self.old.room }
         ensures held { self.new.held ≡ self.old.held ++ piece.now }
         ensures number { self.new.number ≡ self.old.number }
+        ensures fault { self.new.fault ≡ self.old.fault }
     {
         self.octets.extend_from_slice(piece).unwrap();
-    }
-}
-
-/// The item of a line, or that the line of that number is none.
-fn item_or_bad(item: Option<Told>, line: u64) -> Told
-    ensures item { result ≡ unwrap_or item (told.Bad line) }
-{
-    match item {
-        Some(item) => item,
-        None => Told::Bad { line },
     }
 }

@@ -1,13 +1,12 @@
 //! Why a line is no item.
 
-use crate::package::read_package;
-use line_words::{Words, bounded, read_number, read_octets, read_text};
-use std::alloc::Global;
-use swima_model::{Body, Locator};
+ghost use Rattle.std.specs.Prelude.{◌≡◌};
+ghost use Rattle.source_lines.specs.declared.line_fault.LineRefused.TheVariants as refused;
+
 use thiserror::Error;
 use wire_base::Memory;
 
-/// Why a line is no item.
+/// Why a line is no item. Where more than one thing is wrong with it, that is the first.
 #[derive(Clone, Copy, Debug, PartialEq, Eq, Error)]
 pub enum LineFault {
     /// It has more octets than a line may have.
@@ -30,94 +29,19 @@ pub enum LineFault {
     Octets,
 }
 
-/// Why the line is no item, where it is none: for people, so no clause speaks of it.
-pub(crate) fn line_fault(alloc: Global, line: &[u8]) -> Result<Option<LineFault>, Memory> {
-    let mut words = Words::new(line);
-    let Some(verb) = words.next() else {
-        return Ok(None);
-    };
-    if verb == b"add".as_slice() || verb == b"change".as_slice() {
-        return tag_fault(alloc, &mut words);
-    }
-    if verb == b"xml".as_slice() {
-        return xml_fault(alloc, &mut words);
-    }
-    if verb == b"gone".as_slice() {
-        return Ok(key_fault(&mut words));
-    }
-    Ok(Some(LineFault::Words))
+/// Why no item was read of a line.
+#[derive(Clone, Copy, Debug)]
+pub(crate) enum LineRefused {
+    /// It is none.
+    Fault(LineFault),
+    /// Out of memory.
+    Memory,
 }
 
-/// What is wrong with a key, a locator and a tag.
-fn tag_fault(alloc: Global, words: &mut Words<'_>) -> Result<Option<LineFault>, Memory> {
-    let (Some(key), Some(locator), Some(digits), None) = (
-        words.next(),
-        words.next(),
-        words.next(),
-        words.next(),
-    ) else {
-        return Ok(Some(LineFault::Words));
-    };
-    if read_number(key).is_none() {
-        return Ok(Some(LineFault::Key));
-    }
-    if !is_text(alloc, locator)? {
-        return Ok(Some(LineFault::Text));
-    }
-    let Some(octets) = read_octets(alloc, digits)? else {
-        return Ok(Some(LineFault::Digits));
-    };
-    if read_package(alloc, octets.as_slice())?.is_none() {
-        return Ok(Some(LineFault::Octets));
-    }
-    Ok(None)
-}
+impl From<Memory> for LineRefused {
+    ghost from_gives = { λ _ e. e ≡ refused.Memory };
 
-/// What is wrong with a key, a software identifier, a locator and a body.
-fn xml_fault(alloc: Global, words: &mut Words<'_>) -> Result<Option<LineFault>, Memory> {
-    let (Some(key), Some(ident), Some(locator), Some(digits), None) = (
-        words.next(),
-        words.next(),
-        words.next(),
-        words.next(),
-        words.next(),
-    ) else {
-        return Ok(Some(LineFault::Words));
-    };
-    if read_number(key).is_none() {
-        return Ok(Some(LineFault::Key));
+    fn from(_memory: Memory) -> Self {
+        LineRefused::Memory
     }
-    if !is_text(alloc, ident)? || !is_text(alloc, locator)? {
-        return Ok(Some(LineFault::Text));
-    }
-    let Some(octets) = read_octets(alloc, digits)? else {
-        return Ok(Some(LineFault::Digits));
-    };
-    if !is_body(alloc, octets.as_slice())? {
-        return Ok(Some(LineFault::Octets));
-    }
-    Ok(None)
-}
-
-/// What is wrong with a key alone. It takes no memory.
-fn key_fault(words: &mut Words<'_>) -> Option<LineFault> {
-    let (Some(key), None) = (words.next(), words.next()) else {
-        return Some(LineFault::Words);
-    };
-    match read_number(key) {
-        Some(_) => None,
-        None => Some(LineFault::Key),
-    }
-}
-
-/// Whether the word is the text of an identifier or locator, which have one limit.
-fn is_text(alloc: Global, word: &[u8]) -> Result<bool, Memory> {
-    let text: Option<Locator> = read_text(alloc, word)?;
-    Ok(text.is_some())
-}
-
-/// Whether the octets are few enough for a body.
-fn is_body(alloc: Global, octets: &[u8]) -> Result<bool, Memory> {
-    let body: Option<Body> = bounded(alloc, octets)?;
-    Ok(body.is_some())
 }

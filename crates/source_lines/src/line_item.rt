@@ -1,16 +1,16 @@
 //! The item that a line is.
 
-ghost use Rattle.std.specs.Prelude.{◌≡◌, List, ℕ, None, Some};
-ghost use Rattle.std.specs.Option.{option_map};
-ghost use Rattle.line_words.specs.Reading.{Finds, FindsExactly};
+ghost use Rattle.std.specs.Prelude.{◌≡◌};
+ghost use Rattle.line_words.specs.Reading.{FindsExactly};
+ghost use Rattle.source_lines.specs.LineFaults.{BodyFault, BodyFaultIn, GivesOr, HasFault, KeyFaultIn, TagFault, TagFaultIn};
 ghost use Rattle.source_lines.specs.LineItems.{AreTagged, AreDescribed, IsAlone, IsDescribed, IsGone, IsTagged, Says, added, changed};
 
+use crate::line_fault::{LineFault, LineRefused};
 use crate::package::read_package;
 use line_words::{Words, bounded, read_number, read_octets, read_text};
 use source_set::Told;
 use std::alloc::Global;
 use swima_model::{Content, Model};
-use wire_base::Memory;
 
 /// A key, and what the record of its software says.
 #[derive(Debug, Drop)]
@@ -21,13 +21,13 @@ pub(crate) struct Keyed {
     pub content: Content,
 }
 
-/// The item that the line is; `None` exactly where it is none.
-pub(crate) fn item_of(alloc: Global, line: &[u8]) -> Result<Option<Told>, Memory>
-    ensures item { Finds (Says line.now) result }
+/// The item that the line is, or why it is none.
+pub(crate) fn item_of(alloc: Global, line: &[u8]) -> Result<Told, LineRefused>
+    ensures item { GivesOr (Says line.now) (HasFault line.now) result }
 {
     let mut words = Words::new(line);
     let Some(verb) = words.next() else {
-        return Ok(None);
+        return Err(LineRefused::Fault(LineFault::Words));
     };
     if verb == b"add".as_slice() {
         return Ok(as_added(of_tag(alloc, &mut words)?));
@@ -39,30 +39,33 @@ pub(crate) fn item_of(alloc: Global, line: &[u8]) -> Result<Option<Told>, Memory
         return Ok(as_added(of_xml(alloc, &mut words)?));
     }
     if verb == b"gone".as_slice() {
-        return Ok(of_key(&mut words));
+        return of_key(&mut words);
     }
-    Ok(alone(verb, &mut words))
+    match alone(verb, &mut words) {
+        Some(item) => Ok(item),
+        None => Err(LineRefused::Fault(LineFault::Words)),
+    }
 }
 
-/// An addition, where there is one.
-fn as_added(keyed: Option<Keyed>) -> Option<Told>
-    ensures item { result ≡ option_map added keyed }
+/// An addition.
+fn as_added(keyed: Keyed) -> Told
+    ensures item { result ≡ added keyed }
 {
-    let Keyed { key, content } = keyed?;
-    Some(Told::Add { key, content })
+    let Keyed { key, content } = keyed;
+    Told::Add { key, content }
 }
 
-/// A change, where there is one.
-fn as_changed(keyed: Option<Keyed>) -> Option<Told>
-    ensures item { result ≡ option_map changed keyed }
+/// A change.
+fn as_changed(keyed: Keyed) -> Told
+    ensures item { result ≡ changed keyed }
 {
-    let Keyed { key, content } = keyed?;
-    Some(Told::Change { key, content })
+    let Keyed { key, content } = keyed;
+    Told::Change { key, content }
 }
 
 /// What a key, a locator and a tag say.
-fn of_tag(alloc: Global, words: &mut Words<'_>) -> Result<Option<Keyed>, Memory>
-    ensures tag { Finds (IsTagged words.old) result }
+fn of_tag(alloc: Global, words: &mut Words<'_>) -> Result<Keyed, LineRefused>
+    ensures tag { GivesOr (IsTagged words.old) (TagFaultIn words.old) result }
 {
     let (Some(key), Some(locator), Some(digits), None) = (
         words.next(),
@@ -70,28 +73,28 @@ fn of_tag(alloc: Global, words: &mut Words<'_>) -> Result<Option<Keyed>, Memory>
         words.next(),
         words.next(),
     ) else {
-        return Ok(None);
+        return Err(LineRefused::Fault(LineFault::Words));
     };
     tagged(alloc, key, locator, digits)
 }
 
 /// What the words of a key, of a locator and of a tag's octets say.
-fn tagged(alloc: Global, key: &[u8], locator: &[u8], digits: &[u8]) -> Result<Option<Keyed>, Memory>
-    ensures tag { Finds (AreTagged key.now locator.now digits.now) result }
+fn tagged(alloc: Global, key: &[u8], locator: &[u8], digits: &[u8]) -> Result<Keyed, LineRefused>
+    ensures tag { GivesOr (AreTagged key.now locator.now digits.now) (TagFault key.now locator.now digits.now) result }
 {
     let Some(key) = read_number(key) else {
-        return Ok(None);
+        return Err(LineRefused::Fault(LineFault::Key));
     };
     let Some(locator) = read_text(alloc, locator)? else {
-        return Ok(None);
+        return Err(LineRefused::Fault(LineFault::Text));
     };
     let Some(octets) = read_octets(alloc, digits)? else {
-        return Ok(None);
+        return Err(LineRefused::Fault(LineFault::Digits));
     };
     let Some(package) = read_package(alloc, octets.as_slice())? else {
-        return Ok(None);
+        return Err(LineRefused::Fault(LineFault::Octets));
     };
-    Ok(Some(Keyed {
+    Ok(Keyed {
         key,
         content: Content {
             model: Model { pen: 0, kind: 2 },
@@ -100,12 +103,12 @@ fn tagged(alloc: Global, key: &[u8], locator: &[u8], digits: &[u8]) -> Result<Op
             locator,
             body: package.body,
         },
-    }))
+    })
 }
 
 /// What a key, an identifier, a locator and a body say.
-fn of_xml(alloc: Global, words: &mut Words<'_>) -> Result<Option<Keyed>, Memory>
-    ensures xml { Finds (IsDescribed words.old) result }
+fn of_xml(alloc: Global, words: &mut Words<'_>) -> Result<Keyed, LineRefused>
+    ensures xml { GivesOr (IsDescribed words.old) (BodyFaultIn words.old) result }
 {
     let (Some(key), Some(ident), Some(locator), Some(digits), None) = (
         words.next(),
@@ -114,7 +117,7 @@ fn of_xml(alloc: Global, words: &mut Words<'_>) -> Result<Option<Keyed>, Memory>
         words.next(),
         words.next(),
     ) else {
-        return Ok(None);
+        return Err(LineRefused::Fault(LineFault::Words));
     };
     described(alloc, key, ident, locator, digits)
 }
@@ -126,25 +129,25 @@ fn described(
     ident: &[u8],
     locator: &[u8],
     digits: &[u8],
-) -> Result<Option<Keyed>, Memory>
-    ensures xml { Finds (AreDescribed key.now ident.now locator.now digits.now) result }
+) -> Result<Keyed, LineRefused>
+    ensures xml { GivesOr (AreDescribed key.now ident.now locator.now digits.now) (BodyFault key.now ident.now locator.now digits.now) result }
 {
     let Some(key) = read_number(key) else {
-        return Ok(None);
+        return Err(LineRefused::Fault(LineFault::Key));
     };
     let Some(ident) = read_text(alloc, ident)? else {
-        return Ok(None);
+        return Err(LineRefused::Fault(LineFault::Text));
     };
     let Some(locator) = read_text(alloc, locator)? else {
-        return Ok(None);
+        return Err(LineRefused::Fault(LineFault::Text));
     };
     let Some(octets) = read_octets(alloc, digits)? else {
-        return Ok(None);
+        return Err(LineRefused::Fault(LineFault::Digits));
     };
     let Some(body) = bounded(alloc, octets.as_slice())? else {
-        return Ok(None);
+        return Err(LineRefused::Fault(LineFault::Octets));
     };
-    Ok(Some(Keyed {
+    Ok(Keyed {
         key,
         content: Content {
             model: Model { pen: 0, kind: 0 },
@@ -153,19 +156,20 @@ fn described(
             locator,
             body,
         },
-    }))
+    })
 }
 
 /// That the software of a key is gone. It takes no memory.
-fn of_key(words: &mut Words<'_>) -> Option<Told>
-    ensures gone { FindsExactly (IsGone words.old) result }
+fn of_key(words: &mut Words<'_>) -> Result<Told, LineRefused>
+    ensures gone { GivesOr (IsGone words.old) (KeyFaultIn words.old) result }
 {
     let (Some(key), None) = (words.next(), words.next()) else {
-        return None;
+        return Err(LineRefused::Fault(LineFault::Words));
     };
-    Some(Told::Gone {
-        key: read_number(key)?,
-    })
+    match read_number(key) {
+        Some(key) => Ok(Told::Gone { key }),
+        None => Err(LineRefused::Fault(LineFault::Key)),
+    }
 }
 
 /// The item of a word that stands alone. It takes no memory.

@@ -1,10 +1,11 @@
 //! A source that reads its items from lines.
 
-ghost use Rattle.std.specs.Prelude.{◌≡◌, ◌≢◌, [], IfOk, false};
+ghost use Rattle.std.specs.Prelude.{◌≡◌, ◌≢◌, [], IfOk, None, OnErr, false};
 ghost use Rattle.wire_base.specs.Outside.{HasCause};
 ghost use Rattle.wire_base.specs.Passing.{is_fault};
 ghost use Rattle.source_set.specs.Items.{Gave, LeavesAll, Reported, is_failed};
 ghost use Rattle.source_set.specs.declared.told.Told.TheVariants as told;
+ghost use Rattle.source_lines.specs.LineFaults.{KeepsFault};
 ghost use Rattle.source_lines.specs.Lines.{HasRead, IfUnread, WillReport};
 
 use crate::line_buffer::{Front, LineBuffer};
@@ -35,6 +36,7 @@ impl<S: Drop> Model for LineSource<S> {
       input = source.input;
       held = source.lines.held;
       number = source.lines.number;
+      fault = source.lines.fault;
     } };
 }
 
@@ -42,7 +44,7 @@ impl<S: Source + Drop> LineSource<S> {
     /// A source of the lines of `input`, the first of which has the number 1.
     pub fn new(alloc: Global, input: S) -> Result<Self, Memory>
         ensures made { IfOk result (λ made.
-            made ≡ record { input = input; held = []; number = 1 }) }
+            made ≡ record { input = input; held = []; number = 1; fault = None }) }
     {
         Ok(LineSource {
             input,
@@ -50,8 +52,10 @@ impl<S: Source + Drop> LineSource<S> {
         })
     }
 
-    /// Why the last line that was no item is none, where one was: for people.
-    pub fn last_fault(&self) -> Option<LineFault> {
+    /// Why the last bad line is no item; `None` where none came.
+    pub fn last_fault(&self) -> Option<LineFault>
+        ensures fault { result ≡ self.now.fault }
+    {
         self.lines.last_fault()
     }
 
@@ -60,6 +64,8 @@ impl<S: Source + Drop> LineSource<S> {
         ensures item { IfOk result (λ item. (is_failed item ≡ false) × (item ≢ told.Memory)
             × Gave (WillReport S.left) self.old item self.new) }
         ensures unread { IfUnread (WillReport S.left) self.old self.new result }
+        ensures fault { IfOk result (λ item. KeepsFault S.left self.old item self.new) }
+        ensures kept { OnErr result (self.new.fault ≡ self.old.fault) }
         ensures cause { HasCause (S.faults self.old.input) (S.faults self.new.input) (is_fault result) }
     {
         loop {
@@ -97,11 +103,12 @@ impl<S: Source + Drop> TagSource for LineSource<S> {
 
     /// The item of the next line. Where the input exposes what is left, an item of a line that is
     /// whole comes once, whatever the pieces of the input. After `Failed` and `Memory` all items are
-    /// left that were left before.
+    /// left that were left before. After `Bad`, `last_fault` gives the reason of this line.
     fn next(&mut self) -> Told
         ensures reported { Reported (WillReport S.left) self.old result self.new }
         ensures cause { HasCause (S.faults self.old.input) (S.faults self.new.input) (is_failed result) }
         ensures unread { LeavesAll (WillReport S.left) self.old result self.new }
+        ensures fault { KeepsFault S.left self.old result self.new }
     {
         match self.read_item() {
             Ok(told) => told,

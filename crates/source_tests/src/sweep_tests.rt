@@ -1,99 +1,137 @@
 //! Sweeps over sources that report what is listed.
 
 use crate::listed::Step;
-use crate::values::{STAMP, counts, empty_book, is_at, says, set_of, set_of_two, swept};
+use crate::values::{STAMP, counts, empty_book, is_at, says, set_of, set_of_two, sweeps};
 use collector_core::{Book, BookError};
-use source_set::SweepError;
+use source_set::{SourceSet, SweepError};
+use std::alloc::Global;
 use swima_model::{Body, Content, Ident, Locator, Model};
-use wire_base::Memory;
+use wire_base::{Memory, is_stamp};
+
+/// Whether the first source ends with what it added, and the second reports a key that is not held.
+fn leaves_nothing(mut set: SourceSet, mut book: Book) -> bool {
+    let unknown = SweepError::UnknownKey { source: 1, key: 4 };
+    let first = sweeps(&mut set, &mut book, counts(1, 0, 1, 1), Err(unknown));
+    let left = is_at(&book, 2, 0);
+    first & left & sweeps(&mut set, &mut book, counts(0, 0, 0, 0), Ok(()))
+}
 
 #[test]
 fn an_ended_source_leaves_nothing(rt: HostRuntime) -> Result<(), Memory> {
-    let alloc = rt.alloc();
     let one = [Step::Add(1, b'a'), Step::Ended];
-    let mut set = set_of_two(alloc, &one, &[Step::Gone(4)])?;
-    let mut book = empty_book(alloc)?;
-    let unknown = SweepError::UnknownKey { source: 1, key: 4 };
-    assert!(rt; swept(&mut set, &mut book) == Some((counts(1, 0, 1, 1), Err(unknown))));
-    assert!(rt; is_at(&book, 2, 0));
-    assert!(rt; swept(&mut set, &mut book) == Some((counts(0, 0, 0, 0), Ok(()))));
+    let set = set_of_two(rt.alloc(), &one, &[Step::Gone(4)])?;
+    assert!(rt; leaves_nothing(set, empty_book(rt.alloc())?));
     Ok(())
+}
+
+/// Whether the record 1 of a book is of source 1, with this letter.
+fn has_letter(book: &Book, letter: u8) -> bool {
+    match book.record(1) {
+        Some(record) => says(&record.content, 1, letter),
+        None => false,
+    }
+}
+
+/// Whether the second source adds and changes a record until it is quiet, and then takes it away.
+fn goes_on(mut set: SourceSet, mut book: Book) -> bool {
+    let quiet = sweeps(&mut set, &mut book, counts(1, 1, 0, 0), Ok(()));
+    let changed = has_letter(&book, b'b');
+    let gone = sweeps(&mut set, &mut book, counts(0, 0, 1, 0), Ok(()));
+    quiet & changed & gone & is_at(&book, 3, 0)
 }
 
 #[test]
 fn a_source_goes_on_where_it_was_quiet(rt: HostRuntime) -> Result<(), Memory> {
-    let alloc = rt.alloc();
     let steps = [
         Step::Add(1, b'a'),
         Step::Add(1, b'b'),
         Step::Quiet,
         Step::Gone(1),
     ];
-    let mut set = set_of_two(alloc, &[], &steps)?;
-    let mut book = empty_book(alloc)?;
-    assert!(rt; swept(&mut set, &mut book) == Some((counts(1, 1, 0, 0), Ok(()))));
-    match book.record(1) {
-        Some(record) => assert!(rt; says(&record.content, 1, b'b')),
-        None => assert!(rt; false),
-    }
-    assert!(rt; swept(&mut set, &mut book) == Some((counts(0, 0, 1, 0), Ok(()))));
-    assert!(rt; is_at(&book, 3, 0));
+    let set = set_of_two(rt.alloc(), &[], &steps)?;
+    assert!(rt; goes_on(set, empty_book(rt.alloc())?));
     Ok(())
+}
+
+/// Whether a sweep stops where the first source fails, and the next one goes on after that.
+fn stops_and_goes_on(mut set: SourceSet, mut book: Book) -> bool {
+    let failed = SweepError::SourceFailed { source: 0 };
+    let first = sweeps(&mut set, &mut book, counts(1, 0, 0, 0), Err(failed));
+    let stopped = is_at(&book, 1, 1);
+    let then = sweeps(&mut set, &mut book, counts(1, 1, 0, 0), Ok(()));
+    first & stopped & then & is_at(&book, 3, 2)
 }
 
 #[test]
 fn a_failed_source_stops_the_sweep(rt: HostRuntime) -> Result<(), Memory> {
-    let alloc = rt.alloc();
     let one = [Step::Add(1, b'a'), Step::Failed, Step::Change(1, b'b')];
-    let mut set = set_of_two(alloc, &one, &[Step::Add(1, b'c')])?;
-    let mut book = empty_book(alloc)?;
-    let failed = SweepError::SourceFailed { source: 0 };
-    assert!(rt; swept(&mut set, &mut book) == Some((counts(1, 0, 0, 0), Err(failed))));
-    assert!(rt; is_at(&book, 1, 1));
-    assert!(rt; swept(&mut set, &mut book) == Some((counts(1, 1, 0, 0), Ok(()))));
-    assert!(rt; is_at(&book, 3, 2));
+    let set = set_of_two(rt.alloc(), &one, &[Step::Add(1, b'c')])?;
+    assert!(rt; stops_and_goes_on(set, empty_book(rt.alloc())?));
     Ok(())
+}
+
+/// Whether a sweep stops at each of three steps that are no items, and the fourth adds a record.
+fn keeps_the_item_alone(mut set: SourceSet, mut book: Book) -> bool {
+    let bad = SweepError::BadLine { source: 0, line: 7 };
+    let unknown = SweepError::UnknownKey { source: 0, key: 2 };
+    let none = counts(0, 0, 0, 0);
+    sweeps(&mut set, &mut book, none, Err(bad))
+        & sweeps(&mut set, &mut book, none, Err(SweepError::Memory))
+        & sweeps(&mut set, &mut book, none, Err(unknown))
+        & sweeps(&mut set, &mut book, counts(1, 0, 0, 0), Ok(()))
 }
 
 #[test]
 fn what_is_no_item_is_not_kept(rt: HostRuntime) -> Result<(), Memory> {
-    let alloc = rt.alloc();
     let steps = [
         Step::Bad(7),
         Step::Memory,
         Step::Change(2, b'a'),
         Step::Add(2, b'a'),
     ];
-    let mut set = set_of(alloc, &steps)?;
-    let mut book = empty_book(alloc)?;
-    let bad = SweepError::BadLine { source: 0, line: 7 };
-    let unknown = SweepError::UnknownKey { source: 0, key: 2 };
-    assert!(rt; swept(&mut set, &mut book) == Some((counts(0, 0, 0, 0), Err(bad))));
-    assert!(rt; swept(&mut set, &mut book) == Some((counts(0, 0, 0, 0), Err(SweepError::Memory))));
-    assert!(rt; swept(&mut set, &mut book) == Some((counts(0, 0, 0, 0), Err(unknown))));
-    assert!(rt; swept(&mut set, &mut book) == Some((counts(1, 0, 0, 0), Ok(()))));
+    let set = set_of(rt.alloc(), &steps)?;
+    assert!(rt; keeps_the_item_alone(set, empty_book(rt.alloc())?));
     Ok(())
 }
 
-#[test]
-fn a_sweep_takes_1024_items_of_a_source(rt: HostRuntime) -> Result<(), Memory> {
-    let alloc = rt.alloc();
+/// A source that adds a record and changes it 1024 times.
+fn set_of_1025(alloc: Global) -> Result<SourceSet, Memory> {
     let mut steps = Vec::with_capacity(alloc, 1025)?;
+    push_steps(&mut steps)?;
+    set_of(alloc, steps.as_slice())
+}
+
+/// Pushes an addition and 1024 changes.
+fn push_steps(steps: &mut Vec<Step>) -> Result<(), Memory> {
     steps.push(Step::Add(1, b'a'))?;
     for _ in 0..1024 {
         steps.push(Step::Change(1, b'b'))?;
     }
-    let mut set = set_of(alloc, steps.as_slice())?;
-    let mut book = empty_book(alloc)?;
-    assert!(rt; swept(&mut set, &mut book) == Some((counts(1, 1023, 0, 0), Ok(()))));
-    assert!(rt; swept(&mut set, &mut book) == Some((counts(0, 1, 0, 0), Ok(()))));
     Ok(())
 }
 
+/// Whether the first sweep takes 1024 items, and the second the one that is left.
+fn takes_1024(mut set: SourceSet, mut book: Book) -> bool {
+    sweeps(&mut set, &mut book, counts(1, 1023, 0, 0), Ok(()))
+        & sweeps(&mut set, &mut book, counts(0, 1, 0, 0), Ok(()))
+}
+
 #[test]
-fn a_refused_item_is_done_next_time(rt: HostRuntime) -> Result<(), Memory> {
-    let alloc = rt.alloc();
+fn a_sweep_takes_1024_items_of_a_source(rt: HostRuntime) -> Result<(), Memory> {
+    let set = set_of_1025(rt.alloc())?;
+    assert!(rt; takes_1024(set, empty_book(rt.alloc())?));
+    Ok(())
+}
+
+/// A book at epoch 7 of as many records as it may have.
+fn full_book(alloc: Global) -> Result<Book, Memory> {
     let mut base = Vec::with_capacity(alloc, 65536)?;
+    push_contents(alloc, &mut base)?;
+    Book::new(alloc, 7, 400, base.as_slice()).map_err(|_| Memory)
+}
+
+/// Pushes 65536 contents of empty parts.
+fn push_contents(alloc: Global, base: &mut Vec<Content>) -> Result<(), Memory> {
     for _ in 0..65536 {
         base.push(Content {
             model: Model { pen: 0, kind: 2 },
@@ -103,12 +141,28 @@ fn a_refused_item_is_done_next_time(rt: HostRuntime) -> Result<(), Memory> {
             body: Body::empty(alloc),
         })?;
     }
-    let mut book = Book::new(alloc, 7, 400, base.as_slice()).map_err(|_| Memory)?;
-    let mut set = set_of(alloc, &[Step::Add(1, b'a')])?;
+    Ok(())
+}
+
+/// Whether a book deletes its record 1.
+fn deletes_one(book: &mut Book) -> bool {
+    if !is_stamp(&STAMP) {
+        return false;
+    }
+    book.delete(&STAMP, 1) == Ok(())
+}
+
+/// Whether a full book refuses an item, and a sweep adds it once there is room.
+fn is_done_next_time(mut set: SourceSet, mut book: Book) -> bool {
     let full = SweepError::Book(BookError::RecordsFull { count: 65536 });
-    assert!(rt; swept(&mut set, &mut book) == Some((counts(0, 0, 0, 0), Err(full))));
-    assert!(rt; wire_base::is_stamp(&STAMP));
-    assert!(rt; book.delete(&STAMP, 1) == Ok(()));
-    assert!(rt; swept(&mut set, &mut book) == Some((counts(1, 0, 0, 0), Ok(()))));
+    let refused = sweeps(&mut set, &mut book, counts(0, 0, 0, 0), Err(full));
+    let deleted = deletes_one(&mut book);
+    refused & deleted & sweeps(&mut set, &mut book, counts(1, 0, 0, 0), Ok(()))
+}
+
+#[test]
+fn a_refused_item_is_done_next_time(rt: HostRuntime) -> Result<(), Memory> {
+    let set = set_of(rt.alloc(), &[Step::Add(1, b'a')])?;
+    assert!(rt; is_done_next_time(set, full_book(rt.alloc())?));
     Ok(())
 }

@@ -30,15 +30,17 @@ pub(crate) fn empty_book(alloc: Global) -> Result<Book, Memory> {
     Book::new(alloc, 7, 400, &[]).map_err(|_| Memory)
 }
 
-/// What a sweep answers.
-pub(crate) fn swept(
+/// Whether a sweep does this and answers so.
+pub(crate) fn sweeps(
     set: &mut SourceSet,
     book: &mut Book,
-) -> Option<(Swept, Result<(), SweepError>)> {
+    done: Swept,
+    answer: Result<(), SweepError>,
+) -> bool {
     if !is_stamp(&STAMP) {
-        return None;
+        return false;
     }
-    Some(set.sweep(book, &STAMP))
+    set.sweep(book, &STAMP) == (done, answer)
 }
 
 /// Numbers of a sweep.
