@@ -58,7 +58,7 @@ fn follows_both(alloc: Global) -> Option<bool> {
     let entered = gate.entered.load(Ordering::SeqCst);
     let left = gate.left.load(Ordering::SeqCst);
     Some(
-        both & (work.stop == Stop::Held)
+        both & (work.stop == Stop::Done)
             & ((entered, left) == (2, 2))
             & was_given(&door, 0, VALIDATOR)
             & (mirror.point() == Some(Point { epoch: 7, eid: 0 })),

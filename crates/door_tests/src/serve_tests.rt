@@ -68,7 +68,7 @@ fn serves_after_a_fault<R: Wait>(alloc: Global, wait: &R) -> Option<bool> {
         [one, other] => (one.1 == SessionEnd::LinkFault) & is_whole(other),
         _ => false,
     };
-    Some(second & (work.stop == Stop::Held) & was_given(&door, 1, COLLECTOR))
+    Some(second & (work.stop == Stop::Done) & was_given(&door, 1, COLLECTOR))
 }
 
 #[test]

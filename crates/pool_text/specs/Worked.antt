@@ -25,7 +25,7 @@ one_session noted by = ((record noted { reports = 1 }, by) ∷ []) ∷ []
 abbrev pub at : ℕ → Point
 at eid = record { epoch = 7; eid = eid }
 
--- Sweeps that did so much.
+-- Sweeps with these counts.
 abbrev pub sweeps : ℕ → ℕ → ℕ → ℕ → Swept
 sweeps added changed gone dropped = record { added = added; changed = changed; gone = gone; dropped = dropped }
 

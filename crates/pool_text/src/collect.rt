@@ -12,9 +12,9 @@ use std::alloc::Global;
 use swima_model::Point;
 use wire_base::{List, Memory, Octets};
 
-/// What `collect` prints: the lines of each door, by what is noted of its sessions and whether it
-/// failed; what the sweeps did, and why they stopped, if they did; and the point of the inventory
-/// in the end, with the number of its records.
+/// What `collect` prints. The lines of each door come first, by what is noted of its sessions and
+/// whether it failed. After them comes what the sweeps did, and why they stopped, if they did. The
+/// last line is the inventory's point in the end, with the number of its records.
 pub fn collect_text(
     alloc: Global,
     ends: &[Ends],

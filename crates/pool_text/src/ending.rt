@@ -51,21 +51,21 @@ pub fn follow_ending(ends: &[Ends], door_failed: &[bool]) -> Result<Ending, Stop
 fn ran_out(ends: &[Ends], stopped: Option<SweepStop>) -> bool
     ensures memory { result ≡ (some_end_at is_memory ends.now || stopped_memory stopped) }
 {
-    some_memory(ends) | is_stopped_memory(stopped)
+    some_memory(ends) || is_stopped_memory(stopped)
 }
 
 /// Whether a call of a link, a door or a source failed.
 fn has_failed(ends: &[Ends], door_failed: &[bool], stopped: Option<SweepStop>) -> bool
     ensures failed { result ≡ (some_end_at is_link_fault ends.now || list_any (λ failed. failed) door_failed.now || stopped_failed stopped) }
 {
-    some_link_fault(ends) | some_failed(door_failed) | is_stopped_failed(stopped)
+    some_link_fault(ends) || some_failed(door_failed) || is_stopped_failed(stopped)
 }
 
 /// Whether something is wrong with what a session heard, or with what the sweeps met.
 fn went_wrong(ends: &[Ends], stopped: Option<SweepStop>) -> bool
     ensures wrong { result ≡ (some_end_at is_wrong ends.now || stopped_wrong stopped) }
 {
-    some_wrong(ends) | is_stopped_wrong(stopped)
+    some_wrong(ends) || is_stopped_wrong(stopped)
 }
 
 // ---- the sessions at all doors
@@ -131,16 +131,10 @@ fn is_link_fault(by: SessionEnd) -> bool
 fn is_wrong(by: SessionEnd) -> bool
     ensures wrong { result ≡ is_wrong by }
 {
-    match by {
-        SessionEnd::Refused { .. } | SessionEnd::PeerError { .. } | SessionEnd::Torn { .. } => true,
-        SessionEnd::Closed
-        | SessionEnd::PeerClosed
-        | SessionEnd::Ended
-        | SessionEnd::LinkFault
-        | SessionEnd::IdleOut { .. }
-        | SessionEnd::Enough
-        | SessionEnd::Memory => false,
-    }
+    matches!(
+        by,
+        SessionEnd::Refused { .. } | SessionEnd::PeerError { .. } | SessionEnd::Torn { .. }
+    )
 }
 
 // ---- why sweeping stopped
@@ -148,29 +142,26 @@ fn is_wrong(by: SessionEnd) -> bool
 fn is_stopped_memory(stopped: Option<SweepStop>) -> bool
     ensures memory { result ≡ stopped_memory stopped }
 {
-    match stopped {
-        Some(SweepStop::Sweep(SweepError::Memory)) => true,
-        _ => false,
-    }
+    matches!(stopped, Some(SweepStop::Sweep(SweepError::Memory)))
 }
 
 fn is_stopped_failed(stopped: Option<SweepStop>) -> bool
     ensures failed { result ≡ stopped_failed stopped }
 {
-    match stopped {
-        Some(SweepStop::Sweep(SweepError::SourceFailed { .. })) => true,
-        _ => false,
-    }
+    matches!(
+        stopped,
+        Some(SweepStop::Sweep(SweepError::SourceFailed { .. }))
+    )
 }
 
 fn is_stopped_wrong(stopped: Option<SweepStop>) -> bool
     ensures wrong { result ≡ stopped_wrong stopped }
 {
-    match stopped {
-        Some(SweepStop::Sweep(SweepError::BadLine { .. })) => true,
-        Some(SweepStop::Sweep(SweepError::UnknownKey { .. })) => true,
-        Some(SweepStop::Sweep(SweepError::Book(_))) => true,
-        Some(SweepStop::ClockRange { .. }) => true,
-        _ => false,
-    }
+    matches!(
+        stopped,
+        Some(SweepStop::Sweep(SweepError::BadLine { .. }))
+            | Some(SweepStop::Sweep(SweepError::UnknownKey { .. }))
+            | Some(SweepStop::Sweep(SweepError::Book(_)))
+            | Some(SweepStop::ClockRange { .. })
+    )
 }

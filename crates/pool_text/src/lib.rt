@@ -1,10 +1,10 @@
 //! The lines that `collect` and `follow` print of their doors, the sweeps beside them, the inventory
 //! and the mirrors, and how these commands end.
 //!
-//! It stands on `command_text` for the lines of mirrors and of ends of sessions, on `session_core`
-//! and `session_rules` for what is noted of sessions, on `source_set` and `source_sweeps` for what
-//! sweeps did, and on `validator_core`, `swima_model` and `wire_base`. The commands rest on the
-//! clauses `text` of `collect_text` and `follow_text`, and `ending` of `collect_ending` and
+//! It stands on `command_text` for the lines of mirrors and of ends of sessions. What is noted of
+//! sessions is of `session_core` and `session_rules`, and what sweeps did of `source_set` and
+//! `source_sweeps`. Below are `validator_core`, `swima_model` and `wire_base`. The commands rest on
+//! the clauses `text` of `collect_text` and `follow_text`, and `ending` of `collect_ending` and
 //! `follow_ending`.
 //!
 //! | file | what it holds | its words in `specs/` |

@@ -32,16 +32,18 @@ pub(crate) struct Ran {
 }
 
 /// Runs a command line over an empty input, and doors of one link each, on which these octets come.
-/// The calls of the output whose numbers are given fail.
+/// The calls of the output whose numbers are in `failing` fail, and of each door those in
+/// `no_link`.
 pub(crate) fn try_run<R: Threads + Wait + Sync>(
     alloc: Global,
     rt: &R,
     words: &[&str],
     octets: &[u8],
     failing: &[u64],
+    no_link: &[u64],
 ) -> Result<Ran, Memory> {
     let (doors, sources) = counts_of(alloc, words)?;
-    let mut doors = stands(alloc, doors, octets)?;
+    let mut doors = stands(alloc, doors, octets, no_link)?;
     let mut output = MemSink::new(alloc, 4096, failing)?;
     let status = status_at(alloc, rt, words, &mut output, doors.as_mut_slice(), sources)?;
     Ok(Ran {
@@ -59,7 +61,7 @@ pub(crate) fn prints<R: Threads + Wait + Sync>(
     octets: &[u8],
     expected: (u8, &str),
 ) -> Result<bool, Memory> {
-    let ran = try_run(alloc, rt, words, octets, &[])?;
+    let ran = try_run(alloc, rt, words, octets, &[], &[])?;
     Ok((ran.status == expected.0) & (ran.output.written() == expected.1.as_bytes()))
 }
 
@@ -72,8 +74,19 @@ pub(crate) fn fails<R: Threads + Wait + Sync>(
     octets: &[u8],
     status: u8,
 ) -> Result<bool, Memory> {
-    let ran = try_run(alloc, rt, words, octets, &[1])?;
+    let ran = try_run(alloc, rt, words, octets, &[1], &[])?;
     Ok((ran.status == status) & ran.output.written().is_empty())
+}
+
+/// Whether a command line ends with a status and prints a text, where each door fails at once.
+pub(crate) fn prints_of_no_link<R: Threads + Wait + Sync>(
+    alloc: Global,
+    rt: &R,
+    words: &[&str],
+    expected: (u8, &str),
+) -> Result<bool, Memory> {
+    let ran = try_run(alloc, rt, words, &[], &[], &[1])?;
+    Ok((ran.status == expected.0) & (ran.output.written() == expected.1.as_bytes()))
 }
 
 /// The status of a command line over these doors, and that many sources.
@@ -128,33 +141,39 @@ fn counts_of(alloc: Global, words: &[&str]) -> Result<(usize, usize), Memory>
     }
 }
 
-/// That many stands at doors of one link each, which gives these octets.
-fn stands(alloc: Global, count: usize, octets: &[u8]) -> Result<Vec<Stand<MemDoor>>, Memory>
+/// That many stands at doors of one link each, which gives these octets. The calls of a door whose
+/// numbers are in `no_link` fail.
+fn stands(
+    alloc: Global,
+    count: usize,
+    octets: &[u8],
+    no_link: &[u64],
+) -> Result<Vec<Stand<MemDoor>>, Memory>
     ensures count { IfOk result (λ made. length made.items ≡ count) }
     ensures ready { IfOk result (λ made. AreReady (λ door. door.out) made.items) }
 {
     let mut stands = Vec::new(alloc);
     for _ in 0..count {
-        stands.push(stand(alloc, octets)?)?;
+        stands.push(stand(alloc, octets, no_link)?)?;
     }
     Ok(stands)
 }
 
 /// A stand at a door of one link, which gives these octets.
-fn stand(alloc: Global, octets: &[u8]) -> Result<Stand<MemDoor>, Memory>
+fn stand(alloc: Global, octets: &[u8], no_link: &[u64]) -> Result<Stand<MemDoor>, Memory>
     ensures ready { IfOk result (λ stand. IsReady (λ door. door.out) stand) }
 {
     let mut links = List::new(alloc);
     links.push(link(alloc, octets)?)?;
-    stand_of(alloc, links)
+    stand_of(alloc, links, no_link)
 }
 
 /// A stand at a door of these links.
-fn stand_of(alloc: Global, links: List<MemLink>) -> Result<Stand<MemDoor>, Memory>
+fn stand_of(alloc: Global, links: List<MemLink>, no_link: &[u64]) -> Result<Stand<MemDoor>, Memory>
     requires fresh { All (λ link. link.faults ≡ 0) links }
     ensures ready { IfOk result (λ stand. IsReady (λ door. door.out) stand) }
 {
-    Ok(Stand::new(MemDoor::new(alloc, links, &[])?))
+    Ok(Stand::new(MemDoor::new(alloc, links, no_link)?))
 }
 
 /// A link that gives octets, and then that the other end has closed.

@@ -1,6 +1,6 @@
 //! `collect` and `follow`: what they print, what they write, and their status.
 
-use crate::lent::{fails, prints, try_run};
+use crate::lent::{fails, prints, prints_of_no_link, try_run};
 use crate::talks::{COLLECTOR, VALIDATOR};
 use std::alloc::Global;
 use std::sync::Wait;
@@ -16,7 +16,7 @@ fn comes_to<R: Threads + Wait + Sync>(
     octets: &[u8],
     expected: (u8, &str, &[u8]),
 ) -> Result<bool, Memory> {
-    let ran = try_run(alloc, rt, words, octets, &[])?;
+    let ran = try_run(alloc, rt, words, octets, &[], &[])?;
     let given = match ran.doors.as_slice() {
         [stand] => match stand.door.returned() {
             [link] => link.given() == expected.2,
@@ -70,6 +70,23 @@ fn an_inventory_is_followed(rt: HostRuntime) -> Result<(), Fail> {
             (0, text, VALIDATOR)
         )?
     );
+    Ok(())
+}
+
+#[test]
+fn two_inventories_are_followed(rt: HostRuntime) -> Result<(), Fail> {
+    let text = "session 1.1 reports 1 closed\nendpoint 1\nmirror 7 0 0\n\
+                session 2.1 reports 1 closed\nendpoint 2\nmirror 7 0 0\n";
+    assert!(rt; prints(rt.alloc(), &rt, &["follow", "a", "b"], COLLECTOR, (0, text))?);
+    Ok(())
+}
+
+#[test]
+fn a_door_that_fails_is_a_fault(rt: HostRuntime) -> Result<(), Fail> {
+    let collected = "door 1 failed\nswept 0 0 0 0\nbook 7 0 0\n";
+    assert!(rt; prints_of_no_link(rt.alloc(), &rt, &COLLECT, (3, collected))?);
+    let followed = "door 1 failed\nendpoint 1\nmirror none\n";
+    assert!(rt; prints_of_no_link(rt.alloc(), &rt, &["follow", "a"], (3, followed))?);
     Ok(())
 }
 

@@ -1,3 +1,4 @@
 pub mod Counting
 pub mod Visiting
 pub mod SessionsOver
+pub mod StaysRight

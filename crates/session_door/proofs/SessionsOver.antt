@@ -72,6 +72,7 @@ module _ {L : Type 0} (taken : L → Option (List Turn)) (given : L → Option (
   first_over before middle visit served chronicle further stands =
       let rises : Rise (length chronicle.entries + 0) (length chronicle.entries + length served.others) (behind chronicle served.steps) = rise_behind chronicle 0 (length served.others) served.steps served.rise in
       let grown : length (extended chronicle (entries served.others)).entries ≡ length chronicle.entries + length served.others = length-append chronicle.entries (entries served.others) ∙ ap (λ (n : ℕ). length chronicle.entries + n) (entries_length served.others) in record {
+        forward = omega arith;
         places = behind chronicle served.steps;
         rise = subst (λ (n : ℕ). Rise n (length chronicle.entries + length served.others) (behind chronicle served.steps)) (add-zero (length chronicle.entries)) rises;
         turns = served.turns;

@@ -119,7 +119,7 @@ module _ {O L : Type 0} (held : O → O → L → L → SessionRecord → Sessio
     ends_so = is ∙ far.noted
 
     -- All sessions were held.
-    pub held_all : work.stop ≡ stop.Held → length ends ≡ sessions → 0 < sessions → Works held faults sessions before door mid between work
+    pub held_all : work.stop ≡ stop.Done → length ends ≡ sessions → 0 < sessions → Works held faults sessions before door mid between work
     held_all why count some = record {
       visits = far.visits;
       each = far.each;
@@ -183,5 +183,5 @@ module _ {O L : Type 0} (held : O → O → L → L → SessionRecord → Sessio
         → Works held faults sessions before door after later work
     stopped_at after later stop.Ended so fewer none = had_no_more after later so fewer none
     stopped_at after later stop.Failed so fewer none = had_failed after later so fewer none
-    stopped_at after later stop.Held so fewer none = absurd none
+    stopped_at after later stop.Done so fewer none = absurd none
     stopped_at after later stop.Memory so fewer none = absurd none

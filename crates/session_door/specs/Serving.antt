@@ -26,9 +26,10 @@ ServedOn taken given c before after came went noted by = Served PassStands PassW
 
 -- Of any links, which may expose their turns and what they were given.
 module _ {L : Type 0} (taken : L → Option (List Turn)) (given : L → Option (List ℕ)) where
-  -- The session on a link is that of the chronicle at these places, which lie between two. They
-  -- never fall.
+  -- The session on a link is that of the chronicle at these places. They never fall, and lie
+  -- between two places, of which the second is not before the first.
   pub record ServedOver (chronicle : Chronicle) (c : ServeConfig) (low high : ℕ) (visit : Visit L) : Type 0 where
+    pub forward : low ≤ high
     pub places : List ℕ
     pub rise : Rise low high places
     pub turns : List Turn

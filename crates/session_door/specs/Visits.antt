@@ -50,7 +50,7 @@ door_state left returned last faults door = record { left = left door; returned 
 -- It failed.
 abbrev pub is_failed : Stop → Bool
 is_failed stop.Failed = true
-is_failed stop.Held = false
+is_failed stop.Done = false
 is_failed stop.Ended = false
 is_failed stop.Memory = false
 
@@ -59,11 +59,13 @@ abbrev pub last_after : ℕ → LastCame → LastCame
 last_after zero before = before
 last_after (suc count) before = LinkCame
 
--- Why no further link was taken after that many. All sessions were held; or fewer, since the door's
--- last answer was that there is none, and then none is left; or that it failed; or since memory ran
--- out, and then it was not asked.
+-- Why no further link was taken after that many sessions:
+--   Done    all were held, and the door's last answer is a link
+--   Ended   fewer were held; its last answer is that there is none, and none is left
+--   Failed  fewer were held; its last answer is that it failed
+--   Memory  fewer were held; it was not asked for another
 abbrev pub Stops : {L : Type 0} → ℕ → ℕ → Stop → DoorState L → DoorState L → Type 0
-Stops sessions count stop.Held before after = (count ≡ sessions) × (after.last ≡ option_map (λ _. LinkCame) before.last)
+Stops sessions count stop.Done before after = (count ≡ sessions) × (after.last ≡ option_map (λ _. LinkCame) before.last)
 Stops sessions count stop.Ended before after = (count < sessions) × (after.last ≡ option_map (λ _. NoMoreCame) before.last) × NothingLeft after.left
 Stops sessions count stop.Failed before after = (count < sessions) × (after.last ≡ option_map (λ _. FaultCame) before.last)
 Stops sessions count stop.Memory before after = (count < sessions) × (after.last ≡ option_map (last_after count) before.last)

@@ -40,7 +40,7 @@ pub(crate) fn work_door<O, D: Door, S: Session<O, D::L>, G: Gate>(
             Err(stop) => return work_of(ends, stop),
         }
     }
-    work_of(ends, Stop::Held)
+    work_of(ends, Stop::Done)
 }
 
 /// Makes room for what is noted of one more session; whether there is room.

@@ -1,8 +1,8 @@
 //! A worker that follows the links of its door.
 
 ghost use Rattle.std.specs.Prelude.{◌≡◌, ◌<◌, false};
-ghost use Rattle.session_door.specs.Following.{FollowedOn, IsWithin};
-ghost use Rattle.session_door.specs.Visits.{Works, door_state};
+ghost use Rattle.session_door.specs.Following.{FollowsLinks, IsWithin};
+ghost use Rattle.session_door.specs.Visits.{door_state};
 
 use crate::door::work_door;
 use crate::gate::Gate;
@@ -34,6 +34,7 @@ impl<L: Link> Session<Mirror, L> for FollowConfig {
 
 /// Follows the links of a door with a mirror, one after another, until that many sessions were
 /// held, or the door has ended or failed. Gives what is noted of them. Workers are numbered from 1.
+/// A mirror that was right stays right, where each report that it took answers from the history.
 pub fn follow_door<D: Door, G: Gate>(
     alloc: Global,
     mirror: &mut Mirror,
@@ -46,7 +47,7 @@ pub fn follow_door<D: Door, G: Gate>(
     requires within { IsWithin config.now }
     requires some { 0 < sessions }
     requires home { D.out door.old ≡ false }
-    ensures works { Works (FollowedOn D.L.taken D.L.given config.now) D.L.faults sessions mirror.old (door_state D.left D.returned D.last D.faults door.old)
+    ensures followed { FollowsLinks D.L.taken D.L.given D.L.faults config.now sessions mirror.old (door_state D.left D.returned D.last D.faults door.old)
         mirror.new (door_state D.left D.returned D.last D.faults door.new) result }
     ensures home { D.out door.new ≡ false }
 {

@@ -10,7 +10,7 @@ pub type Ends = List<(SessionRecord, SessionEnd)>;
 #[derive(Clone, Copy, Debug, PartialEq, Eq)]
 pub enum Stop {
     /// It has held all of its sessions.
-    Held,
+    Done,
     /// The door had no further link.
     Ended,
     /// The door failed.

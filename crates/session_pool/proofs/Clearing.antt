@@ -11,7 +11,7 @@ use Rattle.session_door.specs.Visits.{Noted, is_failed}
 use Rattle.session_pool.specs.declared.outcome.Outcome.{Outcome}
 use Rattle.session_pool.specs.declared.stand.Stand.{Stand}
 use Rattle.session_pool.specs.Outcomes.{CameOf, one_ran_out, ran_out}
-use Rattle.session_pool.specs.Rooms.{Came, GiveMirrors, GivePasses, GivesMirror, GivesPass, HasRoom}
+use Rattle.session_pool.specs.Rooms.{GiveMirrors, GivePasses, GivesMirror, GivesPass, HasRoom, IsOutcomeOf}
 
 -- ---- what came of them
 
@@ -20,8 +20,8 @@ or_none true c = refl
 or_none false true = refl
 or_none false false = refl
 
-came_more : (works : List Work) (work : Work) (outcome next : Outcome) → Came works outcome → next.ends.items ≡ outcome.ends.items ++ work.ends ∷ []
-    → next.door_failed.items ≡ outcome.door_failed.items ++ is_failed work.stop ∷ [] → next.ran_out ≡ (outcome.ran_out || ran_out work.stop) → Came (works ++ work ∷ []) next
+came_more : (works : List Work) (work : Work) (outcome next : Outcome) → IsOutcomeOf works outcome → next.ends.items ≡ outcome.ends.items ++ work.ends ∷ []
+    → next.door_failed.items ≡ outcome.door_failed.items ++ is_failed work.stop ∷ [] → next.ran_out ≡ (outcome.ran_out || ran_out work.stop) → IsOutcomeOf (works ++ work ∷ []) next
 came_more works work outcome next came ends failed out = (
   ends ∙ ap (λ (es : List (List Noted)). es ++ work.ends ∷ []) came.0 ∙ sym (map-append (λ (w : Work). w.ends) works (work ∷ [])),
   failed ∙ ap (λ (fs : List Bool). fs ++ is_failed work.stop ∷ []) came.1 ∙ sym (map-append (λ (w : Work). is_failed w.stop) works (work ∷ [])),
@@ -29,11 +29,11 @@ came_more works work outcome next came ends failed out = (
 )
 
 -- What is answered of them; and that memory ran out for one of them.
-pub came_of : (works : List Work) (outcome : Outcome) (ends : List (List Noted)) (failed : List Bool) → Came works outcome → ends ≡ outcome.ends.items → failed ≡ outcome.door_failed.items → outcome.ran_out ≡ false
+pub came_of : (works : List Work) (outcome : Outcome) (ends : List (List Noted)) (failed : List Bool) → IsOutcomeOf works outcome → ends ≡ outcome.ends.items → failed ≡ outcome.door_failed.items → outcome.ran_out ≡ false
     → CameOf works ends failed
 came_of works outcome ends failed came same_ends same_failed none = (same_ends ∙ came.0, same_failed ∙ came.1, sym came.2 ∙ none)
 
-pub one_lacked : (works : List Work) (outcome : Outcome) → Came works outcome → outcome.ran_out ≡ true → one_ran_out works ≡ true
+pub one_lacked : (works : List Work) (outcome : Outcome) → IsOutcomeOf works outcome → outcome.ran_out ≡ true → one_ran_out works ≡ true
 one_lacked works outcome came out = sym came.2 ∙ out
 
 -- ---- the stands
@@ -49,10 +49,10 @@ module _ {A D : Type 0} (gives : Stand D → A → Stand D → Work → Type 0) 
     pub each : (place : ℕ) (item : A) (stand left : Stand D) (work : Work) → place < k → place < length before
         → gives (get_or before place stand) (get_or items place item) (get_or after place left) (get_or works place work)
     pub rest : (place : ℕ) (other : Stand D) → k ≤ place → get_or after place other ≡ get_or before place other
-    pub came : Came works outcome
+    pub came : IsOutcomeOf works outcome
     pub room : HasRoom (length before - k) outcome
 
-  pub none_cleared : (before : List (Stand D)) (items : List A) (outcome : Outcome) → Came [] outcome → HasRoom (length before) outcome → Cleared 0 before items before outcome
+  pub none_cleared : (before : List (Stand D)) (items : List A) (outcome : Outcome) → IsOutcomeOf [] outcome → HasRoom (length before) outcome → Cleared 0 before items before outcome
   none_cleared before items outcome none room = record {
     works = [];
     works_count = refl;

@@ -10,8 +10,8 @@ use Rattle.validator_core.specs.Held.{Held, empty_mirror}
 use Rattle.session_rules.specs.declared.config.FollowConfig.{FollowConfig}
 use Rattle.session_door.specs.declared.work.Stop.TheVariants as stop
 use Rattle.session_door.specs.declared.work.Work.{Work}
-use Rattle.session_door.specs.Following.{FollowedOn}
-use Rattle.session_door.specs.Visits.{DoorState, Works}
+use Rattle.session_door.specs.Following.{FollowsLinks}
+use Rattle.session_door.specs.Visits.{DoorState}
 use Rattle.session_pool.specs.declared.follow_pool.Followed.{Followed}
 use Rattle.session_pool.specs.declared.outcome.Outcome.{Outcome}
 use Rattle.session_pool.specs.declared.stand.Stand.{Stand}
@@ -19,14 +19,14 @@ use Rattle.std.proofs.lemmas.List.{get_or_default}
 use Rattle.session_pool.specs.Followers.{AnswersFollowed, FollowsDoors}
 use Rattle.session_pool.specs.Outcomes.{one_ran_out}
 use Rattle.session_pool.specs.Rooms.{AreSeated, GiveMirrors, GivesMirror}
-use Rattle.session_pool.specs.Stands.{AreReady, AtEach, FollowsAt, FollowsHome, IsReady}
+use Rattle.session_pool.specs.Stands.{AreReady, AtEach, FollowsAt, IsReady}
 use Rattle.session_pool.proofs.Places.{UpTo, one_more}
 
 any_mirror : Held
 any_mirror = empty_mirror kind.Full
 
 any_work : Work
-any_work = record { ends = []; stop = stop.Held }
+any_work = record { ends = []; stop = stop.Done }
 
 -- ---- what was put in
 
@@ -71,7 +71,7 @@ lacked works (Err memory) failed out = out
 module _ {D L : Type 0} (taken : L → Option (List Turn)) (given : L → Option (List ℕ)) (faults : L → ℕ) (state : D → DoorState L) (out : D → Bool) (c : FollowConfig) (sessions : ℕ) where
   -- At one stand.
   module _ (before seated after left : Stand D) (mirror held : Held) (work : Work) (put : seated ≡ record before { mirror = Some mirror })
-      (so : FollowsAt taken given faults state c sessions seated after) (gives : GivesMirror after held left work) where
+      (so : FollowsAt taken given faults state out c sessions seated after) (gives : GivesMirror after held left work) where
     had : so.mirror ≡ mirror
     had = ap (λ (o : Option Held). unwrap_or o mirror) (sym so.had ∙ ap (λ (s : Stand D). s.mirror) put)
 
@@ -87,39 +87,40 @@ module _ {D L : Type 0} (taken : L → Option (List Turn)) (given : L → Option
     back : after.door ≡ left.door
     back = sym (ap (λ (s : Stand D). s.door) gives.2)
 
-    pub followed_one : Works (FollowedOn taken given c) faults sessions mirror (state before.door) held (state left.door) work
+    pub followed_one : FollowsLinks taken given faults c sessions mirror (state before.door) held (state left.door) work
     followed_one =
-        subst (λ (m : Held). Works (FollowedOn taken given c) faults sessions m (state before.door) held (state left.door) work) had
-        (subst (λ (d : D). Works (FollowedOn taken given c) faults sessions so.mirror (state d) held (state left.door) work) here
-        (subst (λ (h : Held). Works (FollowedOn taken given c) faults sessions so.mirror (state seated.door) h (state left.door) work) has
-        (subst (λ (d : D). Works (FollowedOn taken given c) faults sessions so.mirror (state seated.door) so.later (state d) work) back
-        (subst (λ (w : Work). Works (FollowedOn taken given c) faults sessions so.mirror (state seated.door) so.later (state after.door) w) did so.works))))
+        subst (λ (m : Held). FollowsLinks taken given faults c sessions m (state before.door) held (state left.door) work) had
+        (subst (λ (d : D). FollowsLinks taken given faults c sessions so.mirror (state d) held (state left.door) work) here
+        (subst (λ (h : Held). FollowsLinks taken given faults c sessions so.mirror (state seated.door) h (state left.door) work) has
+        (subst (λ (d : D). FollowsLinks taken given faults c sessions so.mirror (state seated.door) so.later (state d) work) back
+        (subst (λ (w : Work). FollowsLinks taken given faults c sessions so.mirror (state seated.door) so.later (state after.door) w) did so.follows))))
 
-    pub ready_one : IsReady out before → out after.door ≡ false → IsReady out left
-    ready_one ready home = (
+    pub ready_one : IsReady out before → IsReady out left
+    ready_one ready = (
       ap (λ (s : Stand D). s.pass) gives.2 ∙ ap (λ (s : Stand D). s.pass) so.has ∙ ap (λ (s : Stand D). s.pass) put ∙ ready.0,
       ap (λ (s : Stand D). s.mirror) gives.2,
       ap (λ (s : Stand D). s.work) gives.2,
-      ap out (sym back) ∙ home,
+      ap out (sym back) ∙ so.home,
     )
 
   -- At all.
-  module _ (seated after : List (Stand D)) (far : AtEach (FollowsHome taken given faults state out c sessions) seated after) where
+  module _ (seated after : List (Stand D)) (far : AtEach (FollowsAt taken given faults state out c sessions) seated after) where
     pub followed_mirrors : All (λ (stand : Stand D). is_some stand.mirror ≡ true) after
-    followed_mirrors place stand less = ap (λ (s : Stand D). is_some s.mirror) (far.each place stand (omega (arith, less, far.count))).0.has
+    followed_mirrors place stand less = ap (λ (s : Stand D). is_some s.mirror) (far.each place stand (omega (arith, less, far.count))).has
 
     pub followed_works : All (λ (stand : Stand D). is_some stand.work ≡ true) after
-    followed_works place stand less = ap (λ (s : Stand D). is_some s.work) (far.each place stand (omega (arith, less, far.count))).0.has
+    followed_works place stand less = ap (λ (s : Stand D). is_some s.work) (far.each place stand (omega (arith, less, far.count))).has
 
     module _ (mirrors held : List Held) (before left : List (Stand D)) (outcome : Outcome) (put : AreSeated mirrors before seated) (gives : GiveMirrors after held left outcome) where
-      pub followed_all : length held ≡ length mirrors → FollowsDoors taken given faults state c sessions mirrors before held left gives.works
-      followed_all count = record {
-        mirrors_count = count;
+      pub followed_all : length mirrors ≡ length before → length held ≡ length mirrors → FollowsDoors taken given faults state c sessions mirrors before held left gives.works
+      followed_all many count = record {
+        mirrors_count = many;
+        held_count = count ∙ many;
         doors_count = gives.doors_count ∙ far.count ∙ put.count;
         works_count = gives.works_count ∙ far.count ∙ put.count;
         each = λ place mirror later stand gone work less.
             followed_one (get_or before place stand) (get_or seated place stand) (get_or after place stand) (get_or left place gone) (get_or mirrors place mirror) (get_or held place later) (get_or gives.works place work)
-            (put.each place mirror stand less) (far.each place stand (omega (arith, less, put.count))).0 (gives.each place later stand gone work (omega (arith, less, put.count, far.count)));
+            (put.each place mirror stand less) (far.each place stand (omega (arith, less, put.count))) (gives.each place later stand gone work (omega (arith, less, put.count, far.count)));
       }
 
       pub all_ready : AreReady out before → AreReady out left
@@ -127,4 +128,4 @@ module _ {D L : Type 0} (taken : L → Option (List Turn)) (given : L → Option
           let within : place < length before = omega (arith, less, gives.doors_count, far.count, put.count) in
           let done = far.each place stand (omega (arith, within, put.count)) in
           ready_one (get_or before place stand) (get_or seated place stand) (get_or after place stand) (get_or left place stand) (get_or mirrors place any_mirror) (get_or held place any_mirror) (get_or gives.works place any_work)
-          (put.each place any_mirror stand within) done.0 (gives.each place any_mirror stand stand any_work (omega (arith, within, put.count, far.count))) (ready place stand within) done.1
+          (put.each place any_mirror stand within) done (gives.each place any_mirror stand stand any_work (omega (arith, within, put.count, far.count))) (ready place stand within)

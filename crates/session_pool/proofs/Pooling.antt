@@ -1,17 +1,18 @@
 -- A pool that served: the sweeps, the workers, and what is answered.
-use Rattle.std.proofs.Common.{◌≡◌, ℕ, Bool, true, false, true≢false, List, Option, None, Result, Ok, Err, refl, sym}
+use Rattle.std.proofs.Common.{◌≡◌, ◌++◌, ℕ, Bool, true, false, true≢false, List, Option, None, Result, Ok, Err, refl, sym}
 use Rattle.std.specs.Prelude.{is_err}
 use Rattle.wire_base.specs.Clocks.{Moments}
 use Rattle.wire_base.specs.Outside.{HasCause}
 use Rattle.wire_base.specs.Turns.{Turn}
 use Rattle.wire_base.specs.declared.values.memory.Memory.{Memory}
 use Rattle.book_lock.specs.Passes.{Grows, PassStands, PassView, PassWent, split_from}
+use Rattle.book_lock.specs.PassDesk.{pass_went_on}
 use Rattle.book_lock.specs.Together.{AllBegin}
 use Rattle.source_set.specs.Sweeping.{SetView}
 use Rattle.source_set.specs.declared.swept.Swept.{Swept}
 use Rattle.source_set.specs.declared.told.Told.{Told}
 use Rattle.source_sweeps.specs.declared.sweeps.SweepStop.{SweepStop}
-use Rattle.source_sweeps.specs.Sweepings.{GoesOn, SweepsOnce, stopped_failed, sweeping}
+use Rattle.source_sweeps.specs.Sweepings.{GoesOn, SweepsAll, SweepsOnce, stopped_failed, sweeping}
 use Rattle.session_door.specs.declared.work.Work.{Work}
 use Rattle.session_door.specs.Visits.{DoorState}
 use Rattle.session_pool.specs.declared.config.PoolConfig.{PoolConfig}
@@ -20,10 +21,10 @@ use Rattle.session_pool.specs.declared.pool.Served.{Served}
 use Rattle.session_pool.specs.declared.stand.Stand.{Stand}
 use Rattle.session_pool.specs.Outcomes.{one_ran_out}
 use Rattle.session_pool.specs.Rooms.{ArePassed, GivePasses}
-use Rattle.session_pool.specs.Servers.{AnswersServed, ServesDuring}
-use Rattle.session_pool.specs.Stands.{AtEach, ServesHome}
+use Rattle.session_pool.specs.Servers.{AnswersServed, ServesAndSweeps}
+use Rattle.session_pool.specs.Stands.{AtEach, ServesAt}
 use Rattle.session_pool.proofs.Serving.{served_all}
-use Rattle.session_pool.proofs.Sweeping.{all_cause}
+use Rattle.session_pool.proofs.Sweeping.{Went, all_cause, went_all}
 
 -- What is answered where memory ran out for one of the workers.
 pub lacked : (works : List Work) (total : Swept) (stopped : Option SweepStop) (result : Result Served Memory) → is_err result ≡ true → one_ran_out works ≡ true → AnswersServed works total stopped result
@@ -37,19 +38,27 @@ module _ {D L B : Type 0} (taken : L → Option (List Turn)) (given : L → Opti
     (once : SweepsOnce reports source_faults PassStands PassWent (sweeping set pass start) (sweeping one first middle) swept firstly) (once_cause : HasCause set.faults one.faults (stopped_failed firstly))
     (others : GoesOn reports source_faults PassStands PassWent c.sweeps (sweeping one first middle) swept firstly (sweeping two last end) total stopped)
     (others_cause : firstly ≡ None → HasCause one.faults two.faults (stopped_failed stopped)) (put : ArePassed (split_from first false) before seated)
-    (far : AtEach (ServesHome taken given faults state out c.serve c.sessions) seated after) (gives : GivePasses after passes left outcome) (grows : Grows last met) (begin : AllBegin passes met.seen) where
+    (far : AtEach (ServesAt taken given faults state out c.serve c.sessions) seated after) (gives : GivePasses after passes left outcome) (grows : Grows last met) (begin : AllBegin passes met.seen) where
+  all_sweeps : SweepsAll reports source_faults PassStands PassWent c.sweeps (sweeping set pass start) (sweeping one first middle) (sweeping two last end) total stopped
+  all_sweeps = record { swept = swept; firstly = firstly; once = once; others = others }
+
+  to_last : Went reports source_faults (sweeping set pass start) (sweeping two last end)
+  to_last = went_all reports source_faults c.sweeps (sweeping set pass start) (sweeping one first middle) (sweeping two last end) total stopped all_sweeps
+
   pub during : (result : Result Served Memory) → AnswersServed gives.works total stopped result
-      → ServesDuring taken given faults state reports source_faults c (sweeping set pass start) before (sweeping two met end) left result
+      → ServesAndSweeps taken given faults state reports source_faults c (sweeping set pass start) before (sweeping two met end) left result
   during result answers = record {
     first = sweeping one first middle;
     last = sweeping two last end;
     total = total;
     stopped = stopped;
-    sweeps = record { swept = swept; firstly = firstly; once = once; others = others };
+    sweeps = all_sweeps;
     sources = refl;
     moments = refl;
     cause = all_cause reports source_faults PassStands PassWent c.sweeps set.faults (sweeping one first middle) (sweeping two last end) swept total firstly stopped once_cause others_cause others;
     met = grows;
+    marks = to_last.0 ++ grows.0;
+    went = pass_went_on pass last met to_last.0 grows.0 to_last.1 grows.2;
     works = gives.works;
     serves = served_all taken given faults state out c seated after far first passes before left outcome put gives met begin;
     answers = answers;

@@ -18,11 +18,11 @@ use Rattle.session_pool.specs.declared.outcome.Outcome.{Outcome}
 use Rattle.session_pool.specs.declared.stand.Stand.{Stand}
 use Rattle.session_pool.specs.Rooms.{ArePassed, GivePasses, GivesPass}
 use Rattle.session_pool.specs.Servers.{ServesDoors}
-use Rattle.session_pool.specs.Stands.{AreReady, AtEach, IsReady, ServesAt, ServesHome}
+use Rattle.session_pool.specs.Stands.{AreReady, AtEach, IsReady, ServesAt}
 use Rattle.session_pool.proofs.Places.{UpTo}
 
 any_work : Work
-any_work = record { ends = []; stop = stop.Held }
+any_work = record { ends = []; stop = stop.Done }
 
 -- Whoever is split off to read leaves the pass as it was.
 pub sole_still : (b : Bool) → (b && not false) ≡ b
@@ -78,7 +78,7 @@ module _ {D : Type 0} (out : D → Bool) (pass : PassView) (before seated : List
 module _ {D L : Type 0} (taken : L → Option (List Turn)) (given : L → Option (List ℕ)) (faults : L → ℕ) (state : D → DoorState L) (out : D → Bool) (c : PoolConfig) where
   -- At one stand.
   module _ (before seated after left : Stand D) (pass later : PassView) (work : Work) (put : seated ≡ record before { pass = Some pass })
-      (so : ServesAt taken given faults state c.serve c.sessions seated after) (gives : GivesPass after later left work) where
+      (so : ServesAt taken given faults state out c.serve c.sessions seated after) (gives : GivesPass after later left work) where
     had : so.pass ≡ pass
     had = ap (λ (o : Option PassView). unwrap_or o pass) (sym so.had ∙ ap (λ (s : Stand D). s.pass) put)
 
@@ -102,21 +102,21 @@ module _ {D L : Type 0} (taken : L → Option (List Turn)) (given : L → Option
         (subst (λ (d : D). Serves taken given faults c.serve c.sessions so.pass (state seated.door) so.later (state d) work) back
         (subst (λ (w : Work). Serves taken given faults c.serve c.sessions so.pass (state seated.door) so.later (state after.door) w) did so.serves))))
 
-    pub ready_one : IsReady out before → out after.door ≡ false → IsReady out left
-    ready_one ready home = (
+    pub ready_one : IsReady out before → IsReady out left
+    ready_one ready = (
       ap (λ (s : Stand D). s.pass) gives.2,
       ap (λ (s : Stand D). s.mirror) gives.2 ∙ ap (λ (s : Stand D). s.mirror) so.has ∙ ap (λ (s : Stand D). s.mirror) put ∙ ready.1,
       ap (λ (s : Stand D). s.work) gives.2,
-      ap out (sym back) ∙ home,
+      ap out (sym back) ∙ so.home,
     )
 
   -- At all.
-  module _ (seated after : List (Stand D)) (far : AtEach (ServesHome taken given faults state out c.serve c.sessions) seated after) where
+  module _ (seated after : List (Stand D)) (far : AtEach (ServesAt taken given faults state out c.serve c.sessions) seated after) where
     pub served_passes : All (λ (stand : Stand D). is_some stand.pass ≡ true) after
-    served_passes place stand less = ap (λ (s : Stand D). is_some s.pass) (far.each place stand (omega (arith, less, far.count))).0.has
+    served_passes place stand less = ap (λ (s : Stand D). is_some s.pass) (far.each place stand (omega (arith, less, far.count))).has
 
     pub served_works : All (λ (stand : Stand D). is_some stand.work ≡ true) after
-    served_works place stand less = ap (λ (s : Stand D). is_some s.work) (far.each place stand (omega (arith, less, far.count))).0.has
+    served_works place stand less = ap (λ (s : Stand D). is_some s.work) (far.each place stand (omega (arith, less, far.count))).has
 
     module _ (first : PassView) (passes : List PassView) (before left : List (Stand D)) (outcome : Outcome) (put : ArePassed (split_from first false) before seated) (gives : GivePasses after passes left outcome) where
       -- What one worker did.
@@ -124,7 +124,7 @@ module _ {D L : Type 0} (taken : L → Option (List Turn)) (given : L → Option
           → Serves taken given faults c.serve c.sessions (split_from first false) (state (get_or before place stand).door) (get_or passes place pass) (state (get_or left place gone).door) (get_or gives.works place work)
       serves_at place pass stand gone work less =
           served_one (get_or before place stand) (get_or seated place stand) (get_or after place stand) (get_or left place gone) (split_from first false) (get_or passes place pass) (get_or gives.works place work)
-          (put.each place stand less) (far.each place stand (omega (arith, less, put.count))).0 (gives.each place pass stand gone work (omega (arith, less, put.count, far.count)))
+          (put.each place stand less) (far.each place stand (omega (arith, less, put.count))) (gives.each place pass stand gone work (omega (arith, less, put.count, far.count)))
 
       within : (place : ℕ) → place < length passes → place < length before
       within place less = omega (arith, less, gives.passes_count, far.count, put.count)
@@ -162,4 +162,4 @@ module _ {D L : Type 0} (taken : L → Option (List Turn)) (given : L → Option
           let inside : place < length before = omega (arith, less, gives.doors_count, far.count, put.count) in
           let done = far.each place stand (omega (arith, inside, put.count)) in
           ready_one (get_or before place stand) (get_or seated place stand) (get_or after place stand) (get_or left place stand) (split_from first false) (get_or passes place first) (get_or gives.works place any_work)
-          (put.each place stand inside) done.0 (gives.each place first stand stand any_work (omega (arith, inside, put.count, far.count))) (ready place stand inside) done.1
+          (put.each place stand inside) done (gives.each place first stand stand any_work (omega (arith, inside, put.count, far.count))) (ready place stand inside)

@@ -5,8 +5,8 @@ use Rattle.wire_base.specs.declared.values.memory.Memory.{Memory}
 use Rattle.validator_core.specs.Held.{Held}
 use Rattle.session_rules.specs.declared.config.FollowConfig.{FollowConfig}
 use Rattle.session_door.specs.declared.work.Work.{Work}
-use Rattle.session_door.specs.Following.{FollowedOn}
-use Rattle.session_door.specs.Visits.{DoorState, Works}
+use Rattle.session_door.specs.Following.{FollowsLinks}
+use Rattle.session_door.specs.Visits.{DoorState}
 use Rattle.session_pool.specs.declared.follow_pool.Followed.{Followed}
 use Rattle.session_pool.specs.declared.stand.Stand.{Stand}
 use Rattle.session_pool.specs.Outcomes.{CameOf, one_ran_out}
@@ -18,13 +18,14 @@ AnswersFollowed works (Err memory) = one_ran_out works ≡ true
 
 -- Of any doors, of which `state` is what they expose, and any links.
 module _ {D L : Type 0} (taken : L → Option (List Turn)) (given : L → Option (List ℕ)) (faults : L → ℕ) (state : D → DoorState L) where
-  -- The links of each door were followed with its mirror.
+  -- There is a mirror for each door, and links of the door were followed with it.
   pub record FollowsDoors (c : FollowConfig) (sessions : ℕ) (mirrors : List Held) (before : List (Stand D)) (held : List Held) (after : List (Stand D)) (works : List Work) : Type 0 where
-    pub mirrors_count : length held ≡ length mirrors
+    pub mirrors_count : length mirrors ≡ length before
+    pub held_count : length held ≡ length before
     pub doors_count : length after ≡ length before
     pub works_count : length works ≡ length before
     pub each : (place : ℕ) (mirror later : Held) (stand left : Stand D) (work : Work) → place < length before
-        → Works (FollowedOn taken given c) faults sessions (get_or mirrors place mirror) (state (get_or before place stand).door)
+        → FollowsLinks taken given faults c sessions (get_or mirrors place mirror) (state (get_or before place stand).door)
         (get_or held place later) (state (get_or after place left).door) (get_or works place work)
 
   -- All doors were followed; or memory ran out before any was, and nothing was done.

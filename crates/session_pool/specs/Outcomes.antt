@@ -9,7 +9,7 @@ use Rattle.session_door.specs.Visits.{Noted, is_failed}
 -- Memory ran out for what is noted of a session.
 abbrev pub ran_out : Stop → Bool
 ran_out stop.Memory = true
-ran_out stop.Held = false
+ran_out stop.Done = false
 ran_out stop.Ended = false
 ran_out stop.Failed = false
 

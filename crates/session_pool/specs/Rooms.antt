@@ -10,8 +10,8 @@ use Rattle.session_pool.specs.Outcomes.{ends_of, failed_of, one_ran_out}
 -- ---- what came of workers
 
 -- What came of these workers.
-abbrev pub Came : List Work → Outcome → Type 0
-Came works outcome = (outcome.ends.items ≡ ends_of works) × (outcome.door_failed.items ≡ failed_of works) × (outcome.ran_out ≡ one_ran_out works)
+abbrev pub IsOutcomeOf : List Work → Outcome → Type 0
+IsOutcomeOf works outcome = (outcome.ends.items ≡ ends_of works) × (outcome.door_failed.items ≡ failed_of works) × (outcome.ran_out ≡ one_ran_out works)
 
 -- There is room for what comes of that many further workers.
 abbrev pub HasRoom : ℕ → Outcome → Type 0
@@ -43,7 +43,7 @@ pub record GiveMirrors {D : Type 0} (before : List (Stand D)) (mirrors : List He
   pub doors_count : length after ≡ length before
   pub works_count : length works ≡ length before
   pub each : (place : ℕ) (mirror : Held) (stand left : Stand D) (work : Work) → place < length before → GivesMirror (get_or before place stand) (get_or mirrors place mirror) (get_or after place left) (get_or works place work)
-  pub came : Came works outcome
+  pub came : IsOutcomeOf works outcome
 
 -- The passes were taken out of the stands, with what came of the workers.
 pub record GivePasses {D : Type 0} (before : List (Stand D)) (passes : List PassView) (after : List (Stand D)) (outcome : Outcome) : Type 0 where
@@ -52,4 +52,4 @@ pub record GivePasses {D : Type 0} (before : List (Stand D)) (passes : List Pass
   pub works_count : length works ≡ length before
   pub passes_count : length passes ≡ length before
   pub each : (place : ℕ) (pass : PassView) (stand left : Stand D) (work : Work) → place < length before → GivesPass (get_or before place stand) (get_or passes place pass) (get_or after place left) (get_or works place work)
-  pub came : Came works outcome
+  pub came : IsOutcomeOf works outcome

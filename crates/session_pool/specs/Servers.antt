@@ -4,12 +4,13 @@ use Rattle.wire_base.specs.Outside.{HasCause}
 use Rattle.wire_base.specs.Turns.{Turn}
 use Rattle.wire_base.specs.declared.values.memory.Memory.{Memory}
 use Rattle.collector_core.specs.declared.chronicle.Entry.{Entry}
+use Rattle.collector_core.specs.declared.chronicle.Mark.{Mark}
 use Rattle.collector_core.specs.Desks.{entries}
 use Rattle.book_lock.specs.Passes.{Grows, PassStands, PassView, PassWent, split_from}
 use Rattle.source_set.specs.declared.swept.Swept.{Swept}
 use Rattle.source_set.specs.declared.told.Told.{Told}
 use Rattle.source_sweeps.specs.declared.sweeps.SweepStop.{SweepStop}
-use Rattle.source_sweeps.specs.Sweepings.{Sweeping, SweepsAll, stopped_failed}
+use Rattle.source_sweeps.specs.Sweepings.{SweepState, SweepsAll, stopped_failed}
 use Rattle.session_door.specs.declared.work.Work.{Work}
 use Rattle.session_door.specs.Serving.{Serves}
 use Rattle.session_door.specs.Visits.{DoorState}
@@ -33,7 +34,7 @@ module _ {D L : Type 0} (taken : L → Option (List Turn)) (given : L → Option
     pub rest : List Entry
     pub saw : entries last.seen ≡ entries later.seen ++ rest
 
-  -- So at each stand.
+  -- Each worker served its door.
   pub record ServesDoors (c : PoolConfig) (first last : PassView) (before after : List (Stand D)) (works : List Work) : Type 0 where
     pub doors_count : length after ≡ length before
     pub works_count : length works ≡ length before
@@ -44,11 +45,12 @@ module _ {D L : Type 0} (taken : L → Option (List Turn)) (given : L → Option
   module _ {B : Type 0} (reports : B → List Told → Type 0) (source_faults : B → ℕ) where
     -- The sweeps were made over the pass. Every worker began over what it had seen after the first
     -- of them. After the last the passes of the workers met in it, and by that it saw entries of
-    -- others alone. The sources' count of faults rose exactly where a fault of one stopped the
+    -- others alone. `marks` are all entries that it saw: where it was sole it still is, and they
+    -- are its own. The sources' count of faults rose exactly where a fault of one stopped the
     -- sweeping.
-    pub record ServesDuring (c : PoolConfig) (old : Sweeping B PassView) (before : List (Stand D)) (new : Sweeping B PassView) (after : List (Stand D)) (result : Result Served Memory) : Type 0 where
-      pub first : Sweeping B PassView
-      pub last : Sweeping B PassView
+    pub record ServesAndSweeps (c : PoolConfig) (old : SweepState B PassView) (before : List (Stand D)) (new : SweepState B PassView) (after : List (Stand D)) (result : Result Served Memory) : Type 0 where
+      pub first : SweepState B PassView
+      pub last : SweepState B PassView
       pub total : Swept
       pub stopped : Option SweepStop
       pub sweeps : SweepsAll reports source_faults PassStands PassWent c.sweeps old first last total stopped
@@ -56,11 +58,13 @@ module _ {D L : Type 0} (taken : L → Option (List Turn)) (given : L → Option
       pub moments : new.moments ≡ last.moments
       pub cause : HasCause old.sources.faults new.sources.faults (stopped_failed stopped)
       pub met : Grows last.desk new.desk
+      pub marks : List Mark
+      pub went : PassWent old.desk marks new.desk
       pub works : List Work
       pub serves : ServesDoors c first.desk new.desk before after works
       pub answers : AnswersServed works total stopped result
 
-    -- So it was; or memory ran out before anything was done.
-    abbrev pub ServesAll : PoolConfig → Sweeping B PassView → List (Stand D) → Sweeping B PassView → List (Stand D) → Result Served Memory → Type 0
+    -- The pool served; or memory ran out before anything was done.
+    abbrev pub ServesAll : PoolConfig → SweepState B PassView → List (Stand D) → SweepState B PassView → List (Stand D) → Result Served Memory → Type 0
     ServesAll c old before new after result =
-        ServesDuring c old before new after result ⊎ ((is_err result ≡ true) × (new ≡ old) × (after ≡ before))
+        ServesAndSweeps c old before new after result ⊎ ((is_err result ≡ true) × (new ≡ old) × (after ≡ before))

@@ -15,7 +15,7 @@ use std::alloc::Global;
 use std::sync::Wait;
 use wire_base::Door;
 
-/// Serves the links of a stand's door, with the pass that stands there.
+/// Serves the links of a stand's door, with the pass in the stand.
 pub(crate) fn serve_stand<D: Door, G: Gate, R: Wait>(
     alloc: Global,
     wait: &R,
@@ -30,9 +30,8 @@ pub(crate) fn serve_stand<D: Door, G: Gate, R: Wait>(
     requires home { D.out stand.old.door ≡ false }
     requires pass { IsSome stand.old.pass }
     requires here { IfSome stand.old.pass (λ pass. pass.shelf ≡ shelf.now) }
-    ensures serves { ServesAt D.L.taken D.L.given D.L.faults (door_state D.left D.returned D.last D.faults)
+    ensures serves { ServesAt D.L.taken D.L.given D.L.faults (door_state D.left D.returned D.last D.faults) D.out
         config.now.serve config.now.sessions stand.old stand.new }
-    ensures home { D.out stand.new.door ≡ false }
 {
     let pass = stand.take_pass();
     let door = &mut stand.door;
@@ -51,7 +50,7 @@ pub(crate) fn serve_stand<D: Door, G: Gate, R: Wait>(
     stand.work = Some(work);
 }
 
-/// Follows the links of a stand's door, with the mirror that stands there.
+/// Follows the links of a stand's door, with the mirror in the stand.
 pub(crate) fn follow_stand<D: Door, G: Gate>(
     alloc: Global,
     stand: &mut Stand<D>,
@@ -64,9 +63,8 @@ pub(crate) fn follow_stand<D: Door, G: Gate>(
     requires some { 0 < sessions }
     requires home { D.out stand.old.door ≡ false }
     requires mirror { IsSome stand.old.mirror }
-    ensures follows { FollowsAt D.L.taken D.L.given D.L.faults (door_state D.left D.returned D.last D.faults)
+    ensures follows { FollowsAt D.L.taken D.L.given D.L.faults (door_state D.left D.returned D.last D.faults) D.out
         config.now sessions stand.old stand.new }
-    ensures home { D.out stand.new.door ≡ false }
 {
     let mut mirror = stand.take_mirror();
     let door = &mut stand.door;

@@ -5,8 +5,8 @@ ghost use Rattle.std.specs.Prelude.{◌≡◌, ◌<◌, ◌≤◌, ◌+◌, ◌^
 ghost use Rattle.session_door.specs.Following.{IsWithin};
 ghost use Rattle.session_door.specs.Visits.{door_state};
 ghost use Rattle.session_pool.specs.Followers.{FollowsAll};
-ghost use Rattle.session_pool.specs.Rooms.{AreSeated, Came, GiveMirrors, GivesMirror, HasRoom};
-ghost use Rattle.session_pool.specs.Stands.{AreReady, AtEach, FollowsHome};
+ghost use Rattle.session_pool.specs.Rooms.{AreSeated, GiveMirrors, GivesMirror, HasRoom, IsOutcomeOf};
+ghost use Rattle.session_pool.specs.Stands.{AreReady, AtEach, FollowsAt};
 
 use crate::at_stand::follow_stand;
 use crate::outcome::{Bools, DoorEnds, Outcome};
@@ -29,8 +29,8 @@ pub struct Followed {
 }
 
 /// Follows each mirror's door, by a worker each, which holds its sessions one after another.
-/// `Memory` comes where there is none for what comes of the pool, and then nothing was done; or
-/// where a worker had none for what is noted of one more session, and then what was done stays.
+/// `Memory` comes in two cases. There is no room for the outcome: nothing was done. A worker has no
+/// room to note one more session: what was done stays.
 pub fn follow_all<D: Door + Send, G: Gate + Sync, R: Threads + Sync>(
     alloc: Global,
     rt: &R,
@@ -94,8 +94,9 @@ where
     requires few { length doors.old < 2 ^ 32 }
     requires home { All (λ stand. D.out stand.door ≡ false) doors.old }
     requires mirrors { All (λ stand. IsSome stand.mirror) doors.old }
-    ensures follows { AtEach (FollowsHome D.L.taken D.L.given D.L.faults (door_state D.left D.returned D.last D.faults) D.out config.now sessions) doors.old doors.new }
+    ensures follows { AtEach (FollowsAt D.L.taken D.L.given D.L.faults (door_state D.left D.returned D.last D.faults) D.out config.now sessions) doors.old doors.new }
 {
+    // At least one is asked for, also for no doors.
     let threads = doors.len().max(1);
     thread::for_each_mut(
         rt,
@@ -103,7 +104,7 @@ where
         threads,
         &|place: usize, stand: &mut Stand<D>|
             requires { (place + 1 < 2 ^ 32) × IsWithin config.now × (0 < sessions) × (D.out stand.old.door ≡ false) × IsSome stand.old.mirror }
-            ensures { FollowsHome D.L.taken D.L.given D.L.faults (door_state D.left D.returned D.last D.faults) D.out config.entry.now sessions stand.old stand.new }
+            ensures { FollowsAt D.L.taken D.L.given D.L.faults (door_state D.left D.returned D.last D.faults) D.out config.entry.now sessions stand.old stand.new }
         { follow_stand(alloc, stand, place as u32 + 1, sessions, gate, config) },
     );
 }
@@ -113,7 +114,7 @@ fn clear<D>(mirrors: &mut [Mirror], doors: &mut [Stand<D>], outcome: &mut Outcom
     requires many { length mirrors.old ≡ length doors.old }
     requires mirrors { All (λ stand. IsSome stand.mirror) doors.old }
     requires works { All (λ stand. IsSome stand.work) doors.old }
-    requires none { Came [] outcome.old }
+    requires none { IsOutcomeOf [] outcome.old }
     requires room { HasRoom (length doors.old) outcome.old }
     ensures gives { GiveMirrors doors.old mirrors.new doors.new outcome.new }
     ensures many { length mirrors.new ≡ length mirrors.old }

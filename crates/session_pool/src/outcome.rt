@@ -3,7 +3,7 @@
 ghost use Rattle.std.specs.Prelude.{◌≡◌, ◌<◌, ◌≤◌, ◌∷◌, ◌+◌, ◌++◌, ◌||◌, [], IfErr, IfOk, false, true, vec_capacity, vec_len};
 ghost use Rattle.session_door.specs.Visits.{is_failed};
 ghost use Rattle.session_pool.specs.Outcomes.{ran_out};
-ghost use Rattle.session_pool.specs.Rooms.{Came, HasRoom};
+ghost use Rattle.session_pool.specs.Rooms.{HasRoom, IsOutcomeOf};
 
 use session_door::{Ends, Stop, Work};
 use std::alloc::Global;
@@ -26,7 +26,7 @@ pub(crate) struct Outcome {
 impl Outcome {
     /// Nothing yet, with room for what comes of that many workers.
     pub(crate) fn with_room(alloc: Global, count: usize) -> Result<Self, Memory>
-        ensures none { IfOk result (λ made. Came [] made) }
+        ensures none { IfOk result (λ made. IsOutcomeOf [] made) }
         ensures room { IfOk result (λ made. HasRoom count made) }
     {
         Ok(Outcome {
@@ -48,7 +48,7 @@ impl Outcome {
         let Work { ends, stop } = work;
         self.ends.push(ends).unwrap();
         self.door_failed.push(is_failed(stop)).unwrap();
-        self.ran_out = self.ran_out | ran_out(stop);
+        self.ran_out |= ran_out(stop);
     }
 
     /// What came of all workers; `Memory` where one of them had none.
@@ -72,18 +72,12 @@ impl Outcome {
 fn is_failed(stop: Stop) -> bool
     ensures failed { result ≡ is_failed stop }
 {
-    match stop {
-        Stop::Failed => true,
-        Stop::Held | Stop::Ended | Stop::Memory => false,
-    }
+    stop == Stop::Failed
 }
 
 /// Whether a worker stopped since memory ran out.
 fn ran_out(stop: Stop) -> bool
     ensures ran_out { result ≡ ran_out stop }
 {
-    match stop {
-        Stop::Memory => true,
-        Stop::Held | Stop::Ended | Stop::Failed => false,
-    }
+    stop == Stop::Memory
 }

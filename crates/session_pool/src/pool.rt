@@ -5,9 +5,9 @@ ghost use Rattle.std.specs.Prelude.{◌≡◌, ◌<◌, ◌≤◌, ◌+◌, ◌^
 ghost use Rattle.book_lock.specs.Passes.{PassStands, PassWent, split_from};
 ghost use Rattle.session_door.specs.Serving.{IsWithin};
 ghost use Rattle.session_door.specs.Visits.{door_state};
-ghost use Rattle.session_pool.specs.Rooms.{ArePassed, Came, GivePasses, GivesPass, HasRoom};
+ghost use Rattle.session_pool.specs.Rooms.{ArePassed, GivePasses, GivesPass, HasRoom, IsOutcomeOf};
 ghost use Rattle.session_pool.specs.Servers.{ServesAll};
-ghost use Rattle.session_pool.specs.Stands.{AreReady, AtEach, ServesHome};
+ghost use Rattle.session_pool.specs.Stands.{AreReady, AtEach, ServesAt};
 ghost use Rattle.source_sweeps.specs.Sweepings.{GoesOn, SweepsOnce, stopped_failed, sweeping};
 ghost use Rattle.wire_base.specs.Outside.{HasCause};
 
@@ -42,8 +42,8 @@ pub struct Served {
 ///
 /// The first sweep is made before any worker begins, and the others beside the workers. A worker
 /// holds its sessions one after another, over a clerk of a pass of its own that may not change.
-/// `Memory` comes where there is none for what comes of the pool, and then nothing was done; or
-/// where a worker had none for what is noted of one more session, and then what was done stays.
+/// `Memory` comes in two cases. There is no room for the outcome: nothing was done. A worker has no
+/// room to note one more session: what was done stays.
 pub fn serve_all<
     D: Door + Send,
     C: Clock + Send,
@@ -173,7 +173,7 @@ where
         (sweeping sources.new clerk.new (C.moments clock.new)) tally.new.swept tally.new.stopped }
     ensures cause { tally.old.stopped ≡ None → HasCause sources.old.faults sources.new.faults (stopped_failed tally.new.stopped) }
     ensures may { clerk.new.may_change ≡ true }
-    ensures serves { AtEach (ServesHome D.L.taken D.L.given D.L.faults (door_state D.left D.returned D.last D.faults) D.out config.now.serve config.now.sessions) doors.old doors.new }
+    ensures serves { AtEach (ServesAt D.L.taken D.L.given D.L.faults (door_state D.left D.returned D.last D.faults) D.out config.now.serve config.now.sessions) doors.old doors.new }
 {
     join_mut(
         rt,
@@ -181,7 +181,7 @@ where
         &mut ||
             requires { IsWithin config.now.serve × (0 < config.now.sessions) × (length doors.now < 2 ^ 32) × All (λ stand. D.out stand.door ≡ false) doors.now
                 × All (λ stand. IsSome stand.pass) doors.now × All (λ stand. IfSome stand.pass (λ pass. pass.shelf ≡ shelf.now)) doors.now }
-            ensures { AtEach (ServesHome D.L.taken D.L.given D.L.faults (door_state D.left D.returned D.last D.faults) D.out config.entry.now.serve config.entry.now.sessions) doors.entry.now doors.exit.now }
+            ensures { AtEach (ServesAt D.L.taken D.L.given D.L.faults (door_state D.left D.returned D.last D.faults) D.out config.entry.now.serve config.entry.now.sessions) doors.entry.now doors.exit.now }
         { serve_stands(alloc, rt, shelf, doors, gate, config) },
     );
 }
@@ -203,8 +203,9 @@ where
     requires home { All (λ stand. D.out stand.door ≡ false) doors.old }
     requires passes { All (λ stand. IsSome stand.pass) doors.old }
     requires here { All (λ stand. IfSome stand.pass (λ pass. pass.shelf ≡ shelf.now)) doors.old }
-    ensures serves { AtEach (ServesHome D.L.taken D.L.given D.L.faults (door_state D.left D.returned D.last D.faults) D.out config.now.serve config.now.sessions) doors.old doors.new }
+    ensures serves { AtEach (ServesAt D.L.taken D.L.given D.L.faults (door_state D.left D.returned D.last D.faults) D.out config.now.serve config.now.sessions) doors.old doors.new }
 {
+    // At least one is asked for, also for no doors.
     let threads = doors.len().max(1);
     thread::for_each_mut(
         rt,
@@ -213,7 +214,7 @@ where
         &|place: usize, stand: &mut Stand<D>|
             requires { (place + 1 < 2 ^ 32) × IsWithin config.now.serve × (0 < config.now.sessions) × (D.out stand.old.door ≡ false) × IsSome stand.old.pass
                 × IfSome stand.old.pass (λ pass. pass.shelf ≡ shelf.now) }
-            ensures { ServesHome D.L.taken D.L.given D.L.faults (door_state D.left D.returned D.last D.faults) D.out config.entry.now.serve config.entry.now.sessions stand.old stand.new }
+            ensures { ServesAt D.L.taken D.L.given D.L.faults (door_state D.left D.returned D.last D.faults) D.out config.entry.now.serve config.entry.now.sessions stand.old stand.new }
         { serve_stand(alloc, rt, shelf, stand, place as u32 + 1, gate, config) },
     );
 }
@@ -224,7 +225,7 @@ fn clear<D>(doors: &mut [Stand<D>], passes: &mut Vec<Pass>, outcome: &mut Outcom
     requires works { All (λ stand. IsSome stand.work) doors.old }
     requires empty { (passes.old.items ≡ []) × (vec_len passes.old ≡ 0) }
     requires spare { length doors.old ≤ vec_capacity passes.old }
-    requires none { Came [] outcome.old }
+    requires none { IsOutcomeOf [] outcome.old }
     requires room { HasRoom (length doors.old) outcome.old }
     ensures gives { GivePasses doors.old passes.new.items doors.new outcome.new }
 {

@@ -36,10 +36,7 @@ impl<D> Stand<D> {
         ensures pass { self.old.pass ≡ Some result }
         ensures rest { self.new ≡ record self.old { pass = None } }
     {
-        match self.pass.take() {
-            Some(pass) => pass,
-            None => unreachable!(),
-        }
+        self.pass.take().unwrap()
     }
 
     /// Takes the mirror.
@@ -48,10 +45,7 @@ impl<D> Stand<D> {
         ensures mirror { self.old.mirror ≡ Some result }
         ensures rest { self.new ≡ record self.old { mirror = None } }
     {
-        match self.mirror.take() {
-            Some(mirror) => mirror,
-            None => unreachable!(),
-        }
+        self.mirror.take().unwrap()
     }
 
     /// Takes what came of the worker.
@@ -60,9 +54,6 @@ impl<D> Stand<D> {
         ensures work { self.old.work ≡ Some result }
         ensures rest { self.new ≡ record self.old { work = None } }
     {
-        match self.work.take() {
-            Some(work) => work,
-            None => unreachable!(),
-        }
+        self.work.take().unwrap()
     }
 }

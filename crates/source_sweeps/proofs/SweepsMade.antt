@@ -11,13 +11,13 @@ use Rattle.source_set.specs.declared.told.Told.{Told}
 use Rattle.source_sweeps.specs.declared.sweeps.SweepStop.{SweepStop}
 use Rattle.source_set.specs.declared.swept.SweepError.{SweepError}
 use Rattle.source_set.specs.Asking.{HasCauseAt}
-use Rattle.source_set.specs.Sweeping.{HaveCauses, SetView, Sweeps, WorksInAll, is_failed_at as failed_at, nothing, sweep_failed}
+use Rattle.source_set.specs.Sweeping.{HaveCauses, SetView, Sweeps, WorksInAll, is_failed_at, nothing, sweep_failed}
 use Rattle.source_sweeps.specs.declared.sweeps.SweepStop.TheVariants as stop
-use Rattle.source_sweeps.specs.Sweepings.{Sweeping, SweepsAt, SweepsNext, SweepsOn, SweepsOnce, added, is_failed_at, stop_of, stopped_failed}
+use Rattle.source_sweeps.specs.Sweepings.{SweepState, SweepsAt, SweepsNext, SweepsOn, SweepsOnce, added, stop_of, stopped_failed, stopped_failed_at}
 
 -- ---- one sweep
 
-same_failure : (number : ℕ) (done : Result Unit SweepError) → failed_at number done ≡ is_failed_at number (stop_of done)
+same_failure : (number : ℕ) (done : Result Unit SweepError) → is_failed_at number done ≡ stopped_failed_at number (stop_of done)
 same_failure number (Ok done) = refl
 same_failure number (Err error) = refl
 
@@ -26,16 +26,16 @@ same_fault (Ok done) = refl
 same_fault (Err error) = refl
 
 module _ {B D : Type 0} (reports : B → List Told → Type 0) (faults : B → ℕ) (stands : D → Chronicle → Type 0) (went : D → List Mark → D → Type 0) where
-  swept_at : (secs : ℕ) (stamp : List ℕ) (before after : Sweeping B D) (swept : Swept) (done : Result Unit SweepError) → IsStampAt secs (Ok stamp)
+  swept_at : (secs : ℕ) (stamp : List ℕ) (before after : SweepState B D) (swept : Swept) (done : Result Unit SweepError) → IsStampAt secs (Ok stamp)
       → Sweeps reports stands went stamp before.sources after.sources before.desk after.desk swept done → WorksInAll reports stands went stamp before.desk after.desk swept
       → SweepsAt reports faults stands went secs before after swept (stop_of done)
   swept_at secs stamp before after swept (Ok done) is sweeps works = record { stamp = stamp; is = is; sweeps = sweeps; works = works }
   swept_at secs stamp before after swept (Err error) is sweeps works = record { stamp = stamp; is = is; sweeps = sweeps; works = works }
 
   -- The sweep was made.
-  pub swept_once : (secs : ℕ) (stamp : List ℕ) (before after : Sweeping B D) (swept : Swept) (done : Result Unit SweepError) → IfSome before.moments (λ moments. secs ≡ this_moment moments)
+  pub swept_once : (secs : ℕ) (stamp : List ℕ) (before after : SweepState B D) (swept : Swept) (done : Result Unit SweepError) → IfSome before.moments (λ moments. secs ≡ this_moment moments)
       → after.moments ≡ option_map later_moments before.moments → IsStampAt secs (Ok stamp) → Sweeps reports stands went stamp before.sources after.sources before.desk after.desk swept done
-      → WorksInAll reports stands went stamp before.desk after.desk swept → HaveCauses faults before.sources.seats after.sources.seats (λ number. failed_at number done) → SweepsOnce reports faults stands went before after swept (stop_of done)
+      → WorksInAll reports stands went stamp before.desk after.desk swept → HaveCauses faults before.sources.seats after.sources.seats (λ number. is_failed_at number done) → SweepsOnce reports faults stands went before after swept (stop_of done)
   swept_once secs stamp before after swept done moment later is sweeps works causes = record {
     secs = secs;
     moment = moment;
@@ -49,7 +49,7 @@ module _ {B D : Type 0} (reports : B → List Told → Type 0) (faults : B → �
   calm_at (Some source) = record { later = omega arith; cause = refl }
 
   -- The moment had no stamp, and nothing was done.
-  pub out_of_range : (secs late : ℕ) (before after : Sweeping B D) → IfSome before.moments (λ moments. secs ≡ this_moment moments) → after.moments ≡ option_map later_moments before.moments
+  pub out_of_range : (secs late : ℕ) (before after : SweepState B D) → IfSome before.moments (λ moments. secs ≡ this_moment moments) → after.moments ≡ option_map later_moments before.moments
       → LAST_SECOND < secs → late ≡ secs → after.sources ≡ before.sources → after.desk ≡ before.desk → SweepsOnce reports faults stands went before after nothing (Some (stop.ClockRange late))
   out_of_range secs late before after moment later range is same same-desk = record {
     secs = secs;
@@ -72,19 +72,19 @@ calm_still before now next stopped none same cause = (subst (λ (s : Option Swee
 -- ---- sweeps in a row
 
 module _ {B D : Type 0} (reports : B → List Told → Type 0) (faults : B → ℕ) (stands : D → Chronicle → Type 0) (went : D → List Mark → D → Type 0) where
-  -- So many sweeps were made, and none stopped the sweeping: whatever follows, they and it are sweeps
+  -- That many sweeps were made, and none stopped the sweeping: whatever follows, they and it are sweeps
   -- in a row.
-  abbrev pub Made : ℕ → Sweeping B D → Swept → Sweeping B D → Swept → Type 0
-  Made count start done now total = (more : ℕ) (after : Sweeping B D) (all : Swept) (stopped : Option SweepStop) → SweepsOn reports faults stands went more now total after all stopped
+  abbrev pub Made : ℕ → SweepState B D → Swept → SweepState B D → Swept → Type 0
+  Made count start done now total = (more : ℕ) (after : SweepState B D) (all : Swept) (stopped : Option SweepStop) → SweepsOn reports faults stands went more now total after all stopped
       → SweepsOn reports faults stands went (count + more) start done after all stopped
 
-  pub none_made : (start : Sweeping B D) (done : Swept) → Made 0 start done start done
+  pub none_made : (start : SweepState B D) (done : Swept) → Made 0 start done start done
   none_made start done more after all stopped on = subst (λ (n : ℕ). SweepsOn reports faults stands went n start done after all stopped) (sym (zero-plus more)) on
     where
       zero-plus : (n : ℕ) → 0 + n ≡ n
       zero-plus n = omega arith
 
-  pub one_made : (count : ℕ) (start now next : Sweeping B D) (done total swept : Swept) → Made count start done now total → SweepsOnce reports faults stands went now next swept None
+  pub one_made : (count : ℕ) (start now next : SweepState B D) (done total swept : Swept) → Made count start done now total → SweepsOnce reports faults stands went now next swept None
       → Made (count + 1) start done next (added total swept)
   one_made count start now next done total swept made once more after all stopped on =
       subst (λ (n : ℕ). SweepsOn reports faults stands went n start done after all stopped) (one_later count more)
@@ -93,11 +93,11 @@ module _ {B D : Type 0} (reports : B → List Told → Type 0) (faults : B → �
       one_later : (n m : ℕ) → n + suc m ≡ (n + 1) + m
       one_later n m = omega arith
 
-  pub all_made : (count : ℕ) (start now : Sweeping B D) (done total : Swept) → Made count start done now total → SweepsOn reports faults stands went count start done now total None
+  pub all_made : (count : ℕ) (start now : SweepState B D) (done total : Swept) → Made count start done now total → SweepsOn reports faults stands went count start done now total None
   all_made count start now done total made =
       subst (λ (n : ℕ). SweepsOn reports faults stands went n start done now total None) (add-zero count) (made 0 now total None (refl, refl, refl))
 
-  pub made_stopped : (count sweeps : ℕ) (start now next : Sweeping B D) (done total swept : Swept) (why : SweepStop) → count < sweeps → Made count start done now total
+  pub made_stopped : (count sweeps : ℕ) (start now next : SweepState B D) (done total swept : Swept) (why : SweepStop) → count < sweeps → Made count start done now total
       → SweepsOnce reports faults stands went now next swept (Some why) → SweepsOn reports faults stands went sweeps start done next (added total swept) (Some why)
   made_stopped count sweeps start now next done total swept why less made once =
       subst (λ (n : ℕ). SweepsOn reports faults stands went n start done next (added total swept) (Some why)) (rest_of count sweeps less)
@@ -107,13 +107,13 @@ module _ {B D : Type 0} (reports : B → List Told → Type 0) (faults : B → �
       rest_of n m less = omega (arith, less)
 
   -- One more was made, which goes on or stops the sweeping.
-  pub next_made : (count : ℕ) (start now next : Sweeping B D) (done total after : Swept) (stopped : Option SweepStop) → stopped ≡ None → Made count start done now total
+  pub next_made : (count : ℕ) (start now next : SweepState B D) (done total after : Swept) (stopped : Option SweepStop) → stopped ≡ None → Made count start done now total
       → SweepsNext reports faults stands went now total next after stopped → Made (count + 1) start done next after
   next_made count start now next done total after stopped none made one =
       subst (λ (t : Swept). Made (count + 1) start done next t) (sym one.2)
       (one_made count start now next done total one.0 made (subst (SweepsOnce reports faults stands went now next one.0) none one.1))
 
-  pub next_stopped : (count sweeps : ℕ) (start now next : Sweeping B D) (done total after : Swept) (stopped : Option SweepStop) → is_none stopped ≡ false → count < sweeps → Made count start done now total
+  pub next_stopped : (count sweeps : ℕ) (start now next : SweepState B D) (done total after : Swept) (stopped : Option SweepStop) → is_none stopped ≡ false → count < sweeps → Made count start done now total
       → SweepsNext reports faults stands went now total next after stopped → SweepsOn reports faults stands went sweeps start done next after stopped
   next_stopped count sweeps start now next done total after None some less made one = absurd (true≢false some)
   next_stopped count sweeps start now next done total after (Some why) some less made one =

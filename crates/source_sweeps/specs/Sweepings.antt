@@ -15,12 +15,12 @@ use Rattle.source_sweeps.specs.declared.sweeps.SweepStop.{SweepStop}
 use Rattle.source_sweeps.specs.declared.sweeps.SweepStop.TheVariants as stop
 
 -- Sources, the desk that they change, and the moments that a clock will give, where it exposes them.
-pub record Sweeping (B D : Type 0) : Type 0 where
+pub record SweepState (B D : Type 0) : Type 0 where
   pub sources : SetView B
   pub desk : D
   pub moments : Option Moments
 
-abbrev pub sweeping : {B D : Type 0} → SetView B → D → Option Moments → Sweeping B D
+abbrev pub sweeping : {B D : Type 0} → SetView B → D → Option Moments → SweepState B D
 sweeping sources desk moments = record { sources = sources; desk = desk; moments = moments }
 
 -- Why a sweep stopped the sweeping, if it did.
@@ -34,12 +34,12 @@ stopped_failed (Some (stop.Sweep error)) = is_source_failed error
 stopped_failed (Some (stop.ClockRange secs)) = false
 stopped_failed None = false
 
-abbrev pub is_failed_at : ℕ → Option SweepStop → Bool
-is_failed_at number (Some (stop.Sweep error)) = is_failure number error
-is_failed_at number (Some (stop.ClockRange secs)) = false
-is_failed_at number None = false
+abbrev pub stopped_failed_at : ℕ → Option SweepStop → Bool
+stopped_failed_at number (Some (stop.Sweep error)) = is_failure number error
+stopped_failed_at number (Some (stop.ClockRange secs)) = false
+stopped_failed_at number None = false
 
--- The sums of the counts, each of which stands still at the last number of 32 bits.
+-- The sums of the counts, each of which stops at 4294967295.
 abbrev pub sum_of : ℕ → ℕ → ℕ
 sum_of one other = min (one + other) (2 ^ 32 - 1)
 
@@ -55,7 +55,7 @@ added one other = record {
 module _ {B D : Type 0} (reports : B → List Told → Type 0) (faults : B → ℕ) (stands : D → Chronicle → Type 0) (went : D → List Mark → D → Type 0) where
   -- A sweep with the stamp of a moment came to this. All that it did was done one after another, and
   -- counted.
-  pub record SweepsAs (secs : ℕ) (before after : Sweeping B D) (swept : Swept) (done : Result Unit SweepError) : Type 0 where
+  pub record SweepsAs (secs : ℕ) (before after : SweepState B D) (swept : Swept) (done : Result Unit SweepError) : Type 0 where
     pub stamp : List ℕ
     pub is : IsStampAt secs (Ok stamp)
     pub sweeps : Sweeps reports stands went stamp before.sources after.sources before.desk after.desk swept done
@@ -63,39 +63,39 @@ module _ {B D : Type 0} (reports : B → List Told → Type 0) (faults : B → �
 
   -- What one sweep came to at a moment: it ended well, or an error stopped it; a moment without a
   -- stamp stops it before it begins.
-  abbrev pub SweepsAt : ℕ → Sweeping B D → Sweeping B D → Swept → Option SweepStop → Type 0
+  abbrev pub SweepsAt : ℕ → SweepState B D → SweepState B D → Swept → Option SweepStop → Type 0
   SweepsAt secs before after swept None = SweepsAs secs before after swept (Ok tt)
   SweepsAt secs before after swept (Some (stop.Sweep error)) = SweepsAs secs before after swept (Err error)
   SweepsAt secs before after swept (Some (stop.ClockRange late)) =
       (LAST_SECOND < secs) × (late ≡ secs) × (after.sources ≡ before.sources) × (after.desk ≡ before.desk) × (swept ≡ nothing)
 
   -- One sweep, at the moment that the clock gave for it.
-  pub record SweepsOnce (before after : Sweeping B D) (swept : Swept) (stopped : Option SweepStop) : Type 0 where
+  pub record SweepsOnce (before after : SweepState B D) (swept : Swept) (stopped : Option SweepStop) : Type 0 where
     pub secs : ℕ
     pub moment : IfSome before.moments (λ moments. secs ≡ this_moment moments)
     pub later : after.moments ≡ option_map later_moments before.moments
     pub sweeps : SweepsAt secs before after swept stopped
-    pub causes : HaveCauses faults before.sources.seats after.sources.seats (λ number. is_failed_at number stopped)
+    pub causes : HaveCauses faults before.sources.seats after.sources.seats (λ number. stopped_failed_at number stopped)
 
   -- One sweep more, added to what was done before.
-  abbrev pub SweepsNext : Sweeping B D → Swept → Sweeping B D → Swept → Option SweepStop → Type 0
+  abbrev pub SweepsNext : SweepState B D → Swept → SweepState B D → Swept → Option SweepStop → Type 0
   SweepsNext before done after total stopped = (swept : Swept) × SweepsOnce before after swept stopped × (total ≡ added done swept)
 
   -- That many sweeps, one after another. Where one stops the sweeping there are fewer, and each
   -- before it ended well. What they did is added to what was done before.
-  abbrev pub SweepsOn : ℕ → Sweeping B D → Swept → Sweeping B D → Swept → Option SweepStop → Type 0
+  abbrev pub SweepsOn : ℕ → SweepState B D → Swept → SweepState B D → Swept → Option SweepStop → Type 0
   SweepsOn zero before done after total stopped = (after ≡ before) × (total ≡ done) × (stopped ≡ None)
   SweepsOn (suc more) before done after total stopped =
-      ((middle : Sweeping B D) × (swept : Swept) × SweepsOnce before middle swept None × SweepsOn more middle (added done swept) after total stopped)
+      ((middle : SweepState B D) × (swept : Swept) × SweepsOnce before middle swept None × SweepsOn more middle (added done swept) after total stopped)
       ⊎ ((swept : Swept) × (why : SweepStop) × SweepsOnce before after swept (Some why) × (stopped ≡ Some why) × (total ≡ added done swept))
 
   -- The sweeps after the first, which did this and may have stopped the sweeping.
-  abbrev pub GoesOn : ℕ → Sweeping B D → Swept → Option SweepStop → Sweeping B D → Swept → Option SweepStop → Type 0
+  abbrev pub GoesOn : ℕ → SweepState B D → Swept → Option SweepStop → SweepState B D → Swept → Option SweepStop → Type 0
   GoesOn sweeps first swept None after total stopped = SweepsOn (sweeps - 1) first swept after total stopped
   GoesOn sweeps first swept (Some why) after total stopped = (after ≡ first) × (total ≡ swept) × (stopped ≡ Some why)
 
   -- All of that many sweeps, of which the first leaves `first`.
-  pub record SweepsAll (sweeps : ℕ) (before first after : Sweeping B D) (total : Swept) (stopped : Option SweepStop) : Type 0 where
+  pub record SweepsAll (sweeps : ℕ) (before first after : SweepState B D) (total : Swept) (stopped : Option SweepStop) : Type 0 where
     pub swept : Swept
     pub firstly : Option SweepStop
     pub once : SweepsOnce before first swept firstly

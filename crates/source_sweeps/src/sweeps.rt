@@ -131,7 +131,7 @@ fn sweep_next<K: Desk, S: TagSource, C: Clock>(
     stopped.is_none()
 }
 
-/// The sums of the counts, each of which stands still at 4294967295.
+/// The sums of the counts, each of which stops at 4294967295.
 fn added(one: Swept, other: Swept) -> Swept
     ensures sums { result ≡ added one other }
 {

@@ -14,7 +14,8 @@ use Rattle.session_pool.specs.declared.stand.Stand.{Stand}
 use Rattle.source_sweeps.specs.declared.sweeps.SweepStop.{SweepStop}
 use Rattle.source_sweeps.specs.Sweepings.{stopped_failed}
 use Rattle.pool_text.specs.Endings.{collect_ending, first_of, some_end, some_end_at}
-use Rattle.swid_run.specs.Counts.{Cause, HasCauses, NoneFell, OneRose, PrintCause, door_counts}
+use Rattle.swid_run.specs.Counts.{Cause, HasCauses, NoneFell, OneRose, door_counts}
+use Rattle.swid_run.specs.Ends.{OutputState, Prints}
 
 -- ---- lists of counts
 
@@ -144,48 +145,44 @@ pool_failed works ends failed why same also is =
     ]
 
 -- The counts of an output, of sources and of doors, after a pool and what was printed of it.
-pub collect_causes : (output output-after sources sources-after : ℕ) (doors doors-after : List ℕ) (works : List Work) (ends : List (List Noted)) (failed : List Bool) (why : Option SweepStop) (ended : Result Ending Stopped)
-    → ends ≡ ends_of works → failed ≡ failed_of works → HasCause sources sources-after (stopped_failed why) → HaveCause doors doors-after (one_has_fault works)
-    → PrintCause (collect_ending ends failed why) output output-after ended → HasCauses (output ∷ sources ∷ doors) (output-after ∷ sources-after ∷ doors-after) ended
-collect_causes output output-after sources sources-after doors doors-after works ends failed why (Ok ending) same also swept served print =
-    let calm = pool_calm works ends failed why ending same also print.ends.1 in record {
-      later = (print.later, (swept.later, served.later));
-      cause = ap₂ (λ (x : ℕ) (xs : List ℕ). x ∷ xs) print.ends.0 (ap₂ (λ (x : ℕ) (xs : List ℕ). x ∷ xs)
-          (subst (λ (b : Bool). MatchBool b (Rose sources sources-after) (sources-after ≡ sources)) calm.1 swept.cause)
-          (subst (λ (b : Bool). MatchBool b (OneRose doors doors-after) (doors-after ≡ doors)) calm.0 served.cause));
-    }
-collect_causes output output-after sources sources-after doors doors-after works ends failed why (Err stopped.Fault) same also swept served print = record {
-  later = (print.later, (swept.later, served.later));
-  cause = elim print.ends [
-    | inl rose ↦ inl rose
-    | inr how ↦ elim (pool_failed works ends failed why same also how) [
-      | inl door ↦ inr (inr (subst (λ (b : Bool). MatchBool b (OneRose doors doors-after) (doors-after ≡ doors)) door served.cause))
-      | inr source ↦ inr (inl (subst (λ (b : Bool). MatchBool b (Rose sources sources-after) (sources-after ≡ sources)) source swept.cause))
-    ]
-  ];
-}
-collect_causes output output-after sources sources-after doors doors-after works ends failed why (Err stopped.Memory) same also swept served print = record {
-  later = (print.later, (swept.later, served.later));
-  cause = tt;
-}
+module _ (text : List ℕ) (output output-after : OutputState) (doors doors-after : List ℕ) (works : List Work) (ends : List (List Noted)) (failed : List Bool) (same : ends ≡ ends_of works) (also : failed ≡ failed_of works)
+    (served : HaveCause doors doors-after (one_has_fault works)) where
+  pub collect_causes : (sources sources-after : ℕ) (why : Option SweepStop) (ended : Result Ending Stopped) → HasCause sources sources-after (stopped_failed why)
+      → Prints text (collect_ending ends failed why) output output-after ended → HasCauses (output.faults ∷ sources ∷ doors) (output-after.faults ∷ sources-after ∷ doors-after) ended
+  collect_causes sources sources-after why (Ok ending) swept print =
+      let calm = pool_calm works ends failed why ending same also print.ends.0 in record {
+        later = (print.later, (swept.later, served.later));
+        cause = ap₂ (λ (x : ℕ) (xs : List ℕ). x ∷ xs) print.ends.2 (ap₂ (λ (x : ℕ) (xs : List ℕ). x ∷ xs)
+            (subst (λ (b : Bool). MatchBool b (Rose sources sources-after) (sources-after ≡ sources)) calm.1 swept.cause)
+            (subst (λ (b : Bool). MatchBool b (OneRose doors doors-after) (doors-after ≡ doors)) calm.0 served.cause));
+      }
+  collect_causes sources sources-after why (Err stopped.Fault) swept print = record {
+    later = (print.later, (swept.later, served.later));
+    cause = elim print.ends.1 [
+      | inl how ↦ elim (pool_failed works ends failed why same also how.0) [
+        | inl door ↦ inr (inr (subst (λ (b : Bool). MatchBool b (OneRose doors doors-after) (doors-after ≡ doors)) door served.cause))
+        | inr source ↦ inr (inl (subst (λ (b : Bool). MatchBool b (Rose sources sources-after) (sources-after ≡ sources)) source swept.cause))
+      ]
+      | inr rose ↦ inl rose
+    ];
+  }
+  collect_causes sources sources-after why (Err stopped.Memory) swept print = record { later = (print.later, (swept.later, served.later)); cause = tt }
 
--- The same without sources.
-pub follow_causes : (output output-after : ℕ) (doors doors-after : List ℕ) (works : List Work) (ends : List (List Noted)) (failed : List Bool) (ended : Result Ending Stopped)
-    → ends ≡ ends_of works → failed ≡ failed_of works → HaveCause doors doors-after (one_has_fault works)
-    → PrintCause (collect_ending ends failed None) output output-after ended → HasCauses (output ∷ doors) (output-after ∷ doors-after) ended
-follow_causes output output-after doors doors-after works ends failed (Ok ending) same also served print =
-    let calm = pool_calm works ends failed None ending same also print.ends.1 in record {
-      later = (print.later, served.later);
-      cause = ap₂ (λ (x : ℕ) (xs : List ℕ). x ∷ xs) print.ends.0 (subst (λ (b : Bool). MatchBool b (OneRose doors doors-after) (doors-after ≡ doors)) calm.0 served.cause);
-    }
-follow_causes output output-after doors doors-after works ends failed (Err stopped.Fault) same also served print = record {
-  later = (print.later, served.later);
-  cause = elim print.ends [
-    | inl rose ↦ inl rose
-    | inr how ↦ elim (pool_failed works ends failed None same also how) [
-      | inl door ↦ inr (subst (λ (b : Bool). MatchBool b (OneRose doors doors-after) (doors-after ≡ doors)) door served.cause)
-      | inr source ↦ absurd cc
-    ]
-  ];
-}
-follow_causes output output-after doors doors-after works ends failed (Err stopped.Memory) same also served print = record { later = (print.later, served.later); cause = tt }
+  -- The same without sources.
+  pub follow_causes : (ended : Result Ending Stopped) → Prints text (collect_ending ends failed None) output output-after ended → HasCauses (output.faults ∷ doors) (output-after.faults ∷ doors-after) ended
+  follow_causes (Ok ending) print =
+      let calm = pool_calm works ends failed None ending same also print.ends.0 in record {
+        later = (print.later, served.later);
+        cause = ap₂ (λ (x : ℕ) (xs : List ℕ). x ∷ xs) print.ends.2 (subst (λ (b : Bool). MatchBool b (OneRose doors doors-after) (doors-after ≡ doors)) calm.0 served.cause);
+      }
+  follow_causes (Err stopped.Fault) print = record {
+    later = (print.later, served.later);
+    cause = elim print.ends.1 [
+      | inl how ↦ elim (pool_failed works ends failed None same also how.0) [
+        | inl door ↦ inr (subst (λ (b : Bool). MatchBool b (OneRose doors doors-after) (doors-after ≡ doors)) door served.cause)
+        | inr source ↦ absurd cc
+      ]
+      | inr rose ↦ inl rose
+    ];
+  }
+  follow_causes (Err stopped.Memory) print = record { later = (print.later, served.later); cause = tt }

@@ -1,32 +1,31 @@
 -- Which counts of faults rose in a pool, and in what was printed of it.
-use Rattle.std.proofs.Common.{◌≡◌, inl, inr, ℕ, true, List, ◌∷◌, Option, Result, Ok, Err, sym, ap, subst, le_refl, true≢false, ◌∙◌}
-use Rattle.std.specs.Prelude.{is_err}
+use Rattle.std.proofs.Common.{◌≡◌, ◌≤◌, inl, inr, ℕ, List, ◌∷◌, Option, Result, Ok, Err, sym, subst, le_refl}
 use Rattle.wire_base.specs.Doors.{LastCame}
+use Rattle.wire_base.specs.Outside.{HasCause}
 use Rattle.wire_base.specs.Turns.{Turn}
 use Rattle.wire_base.specs.declared.outside.stopped.Stopped.{Stopped}
 use Rattle.wire_base.specs.declared.outside.stopped.Stopped.TheVariants as stopped
 use Rattle.wire_base.specs.declared.values.memory.Memory.{Memory}
 use Rattle.swima_model.specs.declared.report.Kind.TheVariants as kind
 use Rattle.validator_core.specs.Held.{Held, empty_mirror}
+use Rattle.collector_core.specs.Chronicle.{Chronicle}
 use Rattle.book_lock.specs.Passes.{PassView}
 use Rattle.source_set.specs.declared.told.Told.{Told}
-use Rattle.source_sweeps.specs.Sweepings.{Sweeping}
-use Rattle.session_rules.specs.declared.config.FollowConfig.{FollowConfig}
-use Rattle.session_door.specs.declared.work.Work.{Work}
-use Rattle.session_door.specs.Visits.{door_state}
-use Rattle.session_pool.specs.declared.config.PoolConfig.{PoolConfig}
+use Rattle.source_sweeps.specs.Sweepings.{stopped_failed, sweeping}
+use Rattle.session_door.specs.Visits.{DoorState, door_state}
 use Rattle.session_pool.specs.declared.follow_pool.Followed.{Followed}
 use Rattle.session_pool.specs.declared.pool.Served.{Served}
 use Rattle.session_pool.specs.declared.stand.Stand.{Stand}
-use Rattle.session_pool.specs.Followers.{FollowsAll, FollowsDoors, AnswersFollowed}
-use Rattle.session_pool.specs.Servers.{AnswersServed, ServesAll, ServesDuring}
+use Rattle.session_pool.specs.Followers.{AnswersFollowed}
+use Rattle.session_pool.specs.Servers.{AnswersServed, ServesAndSweeps}
+use Rattle.command_options.specs.declared.collect.CollectOptions.{CollectOptions}
+use Rattle.command_options.specs.declared.follow.FollowOptions.{FollowOptions}
 use Rattle.command_text.specs.declared.ending.Ending.{Ending}
-use Rattle.pool_text.specs.Endings.{collect_ending, follow_ending}
-use Rattle.swid_run.specs.Counts.{HasCauses, NoneFell, PrintCause, door_counts}
+use Rattle.swid_run.specs.Collecting.{CollectState, PrintsIfServed, RunsCollect, chronicle_of, opening, pool_config}
+use Rattle.swid_run.specs.Counts.{HasCauses, NoneFell, door_counts}
+use Rattle.swid_run.specs.Ends.{OutputState}
+use Rattle.swid_run.specs.Following.{Follows, PrintsIfFollowed, RunsFollow}
 use Rattle.swid_run.proofs.Counting.{HaveCause, collect_causes, doors_have_cause, follow_causes, none_fell_still, one_has_fault}
-
-not_ok : {A E : Type 0} (result : Result A E) (value : A) → result ≡ Ok value → is_err result ≡ true → ⊥
-not_ok result value is error = true≢false (sym error ∙ ap is_err is)
 
 any_mirror : Held
 any_mirror = empty_mirror kind.Full
@@ -41,58 +40,65 @@ still_cause counts ended is = no_cause counts counts ended (none_fell_still coun
 
 -- Of any doors and links.
 module _ {D L : Type 0} (taken : L → Option (List Turn)) (given : L → Option (List ℕ)) (faults : L → ℕ) (left returned : D → Option (List L)) (last : D → Option LastCame) (count : D → ℕ) where
+  abbrev state : D → DoorState L
+  state = door_state left returned last count
+
   -- ---- a pool that serves
 
-  module _ {B : Type 0} (reports : B → List Told → Type 0) (source_faults : B → ℕ) (c : PoolConfig) (old new : Sweeping B PassView) (before after : List (Stand D)) (served : Result Served Memory)
-      (serves : ServesAll taken given faults (door_state left returned last count) reports source_faults c old before new after served) where
-    served_doors : (during : ServesDuring taken given faults (door_state left returned last count) reports source_faults c old before new after served)
-        → HaveCause (door_counts count before) (door_counts count after) (one_has_fault during.works)
-    served_doors during = doors_have_cause count before after during.works during.serves.doors_count during.serves.works_count (λ place stand gone work less. (during.serves.each place stand gone work less).serves.works.cause)
+  module _ {B : Type 0} (reports : B → List Told → Type 0) (source_faults : B → ℕ) (c : CollectOptions) (before after : CollectState B D) (ended : Result Ending Stopped) where
+    abbrev counts_before : List ℕ
+    counts_before = before.output.faults ∷ before.sources.faults ∷ door_counts count before.doors
 
-    pub served_causes : (all : Served) (output output-after : ℕ) (ended : Result Ending Stopped) → served ≡ Ok all → PrintCause (collect_ending all.ends all.door_failed all.stopped) output output-after ended
-        → HasCauses (output ∷ old.sources.faults ∷ door_counts count before) (output-after ∷ new.sources.faults ∷ door_counts count after) ended
-    served_causes all output output-after ended is print = elim serves [
-      | inl during ↦
-          let answers = subst (AnswersServed during.works during.total during.stopped) is during.answers in
-          collect_causes output output-after old.sources.faults new.sources.faults (door_counts count before) (door_counts count after) during.works all.ends all.door_failed during.stopped ended
-          answers.0.0 answers.0.1 during.cause (served_doors during) (subst (λ (why : _). PrintCause (collect_ending all.ends all.door_failed why) output output-after ended) answers.2 print)
-      | inr none ↦ absurd (not_ok served all is none.0)
+    abbrev counts_after : List ℕ
+    counts_after = after.output.faults ∷ after.sources.faults ∷ door_counts count after.doors
+
+    served_causes : (old : PassView) (done : PassView) (chronicle : Chronicle) (served : Result Served Memory)
+        (serves : ServesAndSweeps taken given faults state reports source_faults (pool_config c) (sweeping before.sources old before.moments) before.doors (sweeping after.sources done after.moments) after.doors served)
+        → PrintsIfServed served chronicle before.output after.output ended → HasCauses counts_before counts_after ended
+    served_causes old done chronicle served serves prints = by served serves.answers prints
+      where
+        doors : HaveCause (door_counts count before.doors) (door_counts count after.doors) (one_has_fault serves.works)
+        doors =
+            doors_have_cause count before.doors after.doors serves.works serves.serves.doors_count serves.serves.works_count
+            (λ place stand gone work less. (serves.serves.each place stand gone work less).serves.works.cause)
+
+        by : (result : Result Served Memory) → AnswersServed serves.works serves.total serves.stopped result → PrintsIfServed result chronicle before.output after.output ended → HasCauses counts_before counts_after ended
+        by (Ok all) answers prints =
+            collect_causes _ before.output after.output (door_counts count before.doors) (door_counts count after.doors) serves.works all.ends all.door_failed answers.0.0 answers.0.1 doors
+            before.sources.faults after.sources.faults all.stopped ended (subst (λ (why : _). HasCause before.sources.faults after.sources.faults (stopped_failed why)) (sym answers.2) serves.cause) prints
+        by (Err memory) answers prints =
+            no_cause counts_before counts_after ended (subst (λ (o : OutputState). before.output.faults ≤ o.faults) (sym prints.0) (le_refl before.output.faults), (serves.cause.later, doors.later)) prints.1
+
+    pub collected_causes : RunsCollect taken given faults state reports source_faults c before after ended → HasCauses counts_before counts_after ended
+    collected_causes runs = elim runs [
+      | inl all ↦ served_causes (opening c all.shelf) all.done (chronicle_of c all.done) all.served all.serves all.prints
+      | inr none ↦ subst (λ (w : CollectState B D). HasCauses counts_before (w.output.faults ∷ w.sources.faults ∷ door_counts count w.doors) ended) (sym none.1) (still_cause counts_before ended none.0)
     ]
-
-    -- No count falls, whatever came of it.
-    served_later : (output : ℕ) → NoneFell (output ∷ old.sources.faults ∷ door_counts count before) (output ∷ new.sources.faults ∷ door_counts count after)
-    served_later output = elim serves [
-      | inl during ↦ (le_refl output, (during.cause.later, (served_doors during).later))
-      | inr none ↦ subst (λ (stands : List (Stand D)). NoneFell (output ∷ old.sources.faults ∷ door_counts count before) (output ∷ new.sources.faults ∷ door_counts count stands)) (sym none.2)
-          (subst (λ (s : Sweeping B PassView). NoneFell (output ∷ old.sources.faults ∷ door_counts count before) (output ∷ s.sources.faults ∷ door_counts count before)) (sym none.1)
-          (none_fell_still (output ∷ old.sources.faults ∷ door_counts count before)))
-    ]
-
-    pub served_none : (output : ℕ) (ended : Result Ending Stopped) → ended ≡ Err stopped.Memory
-        → HasCauses (output ∷ old.sources.faults ∷ door_counts count before) (output ∷ new.sources.faults ∷ door_counts count after) ended
-    served_none output ended is = no_cause (output ∷ old.sources.faults ∷ door_counts count before) (output ∷ new.sources.faults ∷ door_counts count after) ended (served_later output) is
 
   -- ---- a pool that follows
 
-  module _ (c : FollowConfig) (sessions : ℕ) (mirrors held : List Held) (before after : List (Stand D)) (followed : Result Followed Memory)
-      (follows : FollowsAll taken given faults (door_state left returned last count) c sessions mirrors before held after followed) where
-    followed_doors : (works : List Work) → FollowsDoors taken given faults (door_state left returned last count) c sessions mirrors before held after works → HaveCause (door_counts count before) (door_counts count after) (one_has_fault works)
-    followed_doors works doors = doors_have_cause count before after works doors.doors_count doors.works_count (λ place stand gone work less. (doors.each place any_mirror any_mirror stand gone work less).cause)
+  module _ (c : FollowOptions) (before after : List (Stand D)) (output later : OutputState) (ended : Result Ending Stopped) where
+    abbrev follow_before : List ℕ
+    follow_before = output.faults ∷ door_counts count before
 
-    pub followed_causes : (all : Followed) (output output-after : ℕ) (ended : Result Ending Stopped) → followed ≡ Ok all → PrintCause (follow_ending all.ends all.door_failed) output output-after ended
-        → HasCauses (output ∷ door_counts count before) (output-after ∷ door_counts count after) ended
-    followed_causes all output output-after ended is print = elim follows [
-      | inl done ↦
-          let answers = subst (AnswersFollowed done.0) is done.2 in
-          follow_causes output output-after (door_counts count before) (door_counts count after) done.0 all.ends all.door_failed ended answers.0 answers.1 (followed_doors done.0 done.1) print
-      | inr none ↦ absurd (not_ok followed all is none.0)
+    abbrev follow_after : List ℕ
+    follow_after = later.faults ∷ door_counts count after
+
+    follows_causes : (follows : Follows taken given faults state c before after output later ended) → HasCauses follow_before follow_after ended
+    follows_causes follows = by follows.followed follows.answers follows.prints
+      where
+        doors : HaveCause (door_counts count before) (door_counts count after) (one_has_fault follows.works)
+        doors =
+            doors_have_cause count before after follows.works follows.follows.doors_count follows.follows.works_count
+            (λ place stand gone work less. (follows.follows.each place any_mirror any_mirror stand gone work less).works.cause)
+
+        by : (result : Result Followed Memory) → AnswersFollowed follows.works result → PrintsIfFollowed result follows.held output later ended → HasCauses follow_before follow_after ended
+        by (Ok all) answers prints = follow_causes _ output later (door_counts count before) (door_counts count after) follows.works all.ends all.door_failed answers.0 answers.1 doors ended prints
+        by (Err memory) answers prints = no_cause follow_before follow_after ended (subst (λ (o : OutputState). output.faults ≤ o.faults) (sym prints.0) (le_refl output.faults), doors.later) prints.1
+
+    pub followed_causes : RunsFollow taken given faults state c before after output later ended → HasCauses follow_before follow_after ended
+    followed_causes runs = elim runs [
+      | inl all ↦ follows_causes all
+      | inr none ↦ subst (λ (o : OutputState). HasCauses follow_before (o.faults ∷ door_counts count after) ended) (sym none.2)
+          (subst (λ (stands : List (Stand D)). HasCauses follow_before (output.faults ∷ door_counts count stands) ended) (sym none.1) (still_cause follow_before ended none.0))
     ]
-
-    followed_later : (output : ℕ) → NoneFell (output ∷ door_counts count before) (output ∷ door_counts count after)
-    followed_later output = elim follows [
-      | inl done ↦ (le_refl output, (followed_doors done.0 done.1).later)
-      | inr none ↦ subst (λ (stands : List (Stand D)). NoneFell (output ∷ door_counts count before) (output ∷ door_counts count stands)) (sym none.2) (none_fell_still (output ∷ door_counts count before))
-    ]
-
-    pub followed_none : (output : ℕ) (ended : Result Ending Stopped) → ended ≡ Err stopped.Memory → HasCauses (output ∷ door_counts count before) (output ∷ door_counts count after) ended
-    followed_none output ended is = no_cause (output ∷ door_counts count before) (output ∷ door_counts count after) ended (followed_later output) is

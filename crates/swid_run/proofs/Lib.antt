@@ -4,5 +4,5 @@ pub mod Printing
 pub mod Counting
 pub mod Faulting
 pub mod OneChronicle
-pub mod StaysRight
+pub mod Following
 pub mod Running

@@ -1,6 +1,6 @@
 -- What `collect` does. All that it serves is one chronicle: it begins in the epoch of the options,
 -- with their cap and without a record, and has the entries of the sweeps and no others.
-use Rattle.std.specs.Prelude.{◌≡◌, ◌<◌, ◌≤◌, ◌⊎◌, ℕ, true, List, [], Option, None, Result, Ok, Err, get_or, length}
+use Rattle.std.specs.Prelude.{◌≡◌, ◌<◌, ◌⊎◌, ℕ, true, List, [], Option, None, Result, Ok, Err, length}
 use Rattle.atomic_table.specs.Seated.{TableId}
 use Rattle.wire_base.specs.Clocks.{Moments}
 use Rattle.wire_base.specs.Turns.{Turn}
@@ -9,26 +9,25 @@ use Rattle.wire_base.specs.declared.outside.stopped.Stopped.TheVariants as stopp
 use Rattle.wire_base.specs.declared.values.memory.Memory.{Memory}
 use Rattle.collector_core.specs.Chronicle.{Chronicle, Start, live_now, point_of}
 use Rattle.collector_core.specs.Desks.{AreOwn, entries}
+use Rattle.collector_core.specs.Legal.{IsLegal}
 use Rattle.collector_core.specs.Standing.{book_of}
 use Rattle.book_lock.specs.Passes.{PassView}
 use Rattle.source_set.specs.Sweeping.{SetView}
 use Rattle.source_set.specs.declared.told.Told.{Told}
 use Rattle.source_sweeps.specs.Sweepings.{sweeping}
-use Rattle.session_rules.specs.declared.config.ServeConfig.{ServeConfig}
-use Rattle.session_rules.specs.declared.end.SessionEnd.{SessionEnd}
-use Rattle.session_rules.specs.declared.record.SessionRecord.{SessionRecord}
 use Rattle.session_door.specs.declared.work.Work.{Work}
-use Rattle.session_door.specs.Serving.{ServedOver}
-use Rattle.session_door.specs.Visits.{DoorState, Works}
+use Rattle.session_door.specs.Serving.{EachOver}
+use Rattle.session_door.specs.Visits.{DoorState}
 use Rattle.session_pool.specs.declared.config.PoolConfig.{PoolConfig}
 use Rattle.session_pool.specs.declared.pool.Served.{Served}
 use Rattle.session_pool.specs.declared.stand.Stand.{Stand}
-use Rattle.session_pool.specs.Servers.{ServesDuring}
+use Rattle.session_pool.specs.Servers.{ServesAndSweeps}
 use Rattle.command_options.specs.declared.collect.CollectOptions.{CollectOptions}
 use Rattle.command_text.specs.declared.ending.Ending.{Ending}
 use Rattle.pool_text.specs.Endings.{collect_ending}
 use Rattle.pool_text.specs.Text.{collect_text}
 use Rattle.swid_run.specs.Ends.{OutputState, Prints}
+use Rattle.swid_run.specs.Limits.{idle_turns, most_octets}
 
 -- ---- how it begins
 
@@ -51,7 +50,7 @@ chronicle_of options pass = record { start = start_of options; entries = entries
 -- How the pool serves.
 abbrev pub pool_config : CollectOptions → PoolConfig
 pool_config options = record {
-  serve = record { max = 16000000; reports = None; idle = 600; octets = 4294967295 };
+  serve = record { max = 16000000; reports = None; idle = idle_turns; octets = most_octets };
   sessions = options.sessions;
   sweeps = options.sweeps;
 }
@@ -60,14 +59,14 @@ pool_config options = record {
 
 -- Sources, the moments that a clock will give, where it exposes them, stands with doors, and an
 -- output.
-pub record World (B D : Type 0) : Type 0 where
+pub record CollectState (B D : Type 0) : Type 0 where
   pub sources : SetView B
   pub moments : Option Moments
   pub doors : List (Stand D)
   pub output : OutputState
 
-abbrev pub world : {B D : Type 0} → SetView B → Option Moments → List (Stand D) → OutputState → World B D
-world sources moments doors output = record { sources = sources; moments = moments; doors = doors; output = output }
+abbrev pub collect_state : {B D : Type 0} → SetView B → Option Moments → List (Stand D) → OutputState → CollectState B D
+collect_state sources moments doors output = record { sources = sources; moments = moments; doors = doors; output = output }
 
 -- ---- what it prints
 
@@ -84,39 +83,27 @@ PrintsIfServed (Err memory) chronicle before after ended = (after ≡ before) ×
 
 -- ---- what it does
 
--- Of any links, which may expose their turns and what they were given: the session on a link is one
--- over the chronicle, from one place of it to another. All that is answered in it is so at places
--- between them, which never fall.
-module _ {L : Type 0} (taken : L → Option (List Turn)) (given : L → Option (List ℕ)) where
-  abbrev pub HeldOver : Chronicle → ServeConfig → ℕ → ℕ → L → L → SessionRecord → SessionEnd → Type 0
-  HeldOver chronicle c low high came went noted by = ServedOver taken given chronicle c low high (record { came = came; went = went; noted = (noted, by) })
-
 -- Of any doors, of which `state` is what they expose, and any links.
 module _ {D L : Type 0} (taken : L → Option (List Turn)) (given : L → Option (List ℕ)) (faults : L → ℕ) (state : D → DoorState L) where
-  -- The sessions at a door, one after another over the chronicle, from this place on.
-  pub record HoldsOver (chronicle : Chronicle) (c : PoolConfig) (first : ℕ) (before after : D) (work : Work) : Type 0 where
-    pub last : ℕ
-    pub within : last ≤ length chronicle.entries
-    pub works : Works (HeldOver taken given chronicle c.serve) faults c.sessions first (state before) last (state after) work
-
   -- Of any sources, which report items, and of faults of theirs.
   module _ {B : Type 0} (reports : B → List Told → Type 0) (source_faults : B → ℕ) where
     -- A pool served an inventory that began without a record, from its opening to `done`. After the
-    -- last sweep nothing was entered, and all entries are those of the sweeps. The sessions at each
-    -- door are sessions over the one chronicle of these, from what the first sweep made on.
-    pub record Collects (c : CollectOptions) (before after : World B D) (ended : Result Ending Stopped) : Type 0 where
+    -- last sweep nothing was entered, and all entries are those of the sweeps. They make one legal
+    -- chronicle. The sessions at each door are sessions over it, from what the first sweep made on.
+    pub record Collects (c : CollectOptions) (before after : CollectState B D) (ended : Result Ending Stopped) : Type 0 where
       pub shelf : TableId
       pub done : PassView
       pub served : Result Served Memory
-      pub serves : ServesDuring taken given faults state reports source_faults (pool_config c)
+      pub serves : ServesAndSweeps taken given faults state reports source_faults (pool_config c)
           (sweeping before.sources (opening c shelf) before.moments) before.doors (sweeping after.sources done after.moments) after.doors served
       pub alone : done.seen ≡ serves.last.desk.seen
       pub swept : AreOwn done.seen
-      pub each : (place : ℕ) (stand left : Stand D) (work : Work) → place < length before.doors
-          → HoldsOver (chronicle_of c done) (pool_config c) (length serves.first.desk.seen)
-          (get_or before.doors place stand).door (get_or after.doors place left).door (get_or serves.works place work)
+      pub legal : IsLegal (chronicle_of c done)
+      pub each : (place : ℕ) (stand left : Stand D) (work : Work) (within : place < length before.doors)
+          → EachOver taken given (chronicle_of c done) (pool_config c).serve (length serves.first.desk.seen) (length done.seen)
+          (serves.serves.each place stand left work within).serves.works.visits
       pub prints : PrintsIfServed served (chronicle_of c done) before.output after.output ended
 
-    -- So it was; or memory ran out before anything was done.
-    abbrev pub CollectsAll : CollectOptions → World B D → World B D → Result Ending Stopped → Type 0
-    CollectsAll c before after ended = Collects c before after ended ⊎ ((ended ≡ Err stopped.Memory) × (after ≡ before))
+    -- The pool served; or memory ran out before anything was done.
+    abbrev pub RunsCollect : CollectOptions → CollectState B D → CollectState B D → Result Ending Stopped → Type 0
+    RunsCollect c before after ended = Collects c before after ended ⊎ ((ended ≡ Err stopped.Memory) × (after ≡ before))

@@ -3,7 +3,6 @@ use Rattle.std.specs.Prelude.{◌≡◌, ◌≤◌, ◌⊎◌, ℕ, List, [], �
 use Rattle.wire_base.specs.Outside.{Rose}
 use Rattle.wire_base.specs.declared.outside.stopped.Stopped.{Stopped}
 use Rattle.wire_base.specs.declared.outside.stopped.Stopped.TheVariants as stopped
-use Rattle.command_text.specs.declared.ending.Ending.{Ending}
 use Rattle.session_pool.specs.declared.stand.Stand.{Stand}
 
 -- Those of the doors of stands.
@@ -31,14 +30,3 @@ Cause before after (Err stopped.Memory) = Unit {0}
 pub record HasCauses {A : Type 0} (before after : List ℕ) (result : Result A Stopped) : Type 0 where
   pub later : NoneFell before after
   pub cause : Cause before after result
-
--- The two halves of a fault's cause, of a command that prints and comes to `how`: it ended by a fault
--- where the count of the output rose or `how` is one, and where it ended well neither is so.
-abbrev pub PrintEnds : Result Ending Stopped → ℕ → ℕ → Result Ending Stopped → Type 0
-PrintEnds how before after (Ok ending) = (after ≡ before) × (how ≡ Ok ending)
-PrintEnds how before after (Err stopped.Fault) = Rose before after ⊎ (how ≡ Err stopped.Fault)
-PrintEnds how before after (Err stopped.Memory) = Unit {0}
-
-pub record PrintCause (how : Result Ending Stopped) (before after : ℕ) (ended : Result Ending Stopped) : Type 0 where
-  pub later : before ≤ after
-  pub ends : PrintEnds how before after ended

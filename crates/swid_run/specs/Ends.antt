@@ -1,8 +1,7 @@
 -- How a command ends that prints one text at its end.
-use Rattle.std.specs.Prelude.{◌≡◌, ◌≢◌, ◌⊎◌, ℕ, List, Option, Result, Ok, Err}
+use Rattle.std.specs.Prelude.{◌≡◌, ◌≢◌, ◌≤◌, ◌⊎◌, ℕ, List, Option, Result, Ok, Err}
 use Rattle.wire_base.specs.Outside.{Adds, Rose}
 use Rattle.wire_base.specs.Passing.{AddsFront}
-use Rattle.wire_base.specs.declared.outside.source.Failed.{Failed}
 use Rattle.wire_base.specs.declared.outside.stopped.Stopped.{Stopped}
 use Rattle.wire_base.specs.declared.outside.stopped.Stopped.TheVariants as stopped
 use Rattle.command_text.specs.declared.ending.Ending.{Ending}
@@ -16,25 +15,20 @@ pub record OutputState : Type 0 where
 abbrev pub output_state : {K : Type 0} → (K → Option (List ℕ)) → (K → ℕ) → K → OutputState
 output_state written faults output = record { written = written output; faults = faults output }
 
--- The command ended as `how` says; or a call of the output failed, or memory ran out. That memory ran
--- out goes before a fault.
-abbrev pub Ends : Result Ending Stopped → Result Ending Stopped → Type 0
-Ends how (Ok ending) = how ≡ Ok ending
-Ends how (Err stopped.Fault) = how ≢ Err stopped.Memory
-Ends how (Err stopped.Memory) = Unit {0}
+-- What came of a command that has this text to print and came to `how`. Where it ended well, it
+-- ended as `how` says, and the whole text was printed. Where a fault ended it, the text was printed
+-- and `how` is that fault, or a call of the output failed. That memory ran out goes before a fault.
+abbrev pub PrintsAs : List ℕ → Result Ending Stopped → OutputState → OutputState → Result Ending Stopped → Type 0
+PrintsAs text how before after (Ok ending) = (how ≡ Ok ending) × Adds before.written after.written text × (after.faults ≡ before.faults)
+PrintsAs text how before after (Err stopped.Fault) =
+    (how ≢ Err stopped.Memory) × (((how ≡ Err stopped.Fault) × Adds before.written after.written text) ⊎ Rose before.faults after.faults)
+PrintsAs text how before after (Err stopped.Memory) = Unit {0}
 
--- The text was printed, and the command ended as `how` says. Where a call of the output failed or
--- memory ran out, a prefix of the text was printed.
+-- A prefix of the text was printed in any case, and the count of the output did not fall.
 pub record Prints (text : List ℕ) (how : Result Ending Stopped) (before after : OutputState) (ended : Result Ending Stopped) : Type 0 where
-  pub front : AddsFront before.written after.written text
-  pub whole : Adds before.written after.written text ⊎ Rose before.faults after.faults ⊎ (ended ≡ Err stopped.Memory)
-  pub ends : Ends how ended
-
--- How it ends, by whether its text was written.
-abbrev pub EndsAfter : Result Ending Stopped → Result Unit Failed → Result Ending Stopped → Type 0
-EndsAfter (Err stop) written ended = ended ≡ Err stop
-EndsAfter (Ok ending) (Ok done) ended = ended ≡ Ok ending
-EndsAfter (Ok ending) (Err failed) ended = ended ≡ Err stopped.Fault
+  pub prefix : AddsFront before.written after.written text
+  pub later : before.faults ≤ after.faults
+  pub ends : PrintsAs text how before after ended
 
 -- The status is that of an end of which this is so.
 abbrev pub EndsWith : ℕ → (Result Ending Stopped → Type 0) → Type 0

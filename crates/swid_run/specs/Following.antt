@@ -1,21 +1,14 @@
 -- What `follow` does. Each mirror follows the sessions at its own door, and begins with nothing.
-use Rattle.std.specs.Prelude.{◌≡◌, ◌<◌, ◌⊎◌, ℕ, List, [], ◌∷◌, Option, Result, Ok, Err, get_or, length, map}
+use Rattle.std.specs.Prelude.{◌≡◌, ◌⊎◌, ℕ, List, Option, Result, Ok, Err, map}
 use Rattle.clap.specs.Words.{Text}
 use Rattle.wire_base.specs.Turns.{Turn}
 use Rattle.wire_base.specs.declared.outside.stopped.Stopped.{Stopped}
 use Rattle.wire_base.specs.declared.outside.stopped.Stopped.TheVariants as stopped
 use Rattle.wire_base.specs.declared.values.memory.Memory.{Memory}
-use Rattle.swima_model.specs.History.{History, IsHonest}
 use Rattle.validator_core.specs.Held.{Held, empty_mirror}
-use Rattle.validator_core.specs.Right.{IsRight}
-use Rattle.session_talk.specs.Keeping.{NotesAre}
 use Rattle.session_rules.specs.declared.config.FollowConfig.{FollowConfig}
-use Rattle.session_rules.specs.AnySession.{NotesAnswer}
-use Rattle.session_rules.specs.FollowRules.{session}
-use Rattle.session_rules.specs.Transcripts.{nobody}
 use Rattle.session_door.specs.declared.work.Work.{Work}
-use Rattle.session_door.specs.Following.{FollowedOn}
-use Rattle.session_door.specs.Visits.{DoorState, Visit, VisitsEach}
+use Rattle.session_door.specs.Visits.{DoorState}
 use Rattle.session_pool.specs.declared.follow_pool.Followed.{Followed}
 use Rattle.session_pool.specs.declared.stand.Stand.{Stand}
 use Rattle.session_pool.specs.Followers.{AnswersFollowed, FollowsDoors}
@@ -24,6 +17,7 @@ use Rattle.command_text.specs.declared.ending.Ending.{Ending}
 use Rattle.pool_text.specs.Endings.{follow_ending}
 use Rattle.pool_text.specs.Text.{follow_text}
 use Rattle.swid_run.specs.Ends.{OutputState, Prints}
+use Rattle.swid_run.specs.Limits.{idle_turns, most_octets}
 
 -- A mirror for each address, which holds nothing.
 abbrev pub new_mirrors : FollowOptions → List Held
@@ -31,7 +25,7 @@ new_mirrors options = map (λ (address : Text). empty_mirror options.kind) optio
 
 -- How sessions are followed.
 abbrev pub follow_config : FollowOptions → FollowConfig
-follow_config options = record { subscribe = options.subscribe; rounds = options.rounds; idle = 600; octets = 4294967295 }
+follow_config options = record { subscribe = options.subscribe; rounds = options.rounds; idle = idle_turns; octets = most_octets }
 
 -- The lines of the sessions and mirrors were printed, and the command ended as these say. Where
 -- memory ran out for a worker, nothing was printed.
@@ -45,28 +39,17 @@ PrintsIfFollowed (Err memory) mirrors before after ended = (after ≡ before) ×
 
 -- Of any doors, of which `state` is what they expose, and any links.
 module _ {D L : Type 0} (taken : L → Option (List Turn)) (given : L → Option (List ℕ)) (faults : L → ℕ) (state : D → DoorState L) where
-  -- Each report that the mirror took in its kind, in sessions one after another, answers from the
-  -- history.
-  abbrev pub EachAnswers : History → (c : FollowConfig) (before : Held) (visits : List (Visit L)) (after : Held) → VisitsEach (FollowedOn taken given c) faults before visits after → Type 0
-  EachAnswers history c before [] after each = Unit {0}
-  EachAnswers history c before (visit ∷ later) after each =
-      NotesAre nobody (NotesAnswer history before.kind) (session c before each.1.session.turns) [] × EachAnswers history c each.0 later after each.2
-
-  -- The mirrors followed the sessions at their doors. Each is right in the end over each honest
-  -- history from which the reports answer that it took.
+  -- The mirrors followed the sessions at their doors, and each began with nothing. So each is right
+  -- in the end over each honest history from which all reports answer that it took.
   pub record Follows (c : FollowOptions) (before after : List (Stand D)) (output later : OutputState) (ended : Result Ending Stopped) : Type 0 where
     pub held : List Held
     pub works : List Work
     pub followed : Result Followed Memory
     pub follows : FollowsDoors taken given faults state (follow_config c) c.sessions (new_mirrors c) before held after works
     pub answers : AnswersFollowed works followed
-    pub right : (place : ℕ) (mirror other : Held) (stand left : Stand D) (work : Work) (within : place < length before) (history : History) → IsHonest history
-        → EachAnswers history (follow_config c) (get_or (new_mirrors c) place mirror) (follows.each place mirror other stand left work within).visits (get_or held place other)
-        (follows.each place mirror other stand left work within).each
-        → IsRight history (get_or held place other)
     pub prints : PrintsIfFollowed followed held output later ended
 
-  -- So it was; or memory ran out before anything was done.
-  abbrev pub FollowsAll : FollowOptions → List (Stand D) → List (Stand D) → OutputState → OutputState → Result Ending Stopped → Type 0
-  FollowsAll c before after output later ended =
+  -- The mirrors followed; or memory ran out before anything was done.
+  abbrev pub RunsFollow : FollowOptions → List (Stand D) → List (Stand D) → OutputState → OutputState → Result Ending Stopped → Type 0
+  RunsFollow c before after output later ended =
       Follows c before after output later ended ⊎ ((ended ≡ Err stopped.Memory) × (after ≡ before) × (later ≡ output))

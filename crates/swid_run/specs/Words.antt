@@ -64,10 +64,15 @@ Plans words plan.Memory = Waits words
 abbrev pub OnePlan : Type 0
 OnePlan = (words : List Text) (one other : Plan) → Plans words one → Plans words other → one ≢ plan.Memory → other ≢ plan.Memory → one ≡ other
 
+-- There are at most 255 files.
+abbrev pub HasFewFiles : Plan → Type 0
+HasFewFiles (plan.Collect listen workers names) = length names ≤ 255
+HasFewFiles other = Unit {0}
+
 -- What is to be made for the words is what a command is lent for them.
 abbrev pub Lends : List Text → Plan → Type 0
 Lends words plan.Plain = AreLent words 0 0
-Lends words (plan.Collect listen workers names) = AreLent words workers (length names) × (length names ≤ 255)
+Lends words (plan.Collect listen workers names) = AreLent words workers (length names)
 Lends words (plan.Follow addresses) = AreLent words (length addresses) 0
 Lends words plan.Usage = AreLent words 0 0
 Lends words plan.Memory = Unit {0}

@@ -4,16 +4,16 @@ ghost use Rattle.std.specs.Prelude.{◌≡◌, ◌<◌, ◌^◌, ◌∷◌, IfOk
 ghost use Rattle.collector_core.specs.Chronicle.{Chronicle, live_now, point_of};
 ghost use Rattle.collector_core.specs.Standing.{Stands};
 ghost use Rattle.command_options.specs.Collect.{CollectWithin};
-ghost use Rattle.pool_text.specs.Endings.{collect_ending};
 ghost use Rattle.session_door.specs.Visits.{door_state};
 ghost use Rattle.session_pool.specs.Stands.{AreReady};
-ghost use Rattle.swid_run.specs.Collecting.{CollectsAll, PrintsServed, beginning, opening, pool_config, world};
-ghost use Rattle.swid_run.specs.Counts.{HasCauses, PrintCause, door_counts};
+ghost use Rattle.swid_run.specs.Collecting.{PrintsServed, RunsCollect, beginning, collect_state, opening, pool_config};
+ghost use Rattle.swid_run.specs.Counts.{HasCauses, door_counts};
 ghost use Rattle.swid_run.specs.Ends.{output_state};
 
-use crate::ending::ended;
+use crate::ending::print_text;
+use crate::limits::{IDLE_TURNS, MOST_OCTETS};
 use book_lock::{Pass, Shelf};
-use collector_core::Book;
+use collector_core::{Book, BookError};
 use command_options::CollectOptions;
 use command_text::Ending;
 use pool_text::{collect_ending, collect_text};
@@ -23,7 +23,7 @@ use source_set::{Sources, TagSource};
 use std::alloc::Global;
 use std::sync::Wait;
 use std::thread::Threads;
-use wire_base::{Clock, Door, Memory, Sink, Stopped, write_all};
+use wire_base::{Clock, Door, Memory, Sink, Stopped};
 
 /// Serves an inventory that begins without a record at each door, while the sources change it, and
 /// prints what came of it.
@@ -47,9 +47,9 @@ where
     requires within { CollectWithin options.now }
     requires few { length doors.old < 2 ^ 32 }
     requires ready { AreReady D.out doors.old }
-    ensures collects { CollectsAll D.L.taken D.L.given D.L.faults (door_state D.left D.returned D.last D.faults) B.reports B.faults options.now
-        (world sources.old (C.moments clock.old) doors.old (output_state K.written K.faults output.old))
-        (world sources.new (C.moments clock.new) doors.new (output_state K.written K.faults output.new)) result }
+    ensures collects { RunsCollect D.L.taken D.L.given D.L.faults (door_state D.left D.returned D.last D.faults) B.reports B.faults options.now
+        (collect_state sources.old (C.moments clock.old) doors.old (output_state K.written K.faults output.old))
+        (collect_state sources.new (C.moments clock.new) doors.new (output_state K.written K.faults output.new)) result }
     ensures causes { HasCauses (K.faults output.old ∷ sources.old.faults ∷ door_counts D.faults doors.old)
         (K.faults output.new ∷ sources.new.faults ∷ door_counts D.faults doors.new) result }
     ensures ready { AreReady D.out doors.new }
@@ -72,8 +72,10 @@ fn opened(alloc: Global, options: &CollectOptions) -> Result<(Shelf, Pass), Memo
     ensures here { IfOk result (λ made. made.1.shelf ≡ made.0) }
     ensures may { IfOk result (λ made. made.1.may_change ≡ true) }
 {
-    let Ok(book) = Book::new(alloc, options.epoch, options.cap as usize, &[]) else {
-        return Err(Memory);
+    let book = match Book::new(alloc, options.epoch, options.cap as usize, &[]) {
+        Ok(book) => book,
+        Err(BookError::Memory) => return Err(Memory),
+        Err(_) => unreachable!(),
     };
     match Shelf::open(alloc, book) {
         Ok(opened) => Ok(opened),
@@ -89,8 +91,8 @@ fn pool_config(options: &CollectOptions) -> PoolConfig
         serve: ServeConfig {
             max: 16_000_000,
             reports: None,
-            idle: 600,
-            octets: 4_294_967_295,
+            idle: IDLE_TURNS,
+            octets: MOST_OCTETS,
         },
         sessions: options.sessions,
         sweeps: options.sweeps,
@@ -106,7 +108,6 @@ fn print_served<K: Sink>(
 ) -> Result<Ending, Stopped>
     ensures prints { (chronicle : Chronicle) → Stands book.now chronicle → PrintsServed served.now chronicle
         (output_state K.written K.faults output.old) (output_state K.written K.faults output.new) result }
-    ensures cause { PrintCause (collect_ending served.now.ends served.now.door_failed served.now.stopped) (K.faults output.old) (K.faults output.new) result }
 {
     let ends = served.ends.as_slice();
     let failed = served.door_failed.as_slice();
@@ -121,6 +122,9 @@ fn print_served<K: Sink>(
         point,
         book.count(),
     )?;
-    let written = write_all(output, text.as_slice());
-    ended(collect_ending(ends, failed, stopped), written)
+    print_text(
+        text.as_slice(),
+        collect_ending(ends, failed, stopped),
+        output,
+    )
 }

@@ -1,20 +1,22 @@
-//! How a command ends whose text was written.
+//! How a command ends that prints one text at its end.
 
 ghost use Rattle.std.specs.Prelude.{◌≡◌};
 ghost use Rattle.swid_cli.specs.Run.{status_of};
-ghost use Rattle.swid_run.specs.Ends.{EndsAfter};
+ghost use Rattle.swid_run.specs.Ends.{Prints, output_state};
 
 use command_text::Ending;
-use wire_base::{Failed, Stopped};
+use wire_base::{Sink, Stopped, write_all};
 
-/// How a command ends that came to `how`, where its text was written or not. That memory ran out
-/// goes before a fault.
-pub(crate) fn ended(
+/// Prints the text of a command that came to `how`, and says how the command ends. That memory ran
+/// out goes before a fault.
+pub(crate) fn print_text<K: Sink>(
+    text: &[u8],
     how: Result<Ending, Stopped>,
-    written: Result<(), Failed>,
+    output: &mut K,
 ) -> Result<Ending, Stopped>
-    ensures ends { EndsAfter how written result }
+    ensures prints { Prints text.now how (output_state K.written K.faults output.old) (output_state K.written K.faults output.new) result }
 {
+    let written = write_all(output, text);
     match how {
         Err(Stopped::Memory) => Err(Stopped::Memory),
         Err(Stopped::Fault) => Err(Stopped::Fault),

@@ -2,14 +2,14 @@
 
 ghost use Rattle.std.specs.Prelude.{◌≡◌, ◌<◌, ◌^◌, ◌∷◌, IfOk, length};
 ghost use Rattle.command_options.specs.Follow.{FollowWithin};
-ghost use Rattle.pool_text.specs.Endings.{follow_ending};
 ghost use Rattle.session_door.specs.Visits.{door_state};
 ghost use Rattle.session_pool.specs.Stands.{AreReady};
-ghost use Rattle.swid_run.specs.Counts.{HasCauses, PrintCause, door_counts};
+ghost use Rattle.swid_run.specs.Counts.{HasCauses, door_counts};
 ghost use Rattle.swid_run.specs.Ends.{output_state};
-ghost use Rattle.swid_run.specs.Following.{FollowsAll, PrintsFollowed, follow_config, new_mirrors};
+ghost use Rattle.swid_run.specs.Following.{PrintsFollowed, RunsFollow, follow_config, new_mirrors};
 
-use crate::ending::ended;
+use crate::ending::print_text;
+use crate::limits::{IDLE_TURNS, MOST_OCTETS};
 use command_options::FollowOptions;
 use command_text::Ending;
 use pool_text::{follow_ending, follow_text};
@@ -18,7 +18,7 @@ use session_pool::{Followed, OpenGate, Stand, follow_all};
 use std::alloc::Global;
 use std::thread::Threads;
 use validator_core::Mirror;
-use wire_base::{Door, Memory, Sink, Stopped, write_all};
+use wire_base::{Door, Memory, Sink, Stopped};
 
 /// Follows the collector at each door with a mirror of its own, and prints what came of it.
 pub(crate) fn follow<K: Sink, D: Door + Send, R: Threads + Sync>(
@@ -33,7 +33,7 @@ where
     requires within { FollowWithin options.now }
     requires many { length doors.old ≡ length options.now.addresses }
     requires ready { AreReady D.out doors.old }
-    ensures follows { FollowsAll D.L.taken D.L.given D.L.faults (door_state D.left D.returned D.last D.faults) options.now
+    ensures follows { RunsFollow D.L.taken D.L.given D.L.faults (door_state D.left D.returned D.last D.faults) options.now
         doors.old doors.new (output_state K.written K.faults output.old) (output_state K.written K.faults output.new) result }
     ensures causes { HasCauses (K.faults output.old ∷ door_counts D.faults doors.old)
         (K.faults output.new ∷ door_counts D.faults doors.new) result }
@@ -50,7 +50,7 @@ where
 fn new_mirrors(alloc: Global, options: &FollowOptions) -> Result<Vec<Mirror>, Memory>
     ensures mirrors { IfOk result (λ made. made.items ≡ new_mirrors options.now) }
 {
-    let mut mirrors = Vec::new(alloc);
+    let mut mirrors = Vec::with_capacity(alloc, options.addresses.len())?;
     for _address in options.addresses.as_slice() {
         mirrors.push(Mirror::new(alloc, options.kind))?;
     }
@@ -64,8 +64,8 @@ fn follow_config(options: &FollowOptions) -> FollowConfig
     FollowConfig {
         subscribe: options.subscribe,
         rounds: options.rounds,
-        idle: 600,
-        octets: 4_294_967_295,
+        idle: IDLE_TURNS,
+        octets: MOST_OCTETS,
     }
 }
 
@@ -78,11 +78,9 @@ fn print_followed<K: Sink>(
 ) -> Result<Ending, Stopped>
     ensures prints { PrintsFollowed followed.now mirrors.now
         (output_state K.written K.faults output.old) (output_state K.written K.faults output.new) result }
-    ensures cause { PrintCause (follow_ending followed.now.ends followed.now.door_failed) (K.faults output.old) (K.faults output.new) result }
 {
     let ends = followed.ends.as_slice();
     let failed = followed.door_failed.as_slice();
     let text = follow_text(alloc, ends, failed, mirrors)?;
-    let written = write_all(output, text.as_slice());
-    ended(follow_ending(ends, failed), written)
+    print_text(text.as_slice(), follow_ending(ends, failed), output)
 }

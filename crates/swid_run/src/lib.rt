@@ -8,15 +8,15 @@
 //! rests on these clauses of `run`:
 //!
 //! - `plain`: all that `run_plain` says of the other words;
-//! - `usage`, `unknown`: status 2 comes exactly where the words are no command line;
-//! - `fault`, `calm`, `later`: status 3 comes exactly where, with neither 2 nor 4, a count of faults
-//!   rose;
-//! - `collect`: every session is one over a single chronicle, which begins without a record and has
-//!   the entries of the sweeps and no others. It is served at places from the first sweep on. What
-//!   is printed is the text of these sessions and of this chronicle;
-//! - `follow`: what each mirror holds comes of its own sessions alone, and is right over each honest
-//!   history from which the reports answer that it took. What is printed is the text of these
-//!   sessions and mirrors.
+//! - `usage`, `no_line`: status 2 comes exactly where the words are no command line;
+//! - `fault`, `no_fault`, `counts_never_fall`: status 3 comes exactly where, with neither 2 nor 4,
+//!   a count of faults rose;
+//! - `collect`: every session is one over a single legal chronicle. It begins without a record, and
+//!   has the entries of the sweeps and no others. Sessions are over places from the first sweep on.
+//!   What is printed is the text of these sessions and of this chronicle;
+//! - `follow`: what each mirror holds comes of its own sessions alone. It is right over each honest
+//!   history that all reports it took answer from. What is printed is the text of these sessions
+//!   and mirrors.
 //!
 //! | file | what it holds | its words in `specs/` |
 //! |---|---|---|
@@ -25,7 +25,8 @@
 //! | `order.rt` | which of the commands the words ask for | `Words` |
 //! | `collect.rt` | `collect` | `Collecting` |
 //! | `follow.rt` | `follow` | `Following` |
-//! | `ending.rt` | how a command ends that has printed | `Ends` |
+//! | `ending.rt` | how a command prints and ends | `Ends` |
+//! | `limits.rt` | the limits of each session | `Limits` |
 //! | `laws.rt` | what the definitions mean | `Words` |
 #![tactic(auto)]
 
@@ -33,6 +34,7 @@ mod collect;
 mod ending;
 mod follow;
 pub mod laws;
+mod limits;
 mod order;
 mod planning;
 mod plans;

@@ -1,7 +1,7 @@
 //! What the words of a command line say is to be made.
 
 ghost use Rattle.std.specs.Prelude.{map};
-ghost use Rattle.swid_run.specs.Words.{Lends, Plans, PlansOther};
+ghost use Rattle.swid_run.specs.Words.{HasFewFiles, Lends, Plans, PlansOther};
 
 use crate::order::{Order, order_of};
 use crate::plans::Plan;
@@ -14,6 +14,7 @@ use wire_base::Memory;
 pub fn plan(alloc: Global, words: &[&str]) -> Plan
     ensures plan { Plans (map (λ word. word.now) words.now) result }
     ensures lent { Lends (map (λ word. word.now) words.now) result }
+    ensures few { HasFewFiles result }
 {
     match order_of(alloc, words) {
         Ok(Order::Collect(options)) => Plan::Collect {

@@ -6,10 +6,10 @@ ghost use Rattle.command_options.specs.declared.follow.FollowOptions.{FollowOpti
 ghost use Rattle.session_door.specs.Visits.{door_state};
 ghost use Rattle.session_pool.specs.Stands.{AreReady};
 ghost use Rattle.swid_cli.specs.Run.{status_of};
-ghost use Rattle.swid_run.specs.Collecting.{CollectsAll, world};
+ghost use Rattle.swid_run.specs.Collecting.{RunsCollect, collect_state};
 ghost use Rattle.swid_run.specs.Counts.{NoneFell, OneRose, door_counts};
 ghost use Rattle.swid_run.specs.Ends.{EndsWith, output_state};
-ghost use Rattle.swid_run.specs.Following.{FollowsAll};
+ghost use Rattle.swid_run.specs.Following.{RunsFollow};
 ghost use Rattle.swid_run.specs.Plain.{RunsPlain};
 ghost use Rattle.swid_run.specs.Words.{AreLent, IsFresh, IsLine, SaysCollect, SaysFollow, SaysNeither, Waits};
 
@@ -30,10 +30,10 @@ use wire_base::{Clock, Door, Files, Memory, Sink, Source};
 ///
 /// | status | when |
 /// |---|---|
-/// | 2 | exactly where the words are no command line |
+/// | 2 | exactly where the words are no command line, unless memory ran out while they were read |
 /// | 4 | memory ran out, for the command, for a session or for a sweep |
 /// | 3 | exactly where a count of faults rose, of the input, the output, the files, a door or the sources |
-/// | 1 | exactly where the input was refused, or something is wrong with what it holds; or a session was refused at one of its ends, or its link ended within a batch; or an item of a source stopped the sweeping, or a moment without a stamp |
+/// | 1 | exactly where one of these holds: the input was refused or has a finding; a session ended by `Refused`, `PeerError` or `Torn`; a bad line, an unknown key, the book or the clock stopped the sweeping |
 /// | 0 | else, and then a command that reads the input read it to its end |
 ///
 /// For `collect` it is lent as many doors as there are workers, and a source for each file; for
@@ -65,7 +65,7 @@ where
 
     // Words that are no command line.
     ensures usage { result ≡ 2 → ¬ IsLine (map (λ word. word.now) words.now) }
-    ensures unknown { ¬ IsLine (map (λ word. word.now) words.now)
+    ensures no_line { ¬ IsLine (map (λ word. word.now) words.now)
         → (result ≡ 2) ⊎ ((result ≡ 4) × Waits (map (λ word. word.now) words.now)) }
 
     // Words of neither `collect` nor `follow`: as `run_plain` says. Memory may run out where the
@@ -74,34 +74,34 @@ where
         → RunsPlain S.left S.faults K.written K.faults F.contents F.reads F.faults
         (map (λ word. word.now) words.now) input.old output.old files.old input.new output.new files.new result
         ⊎ (Waits (map (λ word. word.now) words.now) × (result ≡ 4) × (input.new ≡ input.old) × (output.new ≡ output.old) × (files.new ≡ files.old)) }
-    ensures unlent { SaysNeither (map (λ word. word.now) words.now)
+    ensures others_unused { SaysNeither (map (λ word. word.now) words.now)
         → (doors.new ≡ doors.old) × (clock.new ≡ clock.old) × (sources.new ≡ sources.old) }
 
     // Words of `collect`.
     ensures collect { (options : CollectWords) → SaysCollect (map (λ word. word.now) words.now) options
-        → EndsWith result (CollectsAll D.L.taken D.L.given D.L.faults (door_state D.left D.returned D.last D.faults) B.reports B.faults options
-        (world sources.old (C.moments clock.old) doors.old (output_state K.written K.faults output.old))
-        (world sources.new (C.moments clock.new) doors.new (output_state K.written K.faults output.new))) }
+        → EndsWith result (RunsCollect D.L.taken D.L.given D.L.faults (door_state D.left D.returned D.last D.faults) B.reports B.faults options
+        (collect_state sources.old (C.moments clock.old) doors.old (output_state K.written K.faults output.old))
+        (collect_state sources.new (C.moments clock.new) doors.new (output_state K.written K.faults output.new))) }
 
     // Words of `follow`.
     ensures follow { (options : FollowWords) → SaysFollow (map (λ word. word.now) words.now) options
-        → EndsWith result (FollowsAll D.L.taken D.L.given D.L.faults (door_state D.left D.returned D.last D.faults) options
+        → EndsWith result (RunsFollow D.L.taken D.L.given D.L.faults (door_state D.left D.returned D.last D.faults) options
         doors.old doors.new (output_state K.written K.faults output.old) (output_state K.written K.faults output.new)) }
-    ensures unswept { (options : FollowWords) → SaysFollow (map (λ word. word.now) words.now) options
+    ensures follow_sweeps_nothing { (options : FollowWords) → SaysFollow (map (λ word. word.now) words.now) options
         → (clock.new ≡ clock.old) × (sources.new ≡ sources.old) }
 
     // Both read nothing.
     ensures unread { Waits (map (λ word. word.now) words.now)
         → (input.new ≡ input.old) × (files.new ≡ files.old) }
 
-    // Status 3 reports a fault, no other status hides one, and no count falls.
+    // Status 3 reports a fault, at statuses 0 and 1 no call failed, and no count falls.
     ensures fault { result ≡ 3
         → OneRose (S.faults input.old ∷ F.faults files.old ∷ K.faults output.old ∷ sources.old.faults ∷ door_counts D.faults doors.old)
         (S.faults input.new ∷ F.faults files.new ∷ K.faults output.new ∷ sources.new.faults ∷ door_counts D.faults doors.new) }
-    ensures calm { result ≢ 2 → result ≢ 3 → result ≢ 4
+    ensures no_fault { result ≢ 2 → result ≢ 3 → result ≢ 4
         → (S.faults input.new ∷ F.faults files.new ∷ K.faults output.new ∷ sources.new.faults ∷ door_counts D.faults doors.new)
         ≡ (S.faults input.old ∷ F.faults files.old ∷ K.faults output.old ∷ sources.old.faults ∷ door_counts D.faults doors.old) }
-    ensures later { NoneFell (S.faults input.old ∷ F.faults files.old ∷ K.faults output.old ∷ sources.old.faults ∷ door_counts D.faults doors.old)
+    ensures counts_never_fall { NoneFell (S.faults input.old ∷ F.faults files.old ∷ K.faults output.old ∷ sources.old.faults ∷ door_counts D.faults doors.old)
         (S.faults input.new ∷ F.faults files.new ∷ K.faults output.new ∷ sources.new.faults ∷ door_counts D.faults doors.new) }
     ensures status { result ≤ 4 }
     ensures ready { AreReady D.out doors.new }

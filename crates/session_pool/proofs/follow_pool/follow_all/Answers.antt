@@ -18,7 +18,7 @@ returns-in_err-ends g c =
       followed = inl (
         gives.works,
         followed_all g.D.L.Link.taken g.D.L.Link.given g.D.L.Link.faults (door_state g.D.Door.left g.D.Door.returned g.D.Door.last g.D.Door.faults) g.D.Door.out c.args.config.now c.args.sessions c.seat.new.doors c.follow_stands.new.doors
-            c.follow_stands.ensures.follows c.args.mirrors.now c.clear.new.mirrors c.args.doors.now c.clear.new.doors c.clear.new.outcome c.seat.ensures.seated gives (c.clear.ensures.many ∙ c.seat.ensures.many),
+            c.follow_stands.ensures.follows c.args.mirrors.now c.clear.new.mirrors c.args.doors.now c.clear.new.doors c.clear.new.outcome c.seat.ensures.seated gives c.requires.many (c.clear.ensures.many ∙ c.seat.ensures.many),
         lacked gives.works c.from_residual-in_err-ends.result c.from_residual-in_err-ends.ensures.0 out,
       );
       ready =
@@ -34,7 +34,7 @@ returns g c =
       followed = inl (
         gives.works,
         followed_all g.D.L.Link.taken g.D.L.Link.given g.D.L.Link.faults (door_state g.D.Door.left g.D.Door.returned g.D.Door.last g.D.Door.faults) g.D.Door.out c.args.config.now c.args.sessions c.seat.new.doors c.follow_stands.new.doors
-            c.follow_stands.ensures.follows c.args.mirrors.now c.clear.new.mirrors c.args.doors.now c.clear.new.doors c.clear.new.outcome c.seat.ensures.seated gives (c.clear.ensures.many ∙ c.seat.ensures.many),
+            c.follow_stands.ensures.follows c.args.mirrors.now c.clear.new.mirrors c.args.doors.now c.clear.new.doors c.clear.new.outcome c.seat.ensures.seated gives c.requires.many (c.clear.ensures.many ∙ c.seat.ensures.many),
         came_of gives.works c.clear.new.outcome c.in_ok-ends.ends c.in_ok-ends.door_failed gives.came whole.0 whole.1 whole.2,
       );
       ready =

@@ -1,7 +1,7 @@
 use Rattle.std.proofs.Common.{Ok, Err, refl, ap, ◌∙◌}
 use Rattle.std.proofs.lemmas.Result.{err_from_is_err_and}
 use Rattle.wire_base.specs.declared.outside.stopped.Stopped.{Stopped}
-use Rattle.swid_run.proofs.Faulting.{served_causes, served_none, still_cause}
+use Rattle.swid_run.proofs.Faulting.{collected_causes, still_cause}
 use Rattle.swid_run.proofs.OneChronicle.{collects_err, collects_ok}
 use Rattle.swid_run.proofs.collect.collect.Goals as goal
 
@@ -18,8 +18,7 @@ returns-in_err-served-clause-collects g c =
 
 pub returns-in_err-served-clause-causes : goal.returns-in_err-served-clause-causes
 returns-in_err-served-clause-causes g c =
-    let memory = err_from_is_err_and c.from_residual-in_err-served.result c.from_residual-in_err-served.ensures.1 in
-    served_none _ _ _ g.D.Door.left g.D.Door.returned g.D.Door.last g.D.Door.faults _ _ _ _ _ _ _ _ c.in_err-served.ensures.served _ c.from_residual-in_err-served.result (memory.1 ∙ ap (λ (stop : Stopped). Err stop) memory.2)
+    collected_causes _ _ _ g.D.Door.left g.D.Door.returned g.D.Door.last g.D.Door.faults _ _ c.args.options.now _ _ c.from_residual-in_err-served.result (returns-in_err-served-clause-collects g c)
 
 pub returns-clause-collects : goal.returns-clause-collects
 returns-clause-collects g c =
@@ -28,4 +27,4 @@ returns-clause-collects g c =
 
 pub returns-clause-causes : goal.returns-clause-causes
 returns-clause-causes g c =
-    served_causes _ _ _ g.D.Door.left g.D.Door.returned g.D.Door.last g.D.Door.faults _ _ _ _ _ _ _ _ c.in_ok-served.ensures.served c.in_ok-served.field-0 _ _ c.print_served.result refl c.print_served.ensures.cause
+    collected_causes _ _ _ g.D.Door.left g.D.Door.returned g.D.Door.last g.D.Door.faults _ _ c.args.options.now _ _ c.print_served.result (returns-clause-collects g c)

@@ -4,7 +4,10 @@ use Rattle.swid_run.proofs.planning.plan.Goals as goal
 pub returns-in-Ok-Collect-clause-lent : goal.returns-in-Ok-Collect-clause-lent
 returns-in-Ok-Collect-clause-lent c =
     let so = rw c.in-Ok-Collect.field-0-is at c.in-Ok-Collect.ensures.order in
-    (collect_lends _ _ so.0, so.1.names)
+    collect_lends _ _ so.0
+
+pub returns-in-Ok-Collect-clause-few : goal.returns-in-Ok-Collect-clause-few
+returns-in-Ok-Collect-clause-few c = (rw c.in-Ok-Collect.field-0-is at c.in-Ok-Collect.ensures.order).1.names
 
 pub returns-in-Ok-Follow-clause-lent : goal.returns-in-Ok-Follow-clause-lent
 returns-in-Ok-Follow-clause-lent c = follow_lends _ _ (rw c.in-Ok-Follow.field-0-is at c.in-Ok-Follow.ensures.order).0

@@ -12,8 +12,8 @@ follow-requires-clause-many g c = λ lives within. (c.requires.lent.follow c.in-
 pub returns-in-Ok-Other-clause-usage : goal.returns-in-Ok-Other-clause-usage
 returns-in-Ok-Other-clause-usage g c = λ two line. c.run_plain.ensures.usage.0 two (neither_line _ (rw c.in-Ok-Other.field-0-is at c.in-Ok-Other.ensures.order) line)
 
-pub returns-in-Ok-Other-clause-unknown : goal.returns-in-Ok-Other-clause-unknown
-returns-in-Ok-Other-clause-unknown g c = λ none. inl (c.run_plain.ensures.usage.1 (λ line. none (inl line)))
+pub returns-in-Ok-Other-clause-no_line : goal.returns-in-Ok-Other-clause-no_line
+returns-in-Ok-Other-clause-no_line g c = λ none. inl (c.run_plain.ensures.usage.1 (λ line. none (inl line)))
 
 pub returns-in-Ok-Other-clause-plain : goal.returns-in-Ok-Other-clause-plain
 returns-in-Ok-Other-clause-plain g c = λ neither. inl (record {
@@ -66,5 +66,5 @@ returns-in-Err-clause-collect g c = λ options said. (Err stopped.Memory, refl, 
 pub returns-in-Err-clause-follow : goal.returns-in-Err-clause-follow
 returns-in-Err-clause-follow g c = λ options said. (Err stopped.Memory, refl, inr (refl, refl, refl))
 
-pub returns-in-Err-clause-later : goal.returns-in-Err-clause-later
-returns-in-Err-clause-later g c = (le_refl _, (le_refl _, (le_refl _, (le_refl _, none_fell_still (door_counts g.D.Door.faults c.args.doors.now)))))
+pub returns-in-Err-clause-counts_never_fall : goal.returns-in-Err-clause-counts_never_fall
+returns-in-Err-clause-counts_never_fall g c = (le_refl _, (le_refl _, (le_refl _, (le_refl _, none_fell_still (door_counts g.D.Door.faults c.args.doors.now)))))
