@@ -7,19 +7,23 @@
 //! | file | what it holds |
 //! |---|---|
 //! | `outside.rt` | the doors and sources that a command line names |
-//! | `said_net.rt`, `said_lines.rt` | the network and files, which say what failed |
+//! | `reporting_net.rt` | the network, which says where it listens and what it refuses |
+//! | `reporting_listener.rt`, `reporting_stream.rt` | listeners and connections, which say what failed |
+//! | `reporting_lines.rt` | the lines of files, which say what is no item |
 #![tactic(auto)]
 
 mod outside;
-mod said_lines;
-mod said_net;
+mod reporting_lines;
+mod reporting_listener;
+mod reporting_net;
+mod reporting_stream;
 
 ghost use Rattle.std.specs.Prelude.{◌≤◌, length, map};
 ghost use Rattle.session_pool.specs.Stands.{AreReady};
 ghost use Rattle.swid_run.specs.Words.{AreLent, IsFresh};
 
-use crate::outside::{dialling, line_sources, listening};
-use crate::said_net::SaidNet;
+use crate::outside::{dialling, line_sources, listening, say_no_address};
+use crate::reporting_net::ReportingNet;
 use session_pool::Stand;
 use source_set::{Sources, TagSource};
 use std::io::ErrorKind;
@@ -45,7 +49,7 @@ swid: the words are none of these:
                          follows the inventories that are served at the addresses, and prints them";
 
 fn main(rt: HostRuntime) -> ExitCode {
-    let status = match act(&rt, &rt) {
+    let status = match run_command_line(&rt, &rt) {
         Ok(status) => status,
         Err(Memory) => 4,
     };
@@ -58,8 +62,9 @@ fn main(rt: HostRuntime) -> ExitCode {
     ExitCode::from(status)
 }
 
-/// Runs the command line. `host` is the system, and `rt` the right to wait and to start threads.
-fn act<R: Threads + Wait + Sync>(host: &HostRuntime, rt: &R) -> Result<u8, Memory> {
+/// Runs the command line. `host` is the system, and `rt` the right to wait and to start threads:
+/// the same value, since code that starts threads for doors is not generic over the network.
+fn run_command_line<R: Threads + Wait + Sync>(host: &HostRuntime, rt: &R) -> Result<u8, Memory> {
     let owned = words(host)?;
     let mut words = Vec::with_capacity(host.alloc(), owned.len())?;
     for word in &owned {
@@ -98,7 +103,8 @@ fn run_listening<R: Threads + Wait + Sync>(
     requires lent { AreLent (map (λ word. word.now) words.now) workers (length names.now) }
     requires few { length names.now ≤ 255 }
 {
-    let net = SaidNet::new(host);
+    say_no_address(host, address);
+    let net = ReportingNet::new(host);
     let mut stands = listening(host.alloc(), &net, address, workers)?;
     let mut sources = line_sources(host.alloc(), host, names)?;
     let doors = stands.as_mut_slice();
@@ -114,7 +120,10 @@ fn run_dialling<R: Threads + Wait + Sync>(
 ) -> Result<u8, Memory>
     requires lent { AreLent (map (λ word. word.now) words.now) (length addresses.now) 0 }
 {
-    let net = SaidNet::new(host);
+    for address in addresses {
+        say_no_address(host, address.as_str());
+    }
+    let net = ReportingNet::new(host);
     let mut stands = dialling(host.alloc(), &net, addresses)?;
     let mut sources = line_sources(host.alloc(), host, &[])?;
     let doors = stands.as_mut_slice();

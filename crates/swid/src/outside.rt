@@ -6,7 +6,7 @@ ghost use Rattle.session_pool.specs.Stands.{AreReady, IsReady};
 ghost use Rattle.source_set.specs.Sweeping.{fresh};
 ghost use Rattle.swid_run.specs.Words.{IsFresh};
 
-use crate::said_lines::SaidLines;
+use crate::reporting_lines::ReportingLines;
 use session_pool::Stand;
 use source_lines::LineSource;
 use source_set::Sources;
@@ -25,7 +25,7 @@ fn write_seconds() -> NonZeroU32 {
 }
 
 /// Says on standard error that a text is no address, where it is none: the network is not asked then.
-fn say_no_address<R: Net + Eprint>(rt: &R, address: &str) {
+pub(crate) fn say_no_address<R: Net + Eprint>(rt: &R, address: &str) {
     if let Err(error) = address.to_socket_addrs(rt) {
         if error.kind() == ErrorKind::InvalidInput {
             // Nobody is left to inform where standard error fails.
@@ -43,7 +43,7 @@ fn say_unreadable<R: fs::Files + Eprint>(rt: &R, name: &str) {
 }
 
 /// That many stands, each at a door to a listener on the address.
-pub(crate) fn listening<R: Net + Eprint>(
+pub(crate) fn listening<R: Net>(
     alloc: Global,
     net: &R,
     address: &str,
@@ -52,7 +52,6 @@ pub(crate) fn listening<R: Net + Eprint>(
     ensures count { IfOk result (λ made. length made.items ≡ workers) }
     ensures ready { IfOk result (λ made. AreReady (λ door. door.out) made.items) }
 {
-    say_no_address(net, address);
     let first = ListenDoor::bind(net, address, write_seconds());
     stands_beside(alloc, &first, workers)
 }
@@ -81,7 +80,7 @@ fn beside<L: OpenListener>(first: &ListenDoor<L>) -> Stand<ListenDoor<L>>
 }
 
 /// A stand at a door to each address.
-pub(crate) fn dialling<'a, R: Net + Eprint>(
+pub(crate) fn dialling<'a, R: Net>(
     alloc: Global,
     net: &'a R,
     addresses: &'a [Text],
@@ -91,7 +90,6 @@ pub(crate) fn dialling<'a, R: Net + Eprint>(
 {
     let mut stands = Vec::with_capacity(alloc, addresses.len())?;
     for address in addresses {
-        say_no_address(net, address.as_str());
         stands.push(Stand::new(DialDoor::new(net, address.as_str(), write_seconds())))?;
     }
     Ok(stands)
@@ -102,7 +100,7 @@ pub(crate) fn line_sources<'a, R: fs::Files + Eprint>(
     alloc: Global,
     rt: &'a R,
     names: &'a [Text],
-) -> Result<Sources<SaidLines<'a, R>>, Memory>
+) -> Result<Sources<ReportingLines<'a, R>>, Memory>
     requires few { length names.now ≤ 255 }
     ensures count { IfOk result (λ made. length made.seats ≡ length names.entry.now) }
     ensures fresh { IfOk result (λ made. IsFresh made) }
@@ -111,7 +109,7 @@ pub(crate) fn line_sources<'a, R: fs::Files + Eprint>(
     for name in names {
         say_unreadable(rt, name.as_str());
         let file = FileSource::open(rt, name.as_str());
-        sources.push(SaidLines::new(rt, name.as_str(), LineSource::new(alloc, file)?))?;
+        sources.push(ReportingLines::new(rt, name.as_str(), LineSource::new(alloc, file)?))?;
     }
     Sources::new(alloc, sources)
 }

@@ -1,31 +1,33 @@
 //! The network, which says on standard error where it listens and what it refuses.
 
+use crate::reporting_listener::ReportingListener;
+use crate::reporting_stream::ReportingStream;
 use std::fmt::Display;
 use std::io;
 use std::io::Eprint;
 use std::net::{Net, OpenListener, SocketAddr};
 
 /// A network that says on standard error where a listener is, and why there is none or no
-/// connection.
+/// connection. So do its listeners and connections of their calls.
 #[derive(Drop)]
-pub(crate) struct SaidNet<'a, R> {
+pub(crate) struct ReportingNet<'a, R> {
     system: &'a R,
 }
 
-impl<'a, R: Net + Eprint> SaidNet<'a, R> {
+impl<'a, R: Net + Eprint> ReportingNet<'a, R> {
     /// The network of `system`.
     pub(crate) fn new(system: &'a R) -> Self {
-        SaidNet { system }
+        ReportingNet { system }
     }
 }
 
 // What a message says is not checked further: nobody is left to inform where standard error fails.
-impl<'a, R: Net + Eprint> Net for SaidNet<'a, R> {
-    type Stream = R::Stream;
+impl<'a, R: Net + Eprint> Net for ReportingNet<'a, R> {
+    type Stream = ReportingStream<'a, R, R::Stream>;
 
-    type Listener = R::Listener;
+    type Listener = ReportingListener<'a, R, R::Listener>;
 
-    fn bind(&self, address: SocketAddr) -> io::Result<R::Listener> {
+    fn bind(&self, address: SocketAddr) -> io::Result<Self::Listener> {
         let bound = self.system.bind(address);
         let _ = match &bound {
             Ok(listener) => match listener.local_addr() {
@@ -36,15 +38,15 @@ impl<'a, R: Net + Eprint> Net for SaidNet<'a, R> {
                 eprintln!(self.system; "swid: cannot listen on {address}: {}", error.kind())
             }
         };
-        bound
+        Ok(ReportingListener::new(self.system, bound?))
     }
 
-    fn connect(&self, address: SocketAddr) -> io::Result<R::Stream> {
+    fn connect(&self, address: SocketAddr) -> io::Result<Self::Stream> {
         let connected = self.system.connect(address);
         if let Err(error) = &connected {
             let _ = eprintln!(self.system; "swid: cannot connect to {address}: {}", error.kind());
         }
-        connected
+        Ok(ReportingStream::new(self.system, address, connected?))
     }
 
     fn lookup_host(&self, host: &str, port: u16, found: &mut [SocketAddr]) -> io::Result<usize> {
@@ -56,7 +58,7 @@ impl<'a, R: Net + Eprint> Net for SaidNet<'a, R> {
     }
 }
 
-impl<'a, R: Eprint> Eprint for SaidNet<'a, R> {
+impl<'a, R: Eprint> Eprint for ReportingNet<'a, R> {
     fn eprint<V: Display + Drop>(&self, value: V) -> io::Result<()> {
         self.system.eprint(value)
     }

@@ -9,20 +9,20 @@ use wire_base::FileSource;
 /// The lines of a file as a source. It says on standard error which line is no item, and that the
 /// file can't be read.
 #[derive(Drop)]
-pub(crate) struct SaidLines<'a, R: fs::Files> {
+pub(crate) struct ReportingLines<'a, R: fs::Files> {
     system: &'a R,
     name: &'a str,
     lines: LineSource<FileSource<R::File>>,
 }
 
-impl<'a, R: fs::Files> SaidLines<'a, R> {
+impl<'a, R: fs::Files> ReportingLines<'a, R> {
     /// These lines, of the file `name`.
     pub(crate) fn new(
         system: &'a R,
         name: &'a str,
         lines: LineSource<FileSource<R::File>>,
     ) -> Self {
-        SaidLines {
+        ReportingLines {
             system,
             name,
             lines,
@@ -30,9 +30,9 @@ impl<'a, R: fs::Files> SaidLines<'a, R> {
     }
 }
 
-impl<'a, R: fs::Files + Eprint> SaidLines<'a, R> {
+impl<'a, R: fs::Files + Eprint> ReportingLines<'a, R> {
     /// Says why the line of this number, the last one, is no item.
-    fn say_why(&self, line: u64) -> io::Result<()> {
+    fn report_bad_line(&self, line: u64) -> io::Result<()> {
         match self.lines.last_fault() {
             Some(fault) => eprintln!(self.system; "swid: {}:{line}: {fault}", self.name),
             None => eprintln!(self.system; "swid: {}:{line}: no item", self.name),
@@ -40,7 +40,7 @@ impl<'a, R: fs::Files + Eprint> SaidLines<'a, R> {
     }
 }
 
-impl<'a, R: fs::Files + Eprint> TagSource for SaidLines<'a, R> {
+impl<'a, R: fs::Files + Eprint> TagSource for ReportingLines<'a, R> {
     ghost use Rattle.std.specs.Prelude.{None};
     ghost use Rattle.source_lines.specs.Lines.{WillReport};
 
@@ -53,7 +53,7 @@ impl<'a, R: fs::Files + Eprint> TagSource for SaidLines<'a, R> {
         let told = self.lines.next();
         // Nobody is left to inform where standard error fails.
         let _ = match &told {
-            Told::Bad { line } => self.say_why(*line),
+            Told::Bad { line } => self.report_bad_line(*line),
             Told::Failed => eprintln!(self.system; "swid: cannot read {}", self.name),
             _ => Ok(()),
         };

@@ -1,0 +1,1 @@
+"$swid" follow nowhere
