@@ -9,6 +9,7 @@ pub mod Running
 pub mod Placing
 pub mod Coming
 pub mod Reach
+pub mod Recovering
 pub mod PutRuns
 pub mod DraftRuns
 pub mod SessionRuns

@@ -60,7 +60,7 @@ followed_part_continues mirror c turns out notes breaks = breaks_continue nobody
 pub followed_is_so : FollowedIsSo
 followed_is_so mirror c turns out stand follows = given_gives nobody 0 (following.session c mirror turns) [] out stand follows
 
-marked_is_full : (point : Option Point) → earliest_of (want_at point true) ≡ 0
+pub marked_is_full : (point : Option Point) → earliest_of (want_at point true) ≡ 0
 marked_is_full None = refl
 marked_is_full (Some point) = refl
 

@@ -19,5 +19,6 @@ pub mod WorkedEnds
 pub mod Meaning
 pub mod AnySession
 pub mod Wanted
+pub mod Recovery
 pub mod SubRun
 pub mod SubRuns

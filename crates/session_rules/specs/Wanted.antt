@@ -1,6 +1,5 @@
 -- What a validator asks for, in every session: what the mirror wants that is noted at that time.
--- So after a gap each request is for the inventory, in this session and in the next ones, until a
--- report clears the mark.
+-- What follows from that after a gap is said in `Recovery`.
 use Rattle.std.specs.Prelude.{◌≡◌, ◌⊎◌, ◌<◌, ◌^◌, ◌==◌, ◌&&◌, ℕ, false, List, [], ◌∷◌, ◌++◌}
 use Rattle.std.specs.List.{AllByRecursion}
 use Rattle.wire_base.specs.Turns.{Turn}

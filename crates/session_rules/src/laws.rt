@@ -4,6 +4,7 @@
 ghost use Rattle.session_rules.specs.AnySession.{StaysRightInParts, StaysRightInSessions};
 ghost use Rattle.session_rules.specs.Meaning.{FollowedIsASession, FollowedIsSo, FollowedPartContinues, LaterEntriesChangeNoPart, LaterEntriesChangeNothing};
 ghost use Rattle.session_rules.specs.Meaning.{MarkedAsksForAll, OneOutcome, ServedIsASession, ServedIsSo, ServedPartContinues, SessionsTakeAtMost};
+ghost use Rattle.session_rules.specs.Recovery.{RecoversInSessions};
 ghost use Rattle.session_rules.specs.Wanted.{RequestsAreWanted};
 ghost use Rattle.session_rules.specs.SubRun.{PlacesFollowReports, ReportsGoOn, SuccessiveReports};
 ghost use Rattle.session_rules.specs.SubRuns.{SessionsAreRuns};
@@ -94,6 +95,13 @@ pub fn marked_asks_for_all()
 /// Each batch of a validator has at most one request, which asks for what its mirror wants then.
 pub fn requests_are_wanted()
     ensures law { RequestsAreWanted }
+{}
+
+/// After a report that set its mirror's mark, in this session or before it, each request of a
+/// validator is for the inventory until one is adopted. Until then the mark stays, so this goes on
+/// in the next session.
+pub fn recovers_in_sessions()
+    ensures law { RecoversInSessions }
 {}
 
 /// A mirror that was right stays right in a session with an honest collector, wherever it ends.

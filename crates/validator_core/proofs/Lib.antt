@@ -9,6 +9,7 @@ pub mod Mentioning
 pub mod Merging
 pub mod Misfits
 pub mod Numbered
+pub mod Recovering
 pub mod Righting
 pub mod Staying
 pub mod Tallying

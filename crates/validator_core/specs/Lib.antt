@@ -9,6 +9,7 @@ pub mod Kept
 pub mod Keyed
 pub mod Mentions
 pub mod Merged
+pub mod Recovery
 pub mod Right
 pub mod Want
 pub mod Weighed

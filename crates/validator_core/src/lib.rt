@@ -24,6 +24,18 @@
 //! | `merge.rt` | records of two lists in order of identifier, put into one map |
 //! | `lent_or_owned.rt` | lists of a report that is lent or given up |
 //! | `laws.rt` | what the definitions mean, proved |
+//!
+//! The words of the clauses are in `specs/`:
+//!
+//! | file | what it says |
+//! |---|---|
+//! | `Held`, `Judge` | what a mirror holds, and the table of its answers to reports |
+//! | `Right`, `Want` | when it is right over a history, and what it wants next |
+//! | `Following`, `Tally`, `Further` | how events follow on what is held; what judges the next |
+//! | `Mentions`, `Gone` | what events say of records, and which are gone after them |
+//! | `Keyed`, `Merged`, `Anew` | records by identifier, of two lists, and memory for them |
+//! | `MaybeOwned`, `Weighed` | lists lent or given up; what a mirror has beside its records |
+//! | `Kept`, `Growth`, `Recovery` | the laws: what reports keep, growing histories, the mark |
 #![tactic(auto)]
 
 mod anew;
