@@ -29,6 +29,16 @@ use Rattle.book_lock.specs.Plays.{HasBook, IsAt, Rests, Seated, Took, committing
 pub is_at : (seat board shelf : TableId) (v : View) (p : PassView) → pass_of seat v ≡ p → board ≡ shelf → p.shelf ≡ shelf → (board.words ≡ 3) × (board.slots ≡ 1) → IsAt board seat
 is_at seat board shelf v p view_is self_is here sized = (ap (λ (q : PassView). q.shelf) view_is ∙ (here ∙ sym self_is), sized.0, sized.1)
 
+-- A pass at rest may take the book.
+pub may_reach : (seat board shelf : TableId) (m : Seated) (p : PassView) → pass_of seat m.0 ≡ p → board ≡ shelf → p.shelf ≡ shelf → (board.words ≡ 3) × (board.slots ≡ 1) → Rests seat m
+    → record { here : IsAt board seat; idle : m.0.stage ≡ 0; live : m.0.spent ≡ false; empty : m.1 ≡ [] }
+may_reach seat board shelf m p view_is self_is here sized rests = record {
+  here = is_at seat board shelf m.0 p view_is self_is here sized;
+  idle = rests.idle;
+  live = rests.live;
+  empty = rests.empty;
+}
+
 pub reached_book : (v : View) (ticket : ℕ) (one two three : Seated) (carried : List (ℕ × Option BookView)) (book : BookView) → one ≡ (drawn v ticket, carried) → two ≡ (reached one.0, one.1)
     → HasBook two.0 three book → HasBook v three book
 reached_book v ticket one two three carried book drew looked has =

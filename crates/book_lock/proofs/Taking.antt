@@ -1,5 +1,5 @@
 -- A call that takes the book, and brings it back.
-use Rattle.std.proofs.Common.{◌≡◌, ◌+◌, true, false, List, [], ◌∷◌, ◌++◌, sym, ap, ◌∙◌, subst, None, Ok, Err, append_assoc, true≢false}
+use Rattle.std.proofs.Common.{◌≡◌, ◌≤◌, ◌+◌, Bool, true, false, List, [], ◌∷◌, ◌++◌, arith, sym, ap, ◌∙◌, subst, None, Ok, Err, append_assoc, true≢false}
 use Rattle.atomic_table.specs.Seated.{TableId}
 use Rattle.collector_core.specs.declared.book.edit.Changed.{Changed}
 use Rattle.collector_core.specs.declared.book.edit.Edit.{Edit}
@@ -14,7 +14,7 @@ use Rattle.collector_core.specs.Standing.{BookView, Enters, Stands}
 use Rattle.collector_core.proofs.BookDesk.{state_same}
 use Rattle.book_lock.specs.Logs.{LegalWith, StandsWith}
 use Rattle.book_lock.specs.Passes.{AddsOwn, Closes, IsSound, PassStands, PassView, PassWent, Reports}
-use Rattle.book_lock.specs.Plays.{HasBook, Rests, Seated, committing, pass_of, resting}
+use Rattle.book_lock.specs.Plays.{HasBook, IsAt, Rests, Seated, committing, pass_of, resting}
 use Rattle.book_lock.proofs.Calls.{edits_done, edits_refused, grown, lawful_there, legal_after, own_no_more, own_one_more, point_after, reads_by, rests_again, seat_committed, seat_grown, seat_taken, seen_own, seen_still, sound_by, stands_after, stood_refused, went_by}
 
 -- The pass before; the seat with the book; the book.
@@ -35,6 +35,17 @@ module _ (z : TableId) (me one : Seated) (book : BookView) (rests : Rests z me) 
   -- The book stands for what the seat has seen.
   pub stands_seen : (after : BookView) → StandsWith me.0.start after (entries (me.0.seen ++ has.others)) → StandsWith one.0.start after (entries one.0.seen)
   stands_seen after stands = subst (λ (m : Seated). StandsWith m.0.start after (entries m.0.seen)) (sym has.is) stands
+
+  -- A call that read the book may bring it back.
+  pub read_gives : (y board : TableId) → y ≡ z → IsAt board z
+      → record { here : IsAt board y; holds : 3 ≤ one.0.stage; live : one.0.spent ≡ false; taken : one.1 ≡ (0, None) ∷ []; stands : StandsWith one.0.start book (entries one.0.seen) }
+  read_gives y board same at = let stage : one.0.stage ≡ 3 = holds_it in record {
+    here = (same ∙ at.0, at.1, at.2);
+    holds = omega (arith, stage);
+    live = still_live;
+    taken = has_taken;
+    stands = stands_seen book has.stands;
+  }
 
   -- ---- a read, or a change that was refused
 
@@ -65,6 +76,20 @@ module _ (z : TableId) (me one : Seated) (book : BookView) (rests : Rests z me) 
         → Reads PassStands PassWent p (pass_of y two.0) answered
     read_reads p is answered answers = subst (λ (x : PassView). Reads PassStands PassWent x (pass_of y two.0) answered) is
         (reads_by (pass_of z me.0) (pass_of y two.0) has.others book answered rests.sound has.theirs read_went has.stands answers)
+
+    -- What such a call leaves, and what it says of it.
+    pub read_leaves : (changes : Bool) → changes ≡ me.0.may_change → Rests y two × (changes ≡ two.0.may_change)
+    read_leaves changes may = (read_rests, may ∙ sym read_may)
+
+    pub read_returns : (p : PassView) → pass_of z me.0 ≡ p → (shelf : TableId) → p.shelf ≡ shelf → (answered : Chronicle → Type 0) → ((chronicle : Chronicle) → Stands book chronicle → answered chronicle)
+        → record { reads : Reads PassStands PassWent p (pass_of y two.0) answered; sole : p.sole ≡ true → two.0.seen ≡ p.seen; here : y ≡ shelf; may : two.0.may_change ≡ p.may_change; sound : IsSound (pass_of y two.0) }
+    read_returns p is shelf here answered answers = record {
+      reads = read_reads p is answered answers;
+      sole = read_same p is;
+      here = same ∙ (ap (λ (q : PassView). q.shelf) is ∙ here);
+      may = read_may ∙ ap (λ (q : PassView). q.may_change) is;
+      sound = read_sound;
+    }
 
     pub read_refused : (p : PassView) → pass_of z me.0 ≡ p → (edit : Edit) (after : BookView) (error : BookError)
         → ((chronicle : Chronicle) → Stands book chronicle → Enters {T = Changed} (Makes edit (state_of chronicle)) (edit_refusal edit (state_of chronicle)) chronicle (Err error) after)

@@ -7,7 +7,7 @@ use std::marker::{Brand, PhantomData};
 use std::snapshot::Snapshot;
 
 /// The rule of a shelf.
-pub struct Law;
+pub(crate) struct Law;
 
 impl TableRule<Option<Book>, View, Snapshot<Book>> for Law {
     ghost use Rattle.book_lock.specs.Rule.{Kept};

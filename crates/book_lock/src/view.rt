@@ -15,7 +15,7 @@ pub(crate) type Board = Table<Option<Book>, View, Snapshot<Book>, Law, Global>;
 pub(crate) type Place = Seat<Option<Book>, View>;
 
 /// What a pass knows.
-pub struct View {
+pub(crate) struct View {
     /// The book that was opened.
     pub start: Book,
     /// The entries that it has seen, with its own marked.

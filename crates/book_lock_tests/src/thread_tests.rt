@@ -2,14 +2,12 @@
 
 ghost use Rattle.std.specs.Prelude.{◌≡◌, true};
 
-use crate::values::{STAMP, content, count_from, empty_book, inventory, is_at};
+use crate::values::{content, count_from, create, inventory, is_at, opened};
 use book_lock::{Pass, Shelf};
-use collector_core::Edit;
 use std::alloc::Global;
 use std::sync::Wait;
 use std::thread;
 use std::thread::Threads;
-use wire_base::is_stamp;
 
 /// How many records each thread creates.
 const RECORDS: u8 = 100;
@@ -30,14 +28,7 @@ fn create_and_ask<R: Wait>(
     ensures may { pass.new.may_change ≡ true }
 {
     let content = content(alloc, &[source, number], source)?;
-    if !is_stamp(&STAMP) {
-        return None;
-    }
-    let creation = Edit::Create {
-        stamp: &STAMP,
-        content: &content,
-    };
-    let _changed = shelf.change(wait, pass, creation).ok()?;
+    create(wait, shelf, pass, &content)?;
     let request = inventory(alloc);
     let answer = shelf.ask(wait, pass, &request, u32::MAX);
     count_from(&answer, source)
@@ -71,10 +62,7 @@ fn work<R: Wait>(wait: &R, alloc: Global, shelf: &Shelf, mut pass: Pass, source:
 
 /// Whether two threads each have all that they created, and the book has it all at the end.
 fn two_threads<R: Threads + Wait + Sync>(rt: &R, alloc: Global) -> Option<bool> {
-    let book = empty_book(alloc)?;
-    let Ok((shelf, mut pass)) = Shelf::open(alloc, book) else {
-        return None;
-    };
+    let (shelf, mut pass) = opened(alloc)?;
     let second = shelf.split(&mut pass, true);
     let lent = &shelf;
     let ((one, mut pass), (two, second)) = thread::join(

@@ -1,18 +1,54 @@
 //! What tests put into books, and how they look at answers. `None` comes where a call refused, or
 //! memory ran out.
 
-use collector_core::{Answer, Book};
+ghost use Rattle.std.specs.Prelude.{◌≡◌, IfSome, true};
+
+use book_lock::{Pass, Shelf};
+use collector_core::{Answer, Book, Edit};
 use std::alloc::Global;
+use std::sync::Wait;
 use swima_model::{Body, Content, Ident, Kind, Locator, Model, Point, Report};
 use swima_request::Request;
-use wire_base::List;
+use wire_base::{List, is_stamp};
 
 /// The moment of each change.
 pub(crate) const STAMP: [u8; 20] = *b"2026-02-03T04:05:06Z";
 
-/// A book at epoch 7 without records, which keeps 400 events.
-pub(crate) fn empty_book(alloc: Global) -> Option<Book> {
-    Book::new(alloc, 7, 400, &[]).ok()
+/// A shelf of a book at epoch 7 without records, which keeps 400 events, and its pass.
+pub(crate) fn opened(alloc: Global) -> Option<(Shelf, Pass)>
+    ensures here { IfSome result (λ made. made.1.shelf ≡ made.0) }
+    ensures may { IfSome result (λ made. made.1.may_change ≡ true) }
+{
+    let book = Book::new(alloc, 7, 400, &[]).ok()?;
+    match Shelf::open(alloc, book) {
+        Ok(made) => Some(made),
+        Err(_) => None,
+    }
+}
+
+/// Creates a record in the turn of a pass.
+pub(crate) fn create<R: Wait>(
+    wait: &R,
+    shelf: &Shelf,
+    pass: &mut Pass,
+    content: &Content,
+) -> Option<u32>
+    requires here { pass.old.shelf ≡ shelf.now }
+    requires may { pass.old.may_change ≡ true }
+    ensures here { pass.new.shelf ≡ shelf.now }
+    ensures may { pass.new.may_change ≡ true }
+{
+    if !is_stamp(&STAMP) {
+        return None;
+    }
+    let creation = Edit::Create {
+        stamp: &STAMP,
+        content,
+    };
+    match shelf.change(wait, pass, creation) {
+        Ok(changed) => Some(changed.id),
+        Err(_) => None,
+    }
 }
 
 /// A content with this software identifier, from this source.

@@ -1,16 +1,11 @@
 use Rattle.std.proofs.Common.{arith, sym, ap, ◌∙◌}
 use Rattle.book_lock.specs.Passes.{PassView}
-use Rattle.book_lock.proofs.Calls.{is_at}
-use Rattle.book_lock.proofs.Taking.{commit_legal, committed_live, committed_stage, committed_taken, done_adds, done_edits, done_may, done_point, done_rests, done_sound, give_stands, has_taken, holds_it, read_may, read_refused, read_rests, read_same, read_sound, refused_stands, still_live, still_may}
+use Rattle.book_lock.proofs.Calls.{is_at, may_reach}
+use Rattle.book_lock.proofs.Taking.{commit_legal, committed_live, committed_stage, committed_taken, done_adds, done_edits, done_may, done_point, done_rests, done_sound, give_stands, has_taken, holds_it, read_leaves, read_may, read_refused, read_same, read_sound, refused_stands, still_live, still_may}
 use Rattle.book_lock.proofs.shelf.Shelf.change.Goals as goal
 
 pub reach-book-requires : goal.reach-book-requires
-reach-book-requires g c = record {
-  here = is_at _ _ _ c.pass.inside.seat.me.0 _ c.pass.view_is c.self.view_is c.requires.here c.self.invariant;
-  idle = c.pass.invariant.0.idle;
-  live = c.pass.invariant.0.live;
-  empty = c.pass.invariant.0.empty;
-}
+reach-book-requires g c = may_reach _ _ _ _ _ c.pass.view_is c.self.view_is c.requires.here c.self.invariant c.pass.invariant.0
 
 pub commit-requires : goal.commit-requires
 commit-requires g c =
@@ -73,10 +68,8 @@ give-requires-in-Err g c =
 pub invariant_of-pass-in-Err : goal.invariant_of-pass-in-Err
 invariant_of-pass-in-Err g c =
     let has = c.reach-book.ensures.reached in
-    let same = c.give-in-Err.ensures.here.0 ∙ c.reach-book.ensures.here.0 in (
-      read_rests _ _ _ _ c.pass.invariant.0 has _ _ same c.give-in-Err.ensures.rests,
-      c.pass.invariant.1 ∙ sym (read_may _ _ _ _ c.pass.invariant.0 has _ _ same c.give-in-Err.ensures.rests),
-    )
+    let same = c.give-in-Err.ensures.here.0 ∙ c.reach-book.ensures.here.0 in
+    read_leaves _ _ _ _ c.pass.invariant.0 has _ _ same c.give-in-Err.ensures.rests _ c.pass.invariant.1
 
 pub returns : goal.returns
 returns g c =

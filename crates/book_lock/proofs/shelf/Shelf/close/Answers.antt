@@ -1,14 +1,9 @@
-use Rattle.book_lock.proofs.Calls.{is_at}
+use Rattle.book_lock.proofs.Calls.{may_reach}
 use Rattle.book_lock.proofs.Taking.{closes_same, closes_sound, closes_with}
 use Rattle.book_lock.proofs.shelf.Shelf.close.Goals as goal
 
 pub reach-book-requires : goal.reach-book-requires
-reach-book-requires g c = record {
-  here = is_at _ _ _ c.pass.inside.seat.me.0 _ c.pass.view_is c.self.view_is c.requires.here c.self.invariant;
-  idle = c.pass.invariant.0.idle;
-  live = c.pass.invariant.0.live;
-  empty = c.pass.invariant.0.empty;
-}
+reach-book-requires g c = may_reach _ _ _ _ _ c.pass.view_is c.self.view_is c.requires.here c.self.invariant c.pass.invariant.0
 
 pub returns : goal.returns
 returns g c =
