@@ -1,9 +1,10 @@
 //! The options of the commands that wait for others: what the words after `collect` and `follow`
 //! say, read with `clap`.
 //!
-//! It stands on `clap` for the words, on `swima_model` for the kinds of reports, and on `wire_base`
-//! for texts. The crates above rest on the clauses `options` and `within` of `collect_options` and
-//! `follow_options`: the options are exactly what `clap` states for the command.
+//! It stands on `clap` for the words, on `swima_model` for the kinds of reports, on `wire_base` for
+//! texts, and on `thiserror` for the texts of errors. The crates above rest on the clauses `options`
+//! and `within` of `collect_options` and `follow_options`: the options are exactly what `clap` states
+//! for the command.
 //!
 //! | file | what it holds | its words in `specs/` |
 //! |---|---|---|

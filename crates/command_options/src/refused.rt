@@ -3,14 +3,17 @@
 ghost use Rattle.std.specs.Prelude.{◌≡◌};
 
 use std::alloc::{AllocError, AllocFailed};
+use thiserror::Error;
 use wire_base::Memory;
 
 /// Why words give no options.
-#[derive(Clone, Copy, Debug, PartialEq, Eq)]
+#[derive(Clone, Copy, Debug, PartialEq, Eq, Error)]
 pub enum OptionsRefused {
     /// The words are no options of the command.
+    #[error("the words are no options of the command")]
     Usage,
     /// Memory ran out.
+    #[error("out of memory")]
     Memory,
 }
 
