@@ -35,7 +35,9 @@
 //! | `Refusals`, `Edits` | when a change is refused, and which entry it makes |
 //! | `Places`, `Index` | places of records, of which some are empty; keys of records |
 //! | `Standing`, `Desks`, `BookDesk` | which chronicles a book or a desk represents |
-//! | `Meaning`, `WrittenAnswers` | the laws |
+//! | `ReportContent`, `Later` | what reports of a kind carry of an event; identifiers of events |
+//! | `OctetOrder`, `Borrowed` | octets in order; lists of borrowed values |
+//! | `Meaning`, `WrittenAnswers`, `InTurn` | the laws |
 #![tactic(auto)]
 
 mod answer;

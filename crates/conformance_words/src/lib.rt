@@ -1,9 +1,14 @@
-//! What stands in a worked row: octets, numbers, texts, files and reports. Each call of a row has its words
-//! as a text, and answers with a text. `None` is that the words are none of it, or that memory ran
-//! out.
+//! What stands in a worked row: octets, numbers, texts, files and reports. Each call of a row has
+//! its words as a text, and answers with a text. `None` is that the words are none of it, or that
+//! memory ran out.
 //!
-//! It stands on `swima_model`, `swima_reports` and `wire_base`. The crates `conformance_NAME` have the calls of one family each, and
-//! the program `conformance` tries rows of all of them.
+//! It stands on `swima_model`, `swima_reports` and `wire_base`. The crates `conformance_NAME` have
+//! the calls of one family each, and the program `conformance` tries rows of all of them.
+//!
+//! | file | what it holds |
+//! |---|---|
+//! | `words.rt` | octets in hexadecimal, numbers, and texts on one line |
+//! | `reports.rt` | the texts of reports and of what they hold |
 #![tactic(auto)]
 
 mod reports;

@@ -95,7 +95,8 @@ fn expect_required(alloc: Global, pairs: &Pairs) -> Result<(), FormRefused>
     key::TagVersion::expect(alloc, pairs)
 }
 
-/// The fields of a tag from `corpus` to `lang`.
+/// The fields of a tag from `corpus` to `lang`. They are read apart from the others, since the
+/// proof of each read costs more the more fields stand beside it.
 #[derive(Drop)]
 struct LastFields {
     corpus: Option<bool>,

@@ -11,7 +11,10 @@
 //! | file | what it holds |
 //! |---|---|
 //! | `log.rt` | the log and its calls |
-//! | `laws.rt` | what a log keeps of all events of its epoch, as `specs/Meaning.antt` says |
+//! | `laws.rt` | what a log keeps of all events of its epoch |
+//!
+//! The words of the clauses are in `specs/`: `Log` has the log and its changes, and `Meaning` the
+//! laws.
 #![tactic(auto)]
 
 pub mod laws;

@@ -12,6 +12,11 @@
 //!   is on its way.
 //!
 //! Their lemmas for proofs above are in `proofs/Sending.antt` and `proofs/Agreement.antt`.
+//!
+//! | file | what it holds | its words in `specs/` |
+//! |---|---|---|
+//! | `machine.rt` | the machine of one end | `Table` |
+//! | `laws.rt` | what the tables mean, proved | `World`: two ends and what is on its way |
 #![tactic(auto)]
 
 pub mod laws;

@@ -8,6 +8,12 @@
 //!   end or until memory ran out. No clause says how the octets were cut into pieces before.
 //! - `hears`: while the session is not over, the feed holds what the end holds by the definition.
 //!
+//! | file | what it holds |
+//! |---|---|
+//! | `hear.rt` | the loop over a piece of octets |
+//! | `end.rt` | the rules of an end, as calls |
+//! | `laws.rt` | what comes of batches that are cut into turns |
+//!
 //! | file of `specs/` | what it says |
 //! |---|---|
 //! | `Step` | the steps of a session |

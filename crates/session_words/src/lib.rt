@@ -14,6 +14,8 @@
 //! | `said.rt` | a message to its words, or to its refusal |
 //! | `verdict.rt` | what becomes of a batch before it is looked into |
 //! | `write.rt` | attributes and messages that are written |
+//!
+//! `Said` in `specs/` ties the value of `read_words` to what a message says by `session_rules`.
 #![tactic(auto)]
 
 mod reader;

@@ -25,6 +25,7 @@
 //! | `mirror/supported.rt` | which attributes `mirror` takes | `Front`: `REPORT_TYPES` |
 //! | `tag.rt`, `tag/` | `tag` and `tag verify` | `Tagging`: `TagTells`; `Checking`, `TagReads` |
 //! | `links.rt`, `links/` | `links` | `Links`: `LinksTells`; `TagList` |
+//! | all of these | what is printed of a whole input; why one stopped | `Telling`, `Causes` |
 //! | `replay.rt` | `replay` | `Replay` of `session_script`: `ReplayTells` |
 //! | `make.rt` | `make` | `Making`; `Day` of `session_day`: `MakeTells` |
 //! | `laws.rt` | what the definitions mean, proved | `FirstLaws`, `TagLaws`, `LinksLaws` |

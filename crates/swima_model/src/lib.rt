@@ -30,6 +30,10 @@
 //! | `Reports` | which reports fit an attribute |
 //! | `Places` | where a record stands among records |
 //! | `InOrder`, `Doubled` | the order of records; the smallest identifier that occurs twice |
+//! | `Rising`, `Repeated` | the same two, in words that say nothing of how they are found |
+//! | `ByNumber` | things in order of a number |
+//! | `DataModel` | the data models of records |
+//! | `Fulfilling` | the report that fulfils a subscription |
 #![tactic(auto)]
 
 mod bounded;

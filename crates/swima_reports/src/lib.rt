@@ -20,9 +20,17 @@
 //! | `write.rt`, `writable.rt` | a report to octets; its records and events |
 //! | `laws.rt` | form, first fault, reading and writing say the same, proved |
 //!
-//! The form and the first fault are `ReportForm` and `ReportFault` in `specs/ReportForm.antt`, and
-//! what is written is `written_report` in `specs/Written.antt`. What `write_report` requires is
-//! `FitsAttribute` of `swima_model`, by the law `fits_is_asked`.
+//! The words of the clauses are in `specs/`:
+//!
+//! | file | what it says |
+//! |---|---|
+//! | `ReportForm` | the form of a report, `ReportForm`, and its first fault, `ReportFault` |
+//! | `ReportReading` | the same layouts, read field by field |
+//! | `Written` | what is written: `written_report` |
+//! | `ReportType`, `ActionNumber` | the numbers of attributes, and of what events do |
+//! | `Laws` | the laws |
+//!
+//! What `write_report` requires is `FitsAttribute` of `swima_model`, by the law `fits_is_asked`.
 #![tactic(auto)]
 
 mod attribute_types;

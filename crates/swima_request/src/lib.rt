@@ -22,8 +22,14 @@
 //! | `numbers.rt` | the numbers that RFC 8412 gives to attributes and flags |
 //! | `laws.rt`, `status_laws.rt` | form, first fault, reading and writing say the same, proved |
 //!
-//! The form and the first fault are `RequestForm` and `RequestFault` in `specs/RequestForm.antt`,
-//! and `StatusForm` and `StatusFault` in `specs/StatusForm.antt`.
+//! The words of the clauses are in `specs/`:
+//!
+//! | file | what it says |
+//! |---|---|
+//! | `RequestForm` | the form of a request, `RequestForm`, and its first fault, `RequestFault` |
+//! | `StatusForm` | the same of a status: `StatusForm` and `StatusFault` |
+//! | `AttributeTypes` | the numbers of the attributes that carry them |
+//! | `Laws`, `StatusLaws` | the laws |
 #![tactic(auto)]
 
 mod fields;

@@ -18,6 +18,16 @@
 //! | `asking.rt` | requests, and whether another one is made |
 //! | `standing.rt`, `notes.rt` | how a validator stands, and what it notes |
 //! | `counts.rt` | counts that stay within a limit |
+//!
+//! The words of the clauses are in `specs/`:
+//!
+//! | file | what it says |
+//! |---|---|
+//! | `Core` | the core: where it stood in a session, and where it stands |
+//! | `Standing`, `Noting` | how a validator stands, and what it notes beside that |
+//! | `Doing`, `DoingLaws` | what it did to some steps, and then to others |
+//! | `Drafting`, `Sizes` | the batch that it writes, and how large that is |
+//! | `Partial`, `Ready` | whether the last report is partial, and when it can go on |
 #![tactic(auto)]
 
 mod answering;
