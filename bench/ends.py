@@ -7,11 +7,13 @@ Builds the program first where that is needed. It serves 65,536 records of about
 
 first table    a first report of whole records to several followers at once: the time from their start to their end, the octets that
                the collector sent to all, and those over the time; beside it a plain Python socket pair that carries as many octets
-second table   sessions one after another: 64 workers with 1,000 sessions each with `swid follow`, and sessions of a Python client that
+second table   what the collector sends of such a report, in the kind full, to several clients in Python at once: the longest time until
+               the first octet, in which the report is made, and the longest from there to the last; beside it the longest that a plain
+               socket pair takes for as many octets, with as many pairs at once
+third table    sessions one after another: 64 workers with 1,000 sessions each with `swid follow`, and sessions of a Python client that
                asks for one event, one at a time and from 8 threads
-third table    sessions of 16 threads while a sweep changes all 65,536 records: how long the sweep took, and the longest session,
-               beside the longest without a sweep
-fourth table   the memory of the collector after 10 and after 1,010 sessions
+fourth table   sessions of 16 threads while a sweep changes all 65,536 records: the longest session, beside the longest without a sweep
+fifth table    the memory of the collector after 10 and after 1,010 sessions
 """
 
 import os
@@ -35,9 +37,10 @@ def message(kind, body):
     return bytes([0x80, 0, 0, 0]) + kind.to_bytes(4, "big") + (12 + len(body)).to_bytes(4, "big") + body
 
 
-def request(earliest):
-    """An SDATA batch that asks for software identifier events from this one on."""
-    attribute = bytes.fromhex("000000000000000d00000018") + bytes.fromhex("2000000000000001") + earliest.to_bytes(4, "big")
+def request(earliest, full=False):
+    """An SDATA batch that asks for software identifier events, or for events with whole records, from this one on."""
+    flags = bytes.fromhex("00000000" if full else "20000000")
+    attribute = bytes.fromhex("000000000000000d00000018") + flags + bytes.fromhex("00000001") + earliest.to_bytes(4, "big")
     pa_tnc = bytes.fromhex("0100000000000001") + attribute
     pa = bytes.fromhex("00000000000000090001") + bytes.fromhex("0001") + pa_tnc
     return batch(2, message(1, pa))
@@ -76,6 +79,44 @@ def session(port, earliest):
     return came
 
 
+def lasts(link):
+    """Takes a batch: how many octets it has, and the time from the first one to the last."""
+    first = exactly(link, 1)
+    start = time.monotonic()
+    head = first + exactly(link, 7)
+    count = int.from_bytes(head[4:], "big")
+    exactly(link, count - 8)
+    return count, time.monotonic() - start
+
+
+def sent(port):
+    """A session that asks for all whole records once: how many octets the report's batch has, and the times that it took."""
+    with socket.create_connection(("127.0.0.1", port)) as link:
+        take_batch(link)
+        start = time.monotonic()
+        link.sendall(request(0, full=True))
+        count, took = lasts(link)
+        made = time.monotonic() - start - took
+        link.sendall(RESULT + CLOSE)
+        while link.recv(1 << 16):
+            pass
+    return count, made, took
+
+
+def at_once(count, each):
+    """What that many threads give."""
+    given = [None] * count
+
+    def run(at):
+        given[at] = each()
+    threads = [threading.Thread(target=run, args=(at,)) for at in range(count)]
+    for it in threads:
+        it.start()
+    for it in threads:
+        it.join()
+    return given
+
+
 def write_lines(folder, verb, fill):
     names = []
     for number in range(FILES):
@@ -108,7 +149,7 @@ def follow(port, count, *words):
 
 
 def carried(octets):
-    """The time in which a plain socket pair carries that many octets."""
+    """The time in which a plain socket pair carries that many octets, from the first to the last."""
     ours, theirs = socket.socketpair()
     piece = bytes(1 << 16)
 
@@ -122,10 +163,11 @@ def carried(octets):
     start = time.monotonic()
     giver = threading.Thread(target=give)
     giver.start()
-    while ours.recv(1 << 16):
-        pass
+    exactly(ours, octets)
+    took = time.monotonic() - start
     giver.join()
-    return time.monotonic() - start
+    ours.close()
+    return took
 
 
 def rss(process):
@@ -159,6 +201,22 @@ def finish(process, port, left):
     for _ in range(left):
         give()
     return process.communicate()[0]
+
+
+def sent_reports(port, names):
+    print("\nwhole records, as they are sent\n")
+    print(f"{'clients':>9} {'MB each':>8} {'first octet, ms':>16} {'to the last, ms':>16} {'socket pair, ms':>16} {'ratio':>6}")
+    process = collect(port, names, "--workers", "16", "--sessions", "4")
+    wait_ready(port)
+    used = 1
+    for count in (1, 4, 16):
+        reports = at_once(count, lambda: sent(port))
+        used += count
+        octets = reports[0][0]
+        made, took = max(it[1] for it in reports), max(it[2] for it in reports)
+        plain = max(at_once(count, lambda: carried(octets)))
+        print(f"{count:9} {octets / 1e6:8.1f} {made * 1000:16.0f} {took * 1000:16.1f} {plain * 1000:16.1f} {took / plain:6.1f}")
+    finish(process, port, 64 - used)
 
 
 def many_sessions(port, names):
@@ -231,9 +289,10 @@ def main():
     with tempfile.TemporaryDirectory() as folder:
         names = write_lines(folder, "xml", "00")
         first_reports(port, names)
-        many_sessions(port + 1, names)
-        beside_a_sweep(port + 2, folder, names)
-        memory(port + 3, names)
+        sent_reports(port + 1, names)
+        many_sessions(port + 2, names)
+        beside_a_sweep(port + 3, folder, names)
+        memory(port + 4, names)
 
 
 main()

@@ -3,19 +3,15 @@
 # and system, that each crate takes. It is a measurement and no test: no time makes it fail. Its
 # status is that of `rt ci`.
 #
-# usage: bench/gate.sh [--anew] [CRATE..]
+# usage: bench/gate.sh
 #
 # The clone has what is committed, in a temporary folder ($TMPDIR or /tmp), which is removed at the
-# end. `rt ci` takes what earlier runs on this machine passed of the same files, and that counts as
-# nothing here; with `--anew` it proves and tries all. With crates it runs over these and the crates
-# below them alone, which is not the gate. What it says goes to standard error. Needs git and
-# python3.
+# end. What `rt ci` says goes to standard error. Needs git and python3.
 #
 # Columns, in seconds:
 #   proof  the proof of the crate
 #   tests  the proof of its tests with their compilation
-#   seed   the check that its must-fail edits begin with, and another after them
-#   edits  the checks of all of its must-fail edits
+#   edits  the checks of its must-fail edits, with the whole one that they begin with and one after them
 #   rest   compiling and linking the program, and running the program and the tests
 #   sum    the sum of these
 #
@@ -29,18 +25,16 @@
 set -u
 
 top=$(dirname -- "$(readlink -f -- "${BASH_SOURCE[0]}")")/..
-for word in "${@#--anew}"; do
-    if [[ ! $word =~ ^[a-z0-9_]*$ ]]; then
-        echo "usage: bench/gate.sh [--anew] [CRATE..]" >&2
-        exit 2
-    fi
-done
+if (($# > 0)); then
+    echo "usage: bench/gate.sh" >&2
+    exit 2
+fi
 
-exec python3 - "$top" "$@" <<'END'
+exec python3 - "$top" <<'END'
 import os, re, signal, subprocess, sys, tempfile, threading, time
 from collections import defaultdict
 
-KINDS = ("proof", "tests", "seed", "edits", "rest")
+KINDS = ("proof", "tests", "edits", "rest")
 TICKS = os.sysconf("SC_CLK_TCK")
 
 
@@ -85,7 +79,7 @@ def task(pid):
     if "--test" in words:
         return crate, "tests"
     if "--incremental" in words:
-        return crate, "seed" if words[words.index("--incremental") + 1].endswith("/seed") else "edits"
+        return crate, "edits"
     # (the proof of a program keeps what it checked, for the compilers)
     return crate, "edits" if verb == "check" and "-o" not in words else "proof"
 
@@ -113,9 +107,9 @@ def watch(pid, ended, spent):
         spent[tasks[it]] += seen[it]
 
 
-def gate(words, spent):
+def gate(spent):
     """Runs `rt ci`, and gives its status, its last line, and the seconds of the processor."""
-    rt = subprocess.Popen(["rt", "ci", *words], stdin=subprocess.DEVNULL, stdout=subprocess.PIPE, text=True, errors="replace")
+    rt = subprocess.Popen(["rt", "ci"], stdin=subprocess.DEVNULL, stdout=subprocess.PIPE, text=True, errors="replace")
     ended, last = threading.Event(), ""
     watcher = threading.Thread(target=watch, args=(rt.pid, ended, spent))
     watcher.start()
@@ -141,16 +135,16 @@ def show(spent, whole):
     print(f"{'crate':<18}" + "".join(f"{it:>9}" for it in (*KINDS, "sum")))
     for name, row in rows:
         print(f"{name:<18}" + "".join(f"{it:9.1f}" for it in (*row, sum(row))))
-    print(f"{'rt':<18}{'':45}{whole - sum(rows[-1][1]):9.1f}")
+    print(f"{'rt':<18}{'':36}{whole - sum(rows[-1][1]):9.1f}")
 
 
 signal.signal(signal.SIGTERM, lambda *_: sys.exit(143))
-top, *words = sys.argv[1:]
+top = sys.argv[1]
 with tempfile.TemporaryDirectory(prefix="gate-") as folder:
     subprocess.run(["git", "clone", "--quiet", "--", top, f"{folder}/clone"], check=True, stdin=subprocess.DEVNULL)
     os.chdir(f"{folder}/clone")
     start, spent = time.monotonic(), defaultdict(int)
-    status, last, whole = gate(words, spent)
+    status, last, whole = gate(spent)
     show(spent, whole)
     print(f"{whole:.1f} s of the processor, {time.monotonic() - start:.1f} s by the clock: {last}", flush=True)
     os.chdir("/")

@@ -9,14 +9,16 @@
 #
 # The first table has the first session over a book whose log is full: the validator asks for the
 # inventory, with bodies, and its mirror takes it. Beside it the inventory is built and taken
-# without a session.
+# without a session: as octets, which are written and read again, and as a value.
 #
 # Columns:
 #   records     the records
 #   a piece     the octets of the pieces in which both ends hear
 #   session ms  the lowest wall time of all runs, less that of making the book
-#   alone ms    the same without a session
+#   octets ms   the same without a session, where the report is written as the value of an attribute and read again
 #   ratio       the one over the other; the goal is at most 2 in pieces of 65536 octets
+#   alone ms    the same without a session and without octets
+#   ratio       the session over it
 #   KiB         the peak memory of the session, the highest of all runs
 #   alone KiB   the same without a session
 #
@@ -73,18 +75,19 @@ measure() {
 {
     for row in '1000 65536' '10000 65536' '65536 65536' '10000 1'; do
         read -r records piece <<<"$row"
-        printf '%s\t%s\t%s\t%s\t%s\n' "$records" "$piece" "$(measure book "$records" change 0)" \
-            "$(measure sessions first "$records" "$piece")" "$(measure sessions alone "$records")"
+        printf '%s\t%s\t%s\t%s\t%s\t%s\n' "$records" "$piece" "$(measure book "$records" change 0)" \
+            "$(measure sessions first "$records" "$piece")" "$(measure sessions octets "$records")" "$(measure sessions alone "$records")"
     done
 } | awk -F '\t' -v runs="$runs" '
     BEGIN {
         printf "first sessions, lowest time of %d runs\n\n", runs
-        printf "%8s %8s %11s %9s %6s %8s %10s\n", "records", "a piece", "session ms", "alone ms", "ratio", "KiB", "alone KiB"
+        printf "%8s %8s %11s %10s %6s %9s %6s %8s %10s\n", "records", "a piece", "session ms", "octets ms", "ratio", "alone ms", "ratio", "KiB", "alone KiB"
     }
     {
         session = $5 - $3
-        alone = $7 - $3
-        printf "%8s %8s %11.2f %9.2f %6.2f %8d %10d\n", $1, $2, session / 1000, alone / 1000, session / alone, $6, $8
+        octets = $7 - $3
+        alone = $9 - $3
+        printf "%8s %8s %11.2f %10.2f %6.2f %9.2f %6.2f %8d %10d\n", $1, $2, session / 1000, octets / 1000, session / octets, alone / 1000, session / alone, $6, $10
     }'
 echo
 {
