@@ -13,8 +13,8 @@ use std::sync::Wait;
 use std::thread::Threads;
 use swid_run::{Plan, plan, run};
 use wire_base::{
-    LinkTurn, List, MemClock, MemDoor, MemFiles, MemLink, MemSink, MemSource, Memory,
-    NoFaultSource, Octets,
+    Failed, LinkTurn, List, MemClock, MemDoor, MemFiles, MemLink, MemSink, MemSource, Memory,
+    NoFaultSource, Octets, Source,
 };
 
 /// What each file of sources has: a source adds a tag, is quiet once, and then ends.
@@ -32,8 +32,8 @@ pub(crate) struct Ran {
 }
 
 /// Runs a command line over an empty input, and doors of one link each, on which these octets come.
-/// The calls of the output whose numbers are in `failing` fail, and of each door those in
-/// `no_link`.
+/// The calls of the output whose numbers are in `failing` fail, of each door those in `no_link`, and
+/// of each source those in `no_octet`. The clock gives these moments first.
 pub(crate) fn try_run<R: Threads + Wait + Sync>(
     alloc: Global,
     rt: &R,
@@ -41,11 +41,22 @@ pub(crate) fn try_run<R: Threads + Wait + Sync>(
     octets: &[u8],
     failing: &[u64],
     no_link: &[u64],
+    no_octet: &[u64],
+    moments: &[u64],
 ) -> Result<Ran, Memory> {
     let (doors, sources) = counts_of(alloc, words)?;
     let mut doors = stands(alloc, doors, octets, no_link)?;
     let mut output = MemSink::new(alloc, 4096, failing)?;
-    let status = status_at(alloc, rt, words, &mut output, doors.as_mut_slice(), sources)?;
+    let status = status_at(
+        alloc,
+        rt,
+        words,
+        &mut output,
+        doors.as_mut_slice(),
+        sources,
+        no_octet,
+        moments,
+    )?;
     Ok(Ran {
         status,
         output,
@@ -61,7 +72,7 @@ pub(crate) fn prints<R: Threads + Wait + Sync>(
     octets: &[u8],
     expected: (u8, &str),
 ) -> Result<bool, Memory> {
-    let ran = try_run(alloc, rt, words, octets, &[], &[])?;
+    let ran = try_run(alloc, rt, words, octets, &[], &[], &[], &[])?;
     Ok((ran.status == expected.0) & (ran.output.written() == expected.1.as_bytes()))
 }
 
@@ -74,7 +85,7 @@ pub(crate) fn fails<R: Threads + Wait + Sync>(
     octets: &[u8],
     status: u8,
 ) -> Result<bool, Memory> {
-    let ran = try_run(alloc, rt, words, octets, &[1], &[])?;
+    let ran = try_run(alloc, rt, words, octets, &[1], &[], &[], &[])?;
     Ok((ran.status == status) & ran.output.written().is_empty())
 }
 
@@ -85,11 +96,12 @@ pub(crate) fn prints_of_no_link<R: Threads + Wait + Sync>(
     words: &[&str],
     expected: (u8, &str),
 ) -> Result<bool, Memory> {
-    let ran = try_run(alloc, rt, words, &[], &[], &[1])?;
+    let ran = try_run(alloc, rt, words, &[], &[], &[1], &[], &[])?;
     Ok((ran.status == expected.0) & (ran.output.written() == expected.1.as_bytes()))
 }
 
-/// The status of a command line over these doors, and that many sources.
+/// The status of a command line over these doors, and that many sources. The calls of each source
+/// whose numbers are in `no_octet` fail, and the clock gives these moments first.
 fn status_at<R: Threads + Wait + Sync>(
     alloc: Global,
     rt: &R,
@@ -97,22 +109,26 @@ fn status_at<R: Threads + Wait + Sync>(
     output: &mut MemSink,
     doors: &mut [Stand<MemDoor>],
     sources: usize,
+    no_octet: &[u64],
+    moments: &[u64],
 ) -> Result<u8, Memory>
     requires lent { AreLent (map (λ word. word.now) words.now) (length doors.old) sources }
     requires few { sources ≤ 255 }
     requires ready { AreReady (λ door. door.out) doors.old }
 {
-    let mut sources = all_sources(alloc, sources)?;
-    Ok(status_over(alloc, rt, words, output, doors, &mut sources))
+    let mut clock = MemClock::new(List::from_slice(alloc, moments)?, 0);
+    let mut sources = all_sources(alloc, sources, no_octet)?;
+    Ok(status_over(alloc, rt, words, output, doors, &mut clock, &mut sources))
 }
 
-/// The status of a command line over these doors and sources.
+/// The status of a command line over these doors, this clock and these sources.
 fn status_over<R: Threads + Wait + Sync>(
     alloc: Global,
     rt: &R,
     words: &[&str],
     output: &mut MemSink,
     doors: &mut [Stand<MemDoor>],
+    clock: &mut MemClock,
     sources: &mut SourceSet,
 ) -> u8
     requires lent { AreLent (map (λ word. word.now) words.now) (length doors.old) (length sources.old.seats) }
@@ -121,9 +137,8 @@ fn status_over<R: Threads + Wait + Sync>(
 {
     let mut input = NoFaultSource::new(List::new(alloc));
     let mut files = MemFiles::empty(alloc);
-    let mut clock = MemClock::new(List::new(alloc), 0);
     run(
-        alloc, rt, words, &mut input, output, &mut files, doors, &mut clock, sources,
+        alloc, rt, words, &mut input, output, &mut files, doors, clock, sources,
     )
 }
 
@@ -187,21 +202,37 @@ fn link(alloc: Global, octets: &[u8]) -> Result<MemLink, Memory>
     MemLink::new(alloc, turns, 16, 4096, &[])
 }
 
-/// That many sources, of the same lines each.
-fn all_sources(alloc: Global, count: usize) -> Result<SourceSet, Memory>
+/// A source that gives an octet at each call.
+#[derive(Drop)]
+struct OneByOne(MemSource);
+
+impl Source for OneByOne {
+    ghost use Rattle.std.specs.Prelude.{None};
+
+    ghost left = { λ _. None };
+
+    ghost faults = { λ source. source.0.faults };
+
+    fn read(&mut self, buf: &mut [u8]) -> Result<usize, Failed> {
+        self.0.read(&mut buf[..1])
+    }
+}
+
+/// That many sources, of the same lines each. The calls whose numbers are in `no_octet` fail.
+fn all_sources(alloc: Global, count: usize, no_octet: &[u64]) -> Result<SourceSet, Memory>
     requires few { count ≤ 255 }
     ensures count { IfOk result (λ made. length made.seats ≡ count) }
     ensures fresh { IfOk result (λ made. IsFresh made) }
 {
     let mut boxes: Vec<Box<dyn TagSource + Send>> = Vec::new(alloc);
     for _ in 0..count {
-        boxes.push(Box::new(alloc, line_source(alloc)?)?)?;
+        boxes.push(Box::new(alloc, line_source(alloc, no_octet)?)?)?;
     }
     Sources::new(alloc, boxes)
 }
 
-/// A source of the lines.
-fn line_source(alloc: Global) -> Result<LineSource<MemSource>, Memory> {
+/// A source of the lines. The calls whose numbers are in `no_octet` fail.
+fn line_source(alloc: Global, no_octet: &[u64]) -> Result<LineSource<OneByOne>, Memory> {
     let octets = Octets::from_slice(alloc, LINES)?;
-    LineSource::new(alloc, MemSource::new(alloc, octets, &[])?)
+    LineSource::new(alloc, OneByOne(MemSource::new(alloc, octets, no_octet)?))
 }

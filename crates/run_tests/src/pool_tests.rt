@@ -1,7 +1,7 @@
 //! `collect` and `follow`: what they print, what they write, and their status.
 
 use crate::lent::{fails, prints, prints_of_no_link, try_run};
-use crate::talks::{COLLECTOR, VALIDATOR};
+use crate::talks::{COLLECTOR, COLLECTOR_OF_ONE, VALIDATOR};
 use std::alloc::Global;
 use std::sync::Wait;
 use std::test::Fail;
@@ -16,7 +16,20 @@ fn comes_to<R: Threads + Wait + Sync>(
     octets: &[u8],
     expected: (u8, &str, &[u8]),
 ) -> Result<bool, Memory> {
-    let ran = try_run(alloc, rt, words, octets, &[], &[])?;
+    stops_with(alloc, rt, words, octets, &[], &[], expected)
+}
+
+/// The same where those calls of each source fail, and the clock gives these moments first.
+fn stops_with<R: Threads + Wait + Sync>(
+    alloc: Global,
+    rt: &R,
+    words: &[&str],
+    octets: &[u8],
+    no_octet: &[u64],
+    moments: &[u64],
+    expected: (u8, &str, &[u8]),
+) -> Result<bool, Memory> {
+    let ran = try_run(alloc, rt, words, octets, &[], &[], no_octet, moments)?;
     let given = match ran.doors.as_slice() {
         [stand] => match stand.door.returned() {
             [link] => link.given() == expected.2,
@@ -55,6 +68,56 @@ const SWEPT: [&str; 10] = [
 fn a_source_ends_in_the_second_sweep(rt: HostRuntime) -> Result<(), Fail> {
     let text = "session 1.1 reports 1 peer-closed\nswept 1 0 1 1\nbook 7 2 0\n";
     assert!(rt; prints(rt.alloc(), &rt, &SWEPT, VALIDATOR, (0, text))?);
+    Ok(())
+}
+
+/// The same with three sweeps.
+const SWEPT_THRICE: [&str; 10] = [
+    "collect",
+    "--listen",
+    "a",
+    "--epoch",
+    "7",
+    "--workers",
+    "1",
+    "--sweeps",
+    "3",
+    "lines",
+];
+
+#[test]
+fn a_source_that_fails_stops_the_sweeping_alone(rt: HostRuntime) -> Result<(), Fail> {
+    let text = "session 1.1 reports 1 peer-closed\n\
+                swept 1 0 0 0\nstopped source-failed\nbook 7 1 1\n";
+    // The first two lines have 66 octets.
+    assert!(rt;
+        stops_with(
+            rt.alloc(),
+            &rt,
+            &SWEPT_THRICE,
+            VALIDATOR,
+            &[68],
+            &[],
+            (3, text, COLLECTOR_OF_ONE)
+        )?
+    );
+    Ok(())
+}
+
+#[test]
+fn a_moment_past_the_range_stops_the_sweeping_alone(rt: HostRuntime) -> Result<(), Fail> {
+    let text = "session 1.1 reports 1 peer-closed\nswept 0 0 0 0\nstopped clock\nbook 7 0 0\n";
+    assert!(rt;
+        stops_with(
+            rt.alloc(),
+            &rt,
+            &SWEPT_THRICE,
+            VALIDATOR,
+            &[],
+            &[4_294_967_296],
+            (1, text, COLLECTOR)
+        )?
+    );
     Ok(())
 }
 

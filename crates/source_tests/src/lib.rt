@@ -6,6 +6,8 @@ mod line_tests;
 #[cfg(test)]
 mod listed;
 #[cfg(test)]
+mod long_tests;
+#[cfg(test)]
 mod row_tests;
 #[cfg(test)]
 mod sweep_tests;

@@ -1,19 +1,14 @@
 //! Lines of an input that comes in pieces, and calls that fail. Rows of `conformance` have what each
 //! line says.
 
+use crate::values::lines;
 use source_lines::{LineFault, LineSource};
 use source_set::{TagSource, Told};
 use std::alloc::Global;
-use wire_base::{Failed, MemSource, Memory, Octets, Source};
+use wire_base::{Failed, Memory, Source};
 
 /// The canonical octets of a small tag, whose identifier is `invalid.unavailable__a`.
 const TAG: &[u8] = b"da53574944a400616101616202a2181f61631821010c00";
-
-/// A source of the lines of octets in memory; the calls with these numbers fail.
-fn lines(alloc: Global, octets: &[u8], failing: &[u64]) -> Result<LineSource<MemSource>, Memory> {
-    let octets = Octets::from_slice(alloc, octets)?;
-    LineSource::new(alloc, MemSource::new(alloc, octets, failing)?)
-}
 
 /// A source that gives octets a few at a time, with an end of the input after each.
 #[derive(Drop)]

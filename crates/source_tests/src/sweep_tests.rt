@@ -1,7 +1,10 @@
 //! Sweeps over sources that report what is listed.
 
 use crate::listed::Step;
-use crate::values::{STAMP, counts, empty_book, is_at, says, set_of, set_of_two, sweeps};
+use crate::values::{
+    STAMP, counts, empty_book, is_at, says, set_of, set_of_lines, set_of_two, set_of_two_lines,
+    sweeps,
+};
 use collector_core::{Book, BookError};
 use source_set::{SourceSet, SweepError};
 use std::alloc::Global;
@@ -24,18 +27,29 @@ fn an_ended_source_leaves_nothing(rt: HostRuntime) -> Result<(), Memory> {
     Ok(())
 }
 
-/// Whether the record 1 of a book is of source 1, with this letter.
-fn has_letter(book: &Book, letter: u8) -> bool {
+/// A tag's line, and the end.
+const ADD_AND_END: &[u8] = b"add 1 /opt/a da53574944a400616101616202a2181f61631821010c00\nend\n";
+
+#[test]
+fn lines_that_end_leave_nothing(rt: HostRuntime) -> Result<(), Memory> {
+    let set = set_of_two_lines(rt.alloc(), ADD_AND_END, b"gone 4\n")?;
+    assert!(rt; leaves_nothing(set, empty_book(rt.alloc())?));
+    Ok(())
+}
+
+/// Whether the record 1 of a book is of this source, with this letter.
+fn has_letter(book: &Book, source: u8, letter: u8) -> bool {
     match book.record(1) {
-        Some(record) => says(&record.content, 1, letter),
+        Some(record) => says(&record.content, source, letter),
         None => false,
     }
 }
 
-/// Whether the second source adds and changes a record until it is quiet, and then takes it away.
-fn goes_on(mut set: SourceSet, mut book: Book) -> bool {
+/// Whether a source adds a record and changes it to this letter until it is quiet, and then takes
+/// it away.
+fn goes_on(mut set: SourceSet, mut book: Book, source: u8, letter: u8) -> bool {
     let quiet = sweeps(&mut set, &mut book, counts(1, 1, 0, 0), Ok(()));
-    let changed = has_letter(&book, b'b');
+    let changed = has_letter(&book, source, letter);
     let gone = sweeps(&mut set, &mut book, counts(0, 0, 1, 0), Ok(()));
     quiet & changed & gone & is_at(&book, 3, 0)
 }
@@ -49,7 +63,17 @@ fn a_source_goes_on_where_it_was_quiet(rt: HostRuntime) -> Result<(), Memory> {
         Step::Gone(1),
     ];
     let set = set_of_two(rt.alloc(), &[], &steps)?;
-    assert!(rt; goes_on(set, empty_book(rt.alloc())?));
+    assert!(rt; goes_on(set, empty_book(rt.alloc())?, 1, b'b'));
+    Ok(())
+}
+
+/// Lines of one record, which comes, changes and goes.
+const COMES_AND_GOES: &[u8] = b"xml 1 i \\e -\nxml 1 j \\e 00\nquiet\ngone 1\n";
+
+#[test]
+fn lines_go_on_where_they_were_quiet(rt: HostRuntime) -> Result<(), Memory> {
+    let set = set_of_lines(rt.alloc(), COMES_AND_GOES)?;
+    assert!(rt; goes_on(set, empty_book(rt.alloc())?, 0, b'j'));
     Ok(())
 }
 

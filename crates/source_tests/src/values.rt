@@ -2,10 +2,11 @@
 
 use crate::listed::{Listed, Step};
 use collector_core::Book;
+use source_lines::LineSource;
 use source_set::{SourceSet, SweepError, Swept, TagSource};
 use std::alloc::Global;
 use swima_model::{Content, Point};
-use wire_base::{Memory, is_stamp};
+use wire_base::{MemSource, Memory, Octets, is_stamp};
 
 /// The moment of each change.
 pub(crate) const STAMP: [u8; 20] = *b"2026-02-03T04:05:06Z";
@@ -23,6 +24,35 @@ pub(crate) fn set_of_two(alloc: Global, one: &[Step], other: &[Step]) -> Result<
     boxes.push(Box::new(alloc, Listed::new(alloc, one)?)?)?;
     boxes.push(Box::new(alloc, Listed::new(alloc, other)?)?)?;
     SourceSet::new(alloc, boxes)
+}
+
+/// A set of one source in a box, which reads lines.
+pub(crate) fn set_of_lines(alloc: Global, input: &[u8]) -> Result<SourceSet, Memory> {
+    let mut boxes: Vec<Box<dyn TagSource + Send>> = Vec::new(alloc);
+    boxes.push(Box::new(alloc, lines(alloc, input, &[])?)?)?;
+    SourceSet::new(alloc, boxes)
+}
+
+/// A set of two sources in boxes, which read lines.
+pub(crate) fn set_of_two_lines(
+    alloc: Global,
+    one: &[u8],
+    other: &[u8],
+) -> Result<SourceSet, Memory> {
+    let mut boxes: Vec<Box<dyn TagSource + Send>> = Vec::new(alloc);
+    boxes.push(Box::new(alloc, lines(alloc, one, &[])?)?)?;
+    boxes.push(Box::new(alloc, lines(alloc, other, &[])?)?)?;
+    SourceSet::new(alloc, boxes)
+}
+
+/// A source of the lines of octets in memory; the calls with these numbers fail.
+pub(crate) fn lines(
+    alloc: Global,
+    octets: &[u8],
+    failing: &[u64],
+) -> Result<LineSource<MemSource>, Memory> {
+    let octets = Octets::from_slice(alloc, octets)?;
+    LineSource::new(alloc, MemSource::new(alloc, octets, failing)?)
 }
 
 /// A book at epoch 7 without records, which keeps 400 events.
