@@ -32,3 +32,5 @@ pub mod Puts
 pub mod Integers
 pub mod Rising
 pub mod Orders
+pub mod Laid
+pub mod Takes

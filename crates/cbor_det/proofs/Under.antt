@@ -8,7 +8,7 @@ use Rattle.cbor_det.specs.Term.{Pairs, pair}
 use Rattle.cbor_det.specs.View.{view, listed}
 use Rattle.cbor_det.proofs.Adds.{key_of, listed_cons}
 
-first : (xs : List Pair) (i : ℕ) (x : Pair) → i < length xs → x ≡ get_or xs i x → listed (drop i xs) ≡ pair (key_of x) (view (out-Pair x).value) (listed (drop (i + 1) xs))
+pub first : (xs : List Pair) (i : ℕ) (x : Pair) → i < length xs → x ≡ get_or xs i x → listed (drop i xs) ≡ pair (key_of x) (view (out-Pair x).value) (listed (drop (i + 1) xs))
 first xs i x lt at =
     ap (λ (ys : List Pair). listed ys) (drop_more xs i x lt ∙ ap (λ (y : Pair). y ∷ drop (i + 1) xs) (sym at)) ∙ listed_cons x (drop (i + 1) xs)
 

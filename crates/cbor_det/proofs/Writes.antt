@@ -1,15 +1,15 @@
 -- What the writer has written, part by part.
 use Rattle.std.proofs.Common.{◌≡◌, ℕ, ◌+◌, ◌<◌, ◌≤◌, List, [], ◌∷◌, ◌++◌, length, get_or, map, take, sym, ap, ◌∙◌, append_assoc}
-use Rattle.std.proofs.lemmas.List.{append-nil, take_all, take_more, map_push}
+use Rattle.std.proofs.lemmas.List.{append-nil, length-map, take_all, take_more, map_push}
 use Rattle.cbor_det.specs.declared.item.Item.{Item}
 use Rattle.cbor_det.specs.declared.item.Pair.{Pair, out-Pair}
 use Rattle.cbor_det.specs.declared.item.Item.TheVariants as code
 use Rattle.cbor_det.specs.declared.item.Pairs as pairs
 use Rattle.cbor_det.specs.declared.item.Pairs.{out-Pairs}
-use Rattle.cbor_det.specs.Term.{Term, Pairs}
+use Rattle.cbor_det.specs.Term.{Term, Pairs, array}
 use Rattle.cbor_det.specs.Canonical.{short_head, canon, canon_terms, canon_pairs}
 use Rattle.cbor_det.specs.View.{view, pairs_view, terms_of, pairs_of}
-use Rattle.cbor_det.proofs.Views.{pair_view, view_array, view_map, view_tag, view_pairs, view_pair, count_items, count_view}
+use Rattle.cbor_det.proofs.Views.{pair_view, view_array, view_map, view_tag, view_pairs, view_pair, count_items, count_terms, count_view}
 
 terms_push : (ts : List Term) (t : Term) → canon_terms (terms_of (ts ++ t ∷ [])) ≡ canon_terms (terms_of ts) ++ canon t
 terms_push [] t = append-nil (canon t)
@@ -19,14 +19,22 @@ pairs_push : (ps : List (Term × Term)) (p : Term × Term) → canon_pairs (pair
 pairs_push [] p = append-nil (canon p.0 ++ canon p.1)
 pairs_push (q ∷ ps) p = ap (λ (o : List ℕ). (canon q.0 ++ canon q.1) ++ o) (pairs_push ps p) ∙ sym (append_assoc (canon q.0 ++ canon q.1) (canon_pairs (pairs_of ps)) (canon p.0 ++ canon p.1))
 
--- one item more
-pub item_more : (xs : List Item) (i : ℕ) (x : Item) (start before after : List ℕ) → i < length xs → x ≡ get_or xs i x
-    → before ≡ start ++ canon_terms (terms_of (map view (take i xs))) → after ≡ before ++ canon (view x) → after ≡ start ++ canon_terms (terms_of (map view (take (i + 1) xs)))
-item_more xs i x start before after lt at was is =
-    let more : map view (take (i + 1) xs) ≡ map view (take i xs) ++ view x ∷ [] =
-    ap (λ (ys : List Item). map view ys) (take_more xs i x lt ∙ ap (λ (y : Item). take i xs ++ y ∷ []) (sym at)) ∙ map_push view (take i xs) x in
-    is ∙ ap (λ (o : List ℕ). o ++ canon (view x)) was ∙ append_assoc start (canon_terms (terms_of (map view (take i xs)))) (canon (view x))
-    ∙ ap (λ (o : List ℕ). start ++ o) (sym (terms_push (map view (take i xs)) (view x)) ∙ ap (λ (ts : List Term). canon_terms (terms_of ts)) (sym more))
+-- one value more, written as an item
+pub value_more : {A : Type 0} (f : A → Term) (xs : List A) (i : ℕ) (x : A) (start before after : List ℕ) → i < length xs → x ≡ get_or xs i x
+    → before ≡ start ++ canon_terms (terms_of (map f (take i xs))) → after ≡ before ++ canon (f x) → after ≡ start ++ canon_terms (terms_of (map f (take (i + 1) xs)))
+value_more {A} f xs i x start before after lt at was is =
+    let more : map f (take (i + 1) xs) ≡ map f (take i xs) ++ f x ∷ [] =
+    ap (λ (ys : List A). map f ys) (take_more xs i x lt ∙ ap (λ (y : A). take i xs ++ y ∷ []) (sym at)) ∙ map_push f (take i xs) x in
+    is ∙ ap (λ (o : List ℕ). o ++ canon (f x)) was ∙ append_assoc start (canon_terms (terms_of (map f (take i xs)))) (canon (f x))
+    ∙ ap (λ (o : List ℕ). start ++ o) (sym (terms_push (map f (take i xs)) (f x)) ∙ ap (λ (ts : List Term). canon_terms (terms_of ts)) (sym more))
+
+-- all values, after the head of their array
+pub values_end : {A : Type 0} (f : A → Term) (xs : List A) (i : ℕ) (start after : List ℕ) → length xs ≤ i
+    → after ≡ start ++ short_head 4 (length xs) ++ canon_terms (terms_of (map f (take i xs))) → after ≡ start ++ canon (array (terms_of (map f xs)))
+values_end {A} f xs i start after ends is =
+    is ∙ ap (λ (ys : List A). start ++ short_head 4 (length xs) ++ canon_terms (terms_of (map f ys))) (take_all i xs ends)
+    ∙ append_assoc start (short_head 4 (length xs)) (canon_terms (terms_of (map f xs)))
+    ∙ ap (λ (n : ℕ). start ++ (short_head 4 n ++ canon_terms (terms_of (map f xs)))) (sym (count_terms (map f xs) ∙ length-map xs f))
 
 -- one pair more
 pub pair_more : (xs : List Pair) (i : ℕ) (x : Pair) (start before key after : List ℕ) → i < length xs → x ≡ get_or xs i x

@@ -18,4 +18,5 @@ pub mod Feeding
 pub mod Laws
 pub mod Lookup
 pub mod Adding
+pub mod Laid
 pub mod Places

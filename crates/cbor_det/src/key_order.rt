@@ -24,7 +24,7 @@ pub(crate) fn is_integer_above(first: &Item, second: &Item) -> bool
 }
 
 /// The numbers from 0 on rise, and after them those below 0 fall.
-fn is_number_above(first: i64, second: i64) -> bool
+pub(crate) fn is_number_above(first: i64, second: i64) -> bool
     ensures above { result ≡ is_above (integer first) (integer second) }
 {
     if first < 0 {

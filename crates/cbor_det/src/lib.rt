@@ -14,11 +14,12 @@
 //!       └─ open_frame, close_item nesting       what is open around, from the stack of `frame`
 //!          └─ Members             members       the pairs of an open map
 //! write_item, Pairs::add, put     write, pairs  items to octets; pairs in order of their keys
+//! put_text and its like           write, parts  octets of parts of items, and of pairs in turns
 //! ```
 //!
 //! The crates above rest on `found` and `refused` of `read_item`, on `canonical` of `write_item`,
-//! on the clauses of the methods of `Pairs` except `add`, on `equal` of copies, and on `laws`.
-//! Their proofs also cite lemmas of `proofs/`.
+//! on `appended` of the functions that put parts, on the clauses of the methods of `Pairs` except
+//! `add`, on `equal` of copies, and on `laws`. Their proofs also cite lemmas of `proofs/`.
 //!
 //! The words of the clauses are in `specs/`:
 //!
@@ -30,6 +31,7 @@
 //! | `Answers` | what a reader answers |
 //! | `Standing`, `Feeding` | where a feed stands, and what it answers |
 //! | `Lookup`, `Adding` | the pairs of a map |
+//! | `Laid` | a map that is written from two places |
 //! | `Laws` | what the definitions mean |
 //!
 //! The others are the private means of proof: the machine of `Machine` and `Frames`, which the code
@@ -50,6 +52,7 @@ mod limits;
 mod members;
 mod nesting;
 mod pairs;
+mod parts;
 mod piece;
 mod read;
 mod step;
@@ -64,4 +67,7 @@ pub use item::{Item, Items, Pairs};
 pub use limits::Limits;
 pub use pairs::PairRefused;
 pub use read::read_item;
-pub use write::write_item;
+pub use write::{
+    put_array_head, put_boolean, put_bytes, put_integer, put_tag_head, put_text, put_unsigned,
+    write_item,
+};

@@ -1,13 +1,13 @@
 //! The pairs of a map, as a caller sees them.
 
-ghost use Rattle.std.specs.Prelude.{◌≡◌, ◌≤◌, IfOk, OnErr, OnOk, length};
+ghost use Rattle.std.specs.Prelude.{◌≡◌, ◌≤◌, ◌∷◌, [], IfOk, OnErr, OnOk, length};
 ghost use Rattle.std.specs.Cmp.Lexicographic.{slice_cmp};
 ghost use Rattle.std.specs.Option.{option_map};
 ghost use Rattle.std.specs.Ordering.{nat_cmp};
 ghost use Rattle.cbor_det.specs.Adding.{IsAdded, is_above, put};
 ghost use Rattle.cbor_det.specs.Canonical.{canon};
 ghost use Rattle.cbor_det.specs.Lookup.{key_at, value_at, value_under, is_unsigned, is_one_of, other_than};
-ghost use Rattle.cbor_det.specs.Places.{IsFound, front_length};
+ghost use Rattle.cbor_det.specs.Places.{IsFound, IsUnder, front_length};
 ghost use Rattle.cbor_det.specs.Proper.{IsProper, IsProperMap};
 ghost use Rattle.cbor_det.specs.Spelling.{Rises};
 ghost use Rattle.cbor_det.specs.Term.{depth, pair_count, no_pairs};
@@ -19,6 +19,7 @@ use crate::members::Key;
 use crate::write::spell;
 use std::alloc::Global;
 use std::cmp::Ordering;
+use std::mem;
 use thiserror::Error;
 use wire_base::{List, Memory, TryCopy};
 
@@ -112,6 +113,25 @@ impl Pairs {
         Ok(Pairs { pairs: others })
     }
 
+    /// Takes the value under the key that is this unsigned integer out of the pairs; `None` exactly
+    /// where there is no such key. No pair with this key is left. It takes no memory.
+    pub fn take(&mut self, key: u32) -> Option<Item>
+        ensures value { option_map view result ≡ value_under key (pairs_view self.old) }
+        ensures left { pairs_view self.new ≡ other_than (key ∷ []) (pairs_view self.old) }
+    {
+        match place_under(self.pairs.as_slice(), key) {
+            None => None,
+            Some(place) => {
+                let none = List::new(self.pairs.allocator());
+                let mut pairs = mem::replace(&mut self.pairs, none).into_vec();
+                let Pair { value, .. } = pairs.remove(place);
+                pairs.retain(|pair| !is_under(pair, key));
+                self.pairs = List::from_vec(pairs);
+                Some(value)
+            }
+        }
+    }
+
     /// Puts a pair before the first whose key's canonical spelling is not below its own: among
     /// rising pairs that do not hold the key, at its place. It is looked for from the start. At
     /// `Memory` the pairs are as they were.
@@ -160,6 +180,25 @@ fn is_unsigned(item: &Item, number: u64) -> bool
         Item::Int(found) => *found >= 0 && *found as u64 == number,
         _ => false,
     }
+}
+
+/// The place of the first pair whose key is this unsigned integer.
+fn place_under(pairs: &[Pair], key: u32) -> Option<usize>
+    ensures found { IsUnder key pairs.now result }
+{
+    for place in 0..pairs.len() {
+        if is_under(&pairs[place], key) {
+            return Some(place);
+        }
+    }
+    None
+}
+
+/// Whether the key of the pair is this unsigned integer.
+fn is_under(pair: &Pair, key: u32) -> bool
+    ensures under { result ≡ is_unsigned key (view pair.now.key) }
+{
+    is_unsigned(&pair.key, key as u64)
 }
 
 /// Whether the item is one of these unsigned integers.

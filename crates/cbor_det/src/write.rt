@@ -4,9 +4,9 @@ ghost use Rattle.std.specs.Prelude.{◌≡◌, ◌∷◌, ◌++◌, ◌<◌, ◌
 ghost use Rattle.cbor_det.specs.Canonical.{canon, canon_terms, canon_pairs, short_head};
 ghost use Rattle.cbor_det.specs.Initial.{number_of_major};
 ghost use Rattle.cbor_det.specs.Spelling.{major_of};
-ghost use Rattle.cbor_det.specs.Term.{depth, integer};
+ghost use Rattle.cbor_det.specs.Term.{boolean, depth, integer, octets, text};
 ghost use Rattle.cbor_det.specs.View.{view, terms_of, pairs_view};
-ghost use Rattle.std.specs.Prelude.{map};
+ghost use Rattle.std.specs.Prelude.{map, pos};
 
 use crate::initial::Major;
 use crate::item::{Item, Pairs};
@@ -36,15 +36,15 @@ pub(crate) fn spell(alloc: Global, item: &Item) -> Result<Octets, Memory>
 
 /// Puts the item after what was written. It calls itself as deep as the item is.
 #[cycle(put)]
-fn put_item(out: &mut Octets, item: &Item) -> Result<(), Memory>
+pub(crate) fn put_item(out: &mut Octets, item: &Item) -> Result<(), Memory>
     ensures appended { OnOk result (out.new ≡ out.old ++ canon (view item.now)) }
 {
     match item {
         Item::Int(number) => put_integer(out, *number),
-        Item::Bytes(octets) => put_string(out, StringKind::ByteString, octets.as_slice()),
-        Item::Text(text) => put_string(out, StringKind::TextString, text.as_str().as_bytes()),
+        Item::Bytes(octets) => put_bytes(out, octets.as_slice()),
+        Item::Text(text) => put_text(out, text.as_str()),
         Item::Array(items) => {
-            put_head(out, Major::Array, items.len() as u64)?;
+            put_array_head(out, items.len() as u64)?;
             Ok(put_items(out, items)?)
         }
         Item::Map(pairs) => {
@@ -52,10 +52,10 @@ fn put_item(out: &mut Octets, item: &Item) -> Result<(), Memory>
             Ok(put_pairs(out, pairs)?)
         }
         Item::Tag(number, content) => {
-            put_head(out, Major::Tag, *number)?;
+            put_tag_head(out, *number)?;
             Ok(put_item(out, content.get())?)
         }
-        Item::Bool(value) => out.push(if *value { 0xf5 } else { 0xf4 }),
+        Item::Bool(value) => put_boolean(out, *value),
     }
 }
 
@@ -80,7 +80,8 @@ fn put_pairs(out: &mut Octets, pairs: &Pairs) -> Result<(), Memory>
     Ok(())
 }
 
-fn put_integer(out: &mut Octets, number: i64) -> Result<(), Memory>
+/// Puts an integer; `Memory` where there is no room.
+pub fn put_integer(out: &mut Octets, number: i64) -> Result<(), Memory>
     ensures appended { OnOk result (out.new ≡ out.old ++ canon (integer number)) }
 {
     if number >= 0 {
@@ -88,6 +89,48 @@ fn put_integer(out: &mut Octets, number: i64) -> Result<(), Memory>
     } else {
         put_head(out, Major::Negative, (-(number + 1)) as u64)
     }
+}
+
+/// Puts an integer that is not below 0; `Memory` where there is no room.
+pub fn put_unsigned(out: &mut Octets, number: u64) -> Result<(), Memory>
+    ensures appended { OnOk result (out.new ≡ out.old ++ canon (integer (pos number))) }
+{
+    put_head(out, Major::Unsigned, number)
+}
+
+/// Puts a byte string; `Memory` where there is no room.
+pub fn put_bytes(out: &mut Octets, bytes: &[u8]) -> Result<(), Memory>
+    ensures appended { OnOk result (out.new ≡ out.old ++ canon (octets bytes.now)) }
+{
+    put_string(out, StringKind::ByteString, bytes)
+}
+
+/// Puts a text string; `Memory` where there is no room.
+pub fn put_text(out: &mut Octets, written: &str) -> Result<(), Memory>
+    ensures appended { OnOk result (out.new ≡ out.old ++ canon (text written.now)) }
+{
+    put_string(out, StringKind::TextString, written.as_bytes())
+}
+
+/// Puts the head of an array of `len` items; `Memory` where there is no room.
+pub fn put_array_head(out: &mut Octets, len: u64) -> Result<(), Memory>
+    ensures appended { OnOk result (out.new ≡ out.old ++ short_head 4 len) }
+{
+    put_head(out, Major::Array, len)
+}
+
+/// Puts the head of what stands under the tag with the number; `Memory` where there is no room.
+pub fn put_tag_head(out: &mut Octets, number: u64) -> Result<(), Memory>
+    ensures appended { OnOk result (out.new ≡ out.old ++ short_head 6 number) }
+{
+    put_head(out, Major::Tag, number)
+}
+
+/// Puts false or true; `Memory` where there is no room.
+pub fn put_boolean(out: &mut Octets, value: bool) -> Result<(), Memory>
+    ensures appended { OnOk result (out.new ≡ out.old ++ canon (boolean value)) }
+{
+    out.push(if value { 0xf5 } else { 0xf4 })
 }
 
 fn put_string(out: &mut Octets, kind: StringKind, octets: &[u8]) -> Result<(), Memory>
@@ -99,7 +142,7 @@ fn put_string(out: &mut Octets, kind: StringKind, octets: &[u8]) -> Result<(), M
 
 /// Puts a head with its argument in the shortest form.
 #[tactic(auto, using(crate::proofs::BigEndian::be_one, crate::proofs::BigEndian::be_two, crate::proofs::BigEndian::be_four, crate::proofs::BigEndian::be_eight))]
-fn put_head(out: &mut Octets, major: Major, argument: u64) -> Result<(), Memory>
+pub(crate) fn put_head(out: &mut Octets, major: Major, argument: u64) -> Result<(), Memory>
     ensures appended { OnOk result (out.new ≡ out.old ++ short_head (number_of_major major) argument) }
 {
     let high = 32 * major.number();

@@ -1,6 +1,7 @@
 -- Directories and what they hold, in one another: RFC 9393, section 2.9.2.
 use Rattle.std.proofs.Common.{◌≡◌, ◌≤◌, ℕ, zero, suc, ◌+◌, List, [], ◌∷◌, Option, Some, None, refl, sym, ap, ◌∙◌, subst, arith}
 use Rattle.std.specs.Option.{option_map}
+use Rattle.cbor_det.specs.Laid.{put_rows}
 use Rattle.cbor_det.specs.Lookup.{value_under, other_than}
 use Rattle.cbor_det.specs.Proper.{IsProperMap}
 use Rattle.cbor_det.specs.Term.{Term, Terms, Pairs, integer, octets, text, array, map, tagged, boolean, no_terms, term, depth, terms_depth, pairs_depth}
@@ -14,22 +15,20 @@ use Rattle.coswid_res.specs.declared.resources.directory.DirEntry.TheViews.{roll
 use Rattle.coswid_res.specs.Directories.{DirectoryKeys, PathKeys, DirectoryPairs, directory, PathUnder, no_path, path, PathPairs, path_elements, DirectoriesUnder, no_directories, alone, several, EachDirectory, no_more, one_more, DirectoryMap, PathMap}
 use Rattle.coswid_res.specs.DirectoryItems.{directory_pairs, path_pairs, directory_item, path_item, directories_item}
 use Rattle.coswid_res.specs.Fault.{field_fault, elements_fault, under, wrong_form}
-use Rattle.coswid_res.specs.Files.{files_item}
-use Rattle.coswid_res.specs.Items.{put_all}
 use Rattle.coswid_res.specs.Reading.{keys_fault, value_fault}
 use Rattle.coswid_res.specs.Schema as schema
 use Rattle.coswid_res.specs.Schema.{table, keys_of, one, one_or_more, a_map}
 use Rattle.coswid_res.specs.Words.{Agree, Each, OneOrMore}
 use Rattle.coswid_res.proofs.DirectoryReads.{path_under, directories_under, directory_made, path_made, path_agrees, directories_agree}
-use Rattle.coswid_res.proofs.DirectoryWrites.{directory_written, path_written}
+use Rattle.coswid_res.proofs.DirectoryWrites.{directory_rows, path_rows, directory_written, path_written}
 use Rattle.coswid_res.proofs.Maps.{map_told, or_none}
 use Rattle.coswid_codec.proofs.Extras.{extras_some, extras_same}
 use Rattle.coswid_codec.proofs.Files.{files_law}
 use Rattle.coswid_codec.proofs.Lawful.{Told, Lawful, MapTold, MapLawful, under_none, wrong}
-use Rattle.coswid_codec.proofs.Lines.{lines_of, required_again, required_same, required_some, optional_again, optional_same, optional_some, again_by, pairs_told, map_law}
+use Rattle.coswid_codec.proofs.Lines.{line_none, required_again, required_same, required_some, optional_again, optional_same, optional_some, again_by, pairs_told, map_law}
 use Rattle.coswid_codec.proofs.Plain.{boolean_law, text_law}
 use Rattle.coswid_codec.proofs.Several.{array_told, one_told, filled, several_law}
-use Rattle.coswid_codec.proofs.Facts.{Entry, fills, Facts, required_entry, optional_entry, required_fact, optional_fact, told_fact, under_within}
+use Rattle.coswid_codec.proofs.Facts.{◌⨾◌, Facts, required_fact, optional_fact, told_fact, under_within}
 use Rattle.coswid_codec.proofs.Tables.{made}
 
 -- What is known of a directory in an item, of what one holds, and of several.
@@ -45,38 +44,23 @@ DirectoriesTold ds t = Told (one_or_more (a_map schema.directory)) (OneOrMore Di
 
 -- A directory, where what it holds is known.
 
-abbrev directory_entries : DirEntry → List Entry
-directory_entries d =
-    optional_entry 22 boolean (out-DirEntry d).key
-    ∷ optional_entry 23 text (out-DirEntry d).location
-    ∷ required_entry 24 text (out-DirEntry d).fs_name
-    ∷ optional_entry 25 text (out-DirEntry d).root
-    ∷ optional_entry 26 path_item (out-DirEntry d).path_elements
-    ∷ []
-
 directory_facts : (d : DirEntry) (ps : Pairs) → DirectoryKeys (out-DirEntry d) ps → Agree PathTold (out-DirEntry d).path_elements (value_under 26 ps)
-    → Facts 0 ps (table schema.directory) (directory_entries d)
-directory_facts d ps keys held = (
-  optional_fact 0 22 (out-DirEntry d).key ps boolean_law (omega arith) keys.key,
-  (
-    optional_fact 0 23 (out-DirEntry d).location ps text_law (omega arith) keys.location,
-    (
-      required_fact 0 24 (out-DirEntry d).fs_name ps text_law (omega arith) keys.fs_name,
-      (
-        optional_fact 0 25 (out-DirEntry d).root ps text_law (omega arith) keys.root,
-        (told_fact (one (a_map schema.path_elements)) PathMap path_item 0 0 26 (out-DirEntry d).path_elements ps (omega arith) held, tt),
-      ),
-    ),
-  ),
-)
+    → Facts 0 ps (table schema.directory) (directory_rows d)
+directory_facts d ps keys held =
+    optional_fact 0 22 (out-DirEntry d).key ps boolean_law (omega arith) keys.key
+    ⨾ optional_fact 0 23 (out-DirEntry d).location ps text_law (omega arith) keys.location
+    ⨾ required_fact 0 24 (out-DirEntry d).fs_name ps text_law (omega arith) keys.fs_name
+    ⨾ optional_fact 0 25 (out-DirEntry d).root ps text_law (omega arith) keys.root
+    ⨾ told_fact (one (a_map schema.path_elements)) PathMap path_item 0 0 26 (out-DirEntry d).path_elements ps (omega arith) held
+    ⨾ tt
 
 directory_by : (d : DirEntry) (ps : Pairs) → DirectoryKeys (out-DirEntry d) ps → Agree PathTold (out-DirEntry d).path_elements (value_under 26 ps)
     → MapTold schema.directory DirectoryPairs directory_pairs 0 d ps
 directory_by d ps keys held =
     let o = out-DirEntry d in
-    let qs : Pairs = put_all (fills (directory_entries d)) (pairs_view o.extras) in
+    let qs : Pairs = put_rows (directory_rows d) (pairs_view o.extras) in
     let e : directory_pairs d ≡ qs = directory_written d in
-    let all = made schema.directory (directory_entries d) (pairs_view o.extras) 0 ps (directory_facts d ps keys held) keys.extras in
+    let all = made schema.directory (directory_rows d) (pairs_view o.extras) 0 ps (directory_facts d ps keys held) keys.extras in
     let again : DirectoryKeys o qs = record {
       key = optional_again 22 o.key ps qs boolean_law keys.key (all.found 22 refl);
       location = optional_again 23 o.location ps qs text_law keys.location (all.found 23 refl);
@@ -104,26 +88,20 @@ directory_by d ps keys held =
 
 -- What a directory holds, where the directories in it are known.
 
-abbrev path_entries : PathElements → List Entry
-path_entries p =
-    optional_entry 16 directories_item (out-PathElements p).directory
-    ∷ optional_entry 17 files_item (out-PathElements p).file
-    ∷ []
-
 path_facts : (p : PathElements) (ps : Pairs) → PathKeys (out-PathElements p) ps → Agree DirectoriesTold (out-PathElements p).directory (value_under 16 ps)
-    → Facts 0 ps (table schema.path_elements) (path_entries p)
-path_facts p ps keys held = (
-  told_fact (one_or_more (a_map schema.directory)) (OneOrMore DirectoryMap) directories_item 0 0 16 (out-PathElements p).directory ps (omega arith) held,
-  (optional_fact 0 17 (out-PathElements p).file ps files_law (omega arith) keys.file, tt),
-)
+    → Facts 0 ps (table schema.path_elements) (path_rows p)
+path_facts p ps keys held =
+    told_fact (one_or_more (a_map schema.directory)) (OneOrMore DirectoryMap) directories_item 0 0 16 (out-PathElements p).directory ps (omega arith) held
+    ⨾ optional_fact 0 17 (out-PathElements p).file ps files_law (omega arith) keys.file
+    ⨾ tt
 
 path_by : (p : PathElements) (ps : Pairs) → PathKeys (out-PathElements p) ps → Agree DirectoriesTold (out-PathElements p).directory (value_under 16 ps)
     → MapTold schema.path_elements PathPairs path_pairs 0 p ps
 path_by p ps keys held =
     let o = out-PathElements p in
-    let qs : Pairs = put_all (fills (path_entries p)) (pairs_view o.extras) in
+    let qs : Pairs = put_rows (path_rows p) (pairs_view o.extras) in
     let e : path_pairs p ≡ qs = path_written p in
-    let all = made schema.path_elements (path_entries p) (pairs_view o.extras) 0 ps (path_facts p ps keys held) keys.extras in
+    let all = made schema.path_elements (path_rows p) (pairs_view o.extras) 0 ps (path_facts p ps keys held) keys.extras in
     let again : PathKeys o qs = record {
       file = optional_again 17 o.file ps qs files_law keys.file (all.found 17 refl);
       extras = all.rest;
@@ -296,26 +274,21 @@ directories_under_some n (Some (boolean b)) below bound none = wrong (under_none
 
 directory_step : (n : ℕ) (ps : Pairs) → PathBelow n → pairs_depth ps ≤ n → keys_fault schema.directory ps ≡ None → (d : DirEntry) × DirectoryPairs d ps
 directory_step n ps below deep none =
-    let lines_0 = lines_of schema.directory ps none in
-    let key = optional_some 22 ps boolean_law lines_0.0 in
-    let lines_1 = lines_0.1 in
-    let location = optional_some 23 ps text_law lines_1.0 in
-    let lines_2 = lines_1.1 in
-    let fs_name = required_some 24 ps text_law lines_2.0 in
-    let lines_3 = lines_2.1 in
-    let root = optional_some 25 ps text_law lines_3.0 in
-    let lines_4 = lines_3.1 in
-    let held = path_under_some n (value_under 26 ps) below (λ t e. under_within 26 ps t n e deep) lines_4.0 in
+    let none_at = line_none schema.directory ps none in
+    let key = optional_some 22 ps boolean_law (none_at 22 _ refl) in
+    let location = optional_some 23 ps text_law (none_at 23 _ refl) in
+    let fs_name = required_some 24 ps text_law (none_at 24 _ refl) in
+    let root = optional_some 25 ps text_law (none_at 25 _ refl) in
+    let held = path_under_some n (value_under 26 ps) below (λ t e. under_within 26 ps t n e deep) (none_at 26 _ refl) in
     let extras = extras_some (other_than (keys_of (table schema.directory)) ps) in
     let d : DirEntry-F DirEntry PathElements = record { key = key.0; location = location.0; fs_name = fs_name.0; root = root.0; path_elements = held.0; extras = extras.0 } in
     (roll-DirEntry d, directory_made d ps (record { key = key.1; location = location.1; fs_name = fs_name.1; root = root.1; extras = extras.1 }) held.1)
 
 path_step : (n : ℕ) (ps : Pairs) → DirectoryBelow n → pairs_depth ps ≤ n → keys_fault schema.path_elements ps ≡ None → (p : PathElements) × PathPairs p ps
 path_step n ps below deep none =
-    let lines_0 = lines_of schema.path_elements ps none in
-    let held = directories_under_some n (value_under 16 ps) below (λ t e. under_within 16 ps t n e deep) lines_0.0 in
-    let lines_1 = lines_0.1 in
-    let file = optional_some 17 ps files_law lines_1.0 in
+    let none_at = line_none schema.path_elements ps none in
+    let held = directories_under_some n (value_under 16 ps) below (λ t e. under_within 16 ps t n e deep) (none_at 16 _ refl) in
+    let file = optional_some 17 ps files_law (none_at 17 _ refl) in
     let extras = extras_some (other_than (keys_of (table schema.path_elements)) ps) in
     let p : PathElements-F DirEntry PathElements = record { directory = held.0; file = file.0; extras = extras.0 } in
     (roll-PathElements p, path_made p ps (record { file = file.1; extras = extras.1 }) held.1)

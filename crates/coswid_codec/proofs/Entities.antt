@@ -1,51 +1,35 @@
 -- Entities: RFC 9393, section 2.6.
-use Rattle.std.proofs.Common.{◌≡◌, List, [], ◌∷◌, None, refl, sym, ◌∙◌, arith}
+use Rattle.std.proofs.Common.{◌≡◌, None, refl, sym, ◌∙◌, arith}
 use Rattle.cbor_det.specs.Lookup.{other_than}
-use Rattle.cbor_det.specs.Term.{Pairs, map, text}
+use Rattle.cbor_det.specs.Term.{Pairs, map}
 use Rattle.cbor_det.specs.View.{pairs_view}
 use Rattle.coswid_res.specs.Schema as schema
 use Rattle.coswid_res.specs.Schema.{table, keys_of, one_or_more, a_map}
-use Rattle.coswid_res.specs.Items.{uri_item, hash_item}
 use Rattle.coswid_res.specs.Reading.{keys_fault}
 use Rattle.coswid_res.specs.Words.{OneOrMore}
 use Rattle.coswid_tag.specs.declared.entity.Entity.{Entity}
 use Rattle.coswid_codec.specs.Forms.{EntityKeys, EntityMap}
-use Rattle.coswid_codec.specs.Items.{entity_pairs, codes_item, entities_item}
+use Rattle.coswid_codec.specs.Items.{entity_rows, entity_pairs, entities_item}
 use Rattle.coswid_codec.proofs.Extras.{extras_some, extras_same}
 use Rattle.coswid_codec.proofs.Lawful.{Lawful, MapTold, MapLawful}
-use Rattle.coswid_codec.proofs.Lines.{lines_of, required_again, required_same, required_some, optional_again, optional_same, optional_some, map_law}
+use Rattle.coswid_codec.proofs.Lines.{line_none, required_again, required_same, required_some, optional_again, optional_same, optional_some, map_law}
 use Rattle.coswid_codec.proofs.Plain.{hash_law, text_law, uri_law}
 use Rattle.coswid_codec.proofs.Codes.{codes_law}
-use Rattle.coswid_codec.proofs.Facts.{Entry, Facts, required_entry, optional_entry, required_fact, optional_fact}
+use Rattle.coswid_codec.proofs.Facts.{◌⨾◌, Facts, required_fact, optional_fact}
 use Rattle.coswid_codec.proofs.Tables.{made}
 use Rattle.coswid_codec.proofs.Several.{several_law}
 
-abbrev entries : Entity → List Entry
-entries e =
-    required_entry 31 text e.entity_name
-    ∷ optional_entry 32 uri_item e.reg_id
-    ∷ required_entry 33 codes_item e.role
-    ∷ optional_entry 34 hash_item e.thumbprint
-    ∷ []
-
-facts : (e : Entity) (ps : Pairs) → EntityKeys e ps → Facts 2 ps (table schema.entity) (entries e)
-facts e ps is = (
-  required_fact 2 31 e.entity_name ps text_law (omega arith) is.entity_name,
-  (
-    optional_fact 2 32 e.reg_id ps uri_law (omega arith) is.reg_id,
-    (
-      required_fact 2 33 e.role ps codes_law (omega arith) is.role,
-      (
-        optional_fact 2 34 e.thumbprint ps hash_law (omega arith) is.thumbprint,
-        tt,
-      ),
-    ),
-  ),
-)
+facts : (e : Entity) (ps : Pairs) → EntityKeys e ps → Facts 2 ps (table schema.entity) (entity_rows e)
+facts e ps is =
+    required_fact 2 31 e.entity_name ps text_law (omega arith) is.entity_name
+    ⨾ optional_fact 2 32 e.reg_id ps uri_law (omega arith) is.reg_id
+    ⨾ required_fact 2 33 e.role ps codes_law (omega arith) is.role
+    ⨾ optional_fact 2 34 e.thumbprint ps hash_law (omega arith) is.thumbprint
+    ⨾ tt
 
 told : (e : Entity) (ps : Pairs) → EntityKeys e ps → MapTold schema.entity EntityKeys entity_pairs 2 e ps
 told e ps is =
-    let all = made schema.entity (entries e) (pairs_view e.extras) 2 ps (facts e ps is) is.extras in
+    let all = made schema.entity (entity_rows e) (pairs_view e.extras) 2 ps (facts e ps is) is.extras in
     record {
       none = all.none;
       again = record {
@@ -75,14 +59,11 @@ same a b ps first second =
 
 some : (ps : Pairs) → keys_fault schema.entity ps ≡ None → (e : Entity) × EntityKeys e ps
 some ps none =
-    let lines_0 = lines_of schema.entity ps none in
-    let entity_name = required_some 31 ps text_law lines_0.0 in
-    let lines_1 = lines_0.1 in
-    let reg_id = optional_some 32 ps uri_law lines_1.0 in
-    let lines_2 = lines_1.1 in
-    let role = required_some 33 ps codes_law lines_2.0 in
-    let lines_3 = lines_2.1 in
-    let thumbprint = optional_some 34 ps hash_law lines_3.0 in
+    let none_at = line_none schema.entity ps none in
+    let entity_name = required_some 31 ps text_law (none_at 31 _ refl) in
+    let reg_id = optional_some 32 ps uri_law (none_at 32 _ refl) in
+    let role = required_some 33 ps codes_law (none_at 33 _ refl) in
+    let thumbprint = optional_some 34 ps hash_law (none_at 34 _ refl) in
     let extras = extras_some (other_than (keys_of (table schema.entity)) ps) in (
       record { entity_name = entity_name.0; reg_id = reg_id.0; role = role.0; thumbprint = thumbprint.0; extras = extras.0 },
       record { entity_name = entity_name.1; reg_id = reg_id.1; role = role.1; thumbprint = thumbprint.1; extras = extras.1 },

@@ -1,16 +1,13 @@
 -- Evidence: RFC 9393, section 2.9.4.
-use Rattle.std.proofs.Common.{◌≡◌, List, [], ◌∷◌, None, refl, sym, ◌∙◌, arith}
+use Rattle.std.proofs.Common.{◌≡◌, None, refl, sym, ◌∙◌, arith}
 use Rattle.cbor_det.specs.Lookup.{other_than}
-use Rattle.cbor_det.specs.Term.{Pairs, text}
+use Rattle.cbor_det.specs.Term.{Pairs}
 use Rattle.cbor_det.specs.View.{pairs_view}
 use Rattle.coswid_res.specs.Schema as schema
 use Rattle.coswid_res.specs.Schema.{table, keys_of, one, a_map}
 use Rattle.coswid_res.specs.Reading.{keys_fault}
-use Rattle.coswid_res.specs.DirectoryItems.{directories_item}
-use Rattle.coswid_res.specs.Files.{files_item}
 use Rattle.coswid_res.specs.Resources.{EvidenceKeys, EvidenceMap}
-use Rattle.coswid_res.specs.ResourceItems.{evidence_pairs, evidence_item, processes_item, resources_item}
-use Rattle.coswid_res.specs.Items.{time_item}
+use Rattle.coswid_res.specs.ResourceItems.{evidence_rows, evidence_pairs, evidence_item}
 use Rattle.coswid_res.specs.declared.resources.evidence.Evidence.{Evidence}
 use Rattle.coswid_codec.proofs.Directories.{directories_law}
 use Rattle.coswid_codec.proofs.Files.{files_law}
@@ -19,48 +16,24 @@ use Rattle.coswid_codec.proofs.Processes.{processes_law}
 use Rattle.coswid_codec.proofs.Resources.{resources_law}
 use Rattle.coswid_codec.proofs.Extras.{extras_some, extras_same}
 use Rattle.coswid_codec.proofs.Lawful.{Lawful, MapTold, MapLawful}
-use Rattle.coswid_codec.proofs.Lines.{lines_of, optional_again, optional_same, optional_some, map_law}
-use Rattle.coswid_codec.proofs.Facts.{Entry, Facts, optional_entry, optional_fact}
+use Rattle.coswid_codec.proofs.Lines.{line_none, optional_again, optional_same, optional_some, map_law}
+use Rattle.coswid_codec.proofs.Facts.{◌⨾◌, Facts, optional_fact}
 use Rattle.coswid_codec.proofs.Tables.{made}
 
-abbrev entries : Evidence → List Entry
-entries e =
-    optional_entry 16 directories_item e.directory
-    ∷ optional_entry 17 files_item e.file
-    ∷ optional_entry 18 processes_item e.process
-    ∷ optional_entry 19 resources_item e.resource
-    ∷ optional_entry 23 text e.location
-    ∷ optional_entry 35 time_item e.date
-    ∷ optional_entry 36 text e.device_id
-    ∷ []
-
-facts : (e : Evidence) (ps : Pairs) → EvidenceKeys e ps → Facts 2 ps (table schema.evidence) (entries e)
-facts e ps is = (
-  optional_fact 2 16 e.directory ps directories_law (omega arith) is.directory,
-  (
-    optional_fact 2 17 e.file ps files_law (omega arith) is.file,
-    (
-      optional_fact 2 18 e.process ps processes_law (omega arith) is.process,
-      (
-        optional_fact 2 19 e.resource ps resources_law (omega arith) is.resource,
-        (
-          optional_fact 2 23 e.location ps text_law (omega arith) is.location,
-          (
-            optional_fact 2 35 e.date ps time_law (omega arith) is.date,
-            (
-              optional_fact 2 36 e.device_id ps text_law (omega arith) is.device_id,
-              tt,
-            ),
-          ),
-        ),
-      ),
-    ),
-  ),
-)
+facts : (e : Evidence) (ps : Pairs) → EvidenceKeys e ps → Facts 2 ps (table schema.evidence) (evidence_rows e)
+facts e ps is =
+    optional_fact 2 16 e.directory ps directories_law (omega arith) is.directory
+    ⨾ optional_fact 2 17 e.file ps files_law (omega arith) is.file
+    ⨾ optional_fact 2 18 e.process ps processes_law (omega arith) is.process
+    ⨾ optional_fact 2 19 e.resource ps resources_law (omega arith) is.resource
+    ⨾ optional_fact 2 23 e.location ps text_law (omega arith) is.location
+    ⨾ optional_fact 2 35 e.date ps time_law (omega arith) is.date
+    ⨾ optional_fact 2 36 e.device_id ps text_law (omega arith) is.device_id
+    ⨾ tt
 
 told : (e : Evidence) (ps : Pairs) → EvidenceKeys e ps → MapTold schema.evidence EvidenceKeys evidence_pairs 2 e ps
 told e ps is =
-    let all = made schema.evidence (entries e) (pairs_view e.extras) 2 ps (facts e ps is) is.extras in
+    let all = made schema.evidence (evidence_rows e) (pairs_view e.extras) 2 ps (facts e ps is) is.extras in
     record {
       none = all.none;
       again = record {
@@ -96,20 +69,14 @@ same a b ps first second =
 
 some : (ps : Pairs) → keys_fault schema.evidence ps ≡ None → (e : Evidence) × EvidenceKeys e ps
 some ps none =
-    let lines_0 = lines_of schema.evidence ps none in
-    let directory = optional_some 16 ps directories_law lines_0.0 in
-    let lines_1 = lines_0.1 in
-    let file = optional_some 17 ps files_law lines_1.0 in
-    let lines_2 = lines_1.1 in
-    let process = optional_some 18 ps processes_law lines_2.0 in
-    let lines_3 = lines_2.1 in
-    let resource = optional_some 19 ps resources_law lines_3.0 in
-    let lines_4 = lines_3.1 in
-    let location = optional_some 23 ps text_law lines_4.0 in
-    let lines_5 = lines_4.1 in
-    let date = optional_some 35 ps time_law lines_5.0 in
-    let lines_6 = lines_5.1 in
-    let device_id = optional_some 36 ps text_law lines_6.0 in
+    let none_at = line_none schema.evidence ps none in
+    let directory = optional_some 16 ps directories_law (none_at 16 _ refl) in
+    let file = optional_some 17 ps files_law (none_at 17 _ refl) in
+    let process = optional_some 18 ps processes_law (none_at 18 _ refl) in
+    let resource = optional_some 19 ps resources_law (none_at 19 _ refl) in
+    let location = optional_some 23 ps text_law (none_at 23 _ refl) in
+    let date = optional_some 35 ps time_law (none_at 35 _ refl) in
+    let device_id = optional_some 36 ps text_law (none_at 36 _ refl) in
     let extras = extras_some (other_than (keys_of (table schema.evidence)) ps) in (
       record { directory = directory.0; file = file.0; process = process.0; resource = resource.0; location = location.0; date = date.0; device_id = device_id.0; extras = extras.0 },
       record { directory = directory.1; file = file.1; process = process.1; resource = resource.1; location = location.1; date = date.1; device_id = device_id.1; extras = extras.1 },

@@ -3,13 +3,13 @@ use Rattle.std.proofs.Common.{◌≡◌, ◌≤◌, ◌+◌, ℕ, max, List, [],
 use Rattle.std.specs.Option.{option_map}
 use Rattle.std.specs.Prelude.{IfSome}
 use Rattle.cbor_det.specs.Adding.{put}
+use Rattle.cbor_det.specs.Laid.{Row, put_row}
 use Rattle.cbor_det.specs.Lookup.{is_unsigned, value_under}
 use Rattle.cbor_det.specs.Proper.{IsProper, ArePairsProper}
 use Rattle.cbor_det.specs.Term.{Term, Pairs, no_pairs, pair, depth, pairs_depth}
 use Rattle.cbor_det.proofs.Counts.{most, pairs_most}
 use Rattle.coswid_res.specs.declared.fault.FormFault.{FormFault}
 use Rattle.coswid_res.specs.Fault.{or_else, under, absent}
-use Rattle.coswid_res.specs.Items.{required_pair_at, optional_pair_at}
 use Rattle.coswid_res.specs.Reading.{value_fault, line_fault}
 use Rattle.coswid_res.specs.Schema.{Line, Field, required, optional, key_of}
 use Rattle.coswid_res.specs.Words.{Agree, RequiredAt, OptionalAt}
@@ -17,36 +17,27 @@ use Rattle.coswid_codec.proofs.Fields.{number, found_by}
 use Rattle.coswid_codec.proofs.Lawful.{Told, Lawful}
 use Rattle.coswid_codec.proofs.Lengths.{under_most}
 
--- A field: how it is put, and what stands under its key then.
-abbrev pub Entry : Type 0
-Entry = (Pairs → Pairs) × Option Term
-
-abbrev pub required_entry : {A : Type 0} → ℕ → (A → Term) → A → Entry
-required_entry k item v = (required_pair_at k item v, Some (item v))
-
-abbrev pub optional_entry : {A : Type 0} → ℕ → (A → Term) → Option A → Entry
-optional_entry k item x = (optional_pair_at k item x, option_map item x)
-
-abbrev pub fills : List Entry → List (Pairs → Pairs)
-fills [] = []
-fills (e ∷ es) = e.0 ∷ fills es
-
 abbrev pub put_if : ℕ → Option Term → Pairs → Pairs
 put_if k None ps = ps
 put_if k (Some t) ps = put (number k) t ps
 
--- what is known of a line of the table and of the field that stands for it
-pub record Fact (line : Line) (entry : Entry) (least : ℕ) (ps : Pairs) : Type 0 where
+-- what is known of a line of the table and of the row that stands for it
+pub record Fact (line : Line) (row : Row) (least : ℕ) (ps : Pairs) : Type 0 where
   pub none : line_fault line ps ≡ None
-  pub fills : (qs : Pairs) → entry.0 qs ≡ put_if (key_of line) entry.1 qs
-  pub proper : ArePairsProper ps → IfSome entry.1 IsProper
-  pub within : (n : ℕ) → least ≤ n → pairs_depth ps ≤ n → IfSome entry.1 (λ t. depth t ≤ n)
-  pub few : (n : ℕ) → pairs_most ps ≤ n → IfSome entry.1 (λ t. most t ≤ n + 16)
+  pub fills : (qs : Pairs) → put_row row qs ≡ put_if (key_of line) row.1 qs
+  pub proper : ArePairsProper ps → IfSome row.1 IsProper
+  pub within : (n : ℕ) → least ≤ n → pairs_depth ps ≤ n → IfSome row.1 (λ t. depth t ≤ n)
+  pub few : (n : ℕ) → pairs_most ps ≤ n → IfSome row.1 (λ t. most t ≤ n + 16)
 
-abbrev pub Facts : ℕ → Pairs → List Line → List Entry → Type 0
+abbrev pub Facts : ℕ → Pairs → List Line → List Row → Type 0
 Facts least ps [] [] = Unit {0}
 Facts least ps (line ∷ lines) (e ∷ es) = Fact line e least ps × Facts least ps lines es
 Facts least ps lines es = ⊥
+
+-- a fact, and those after it
+infixr 4 ◌⨾◌
+abbrev pub ◌⨾◌ : {A B : Type 0} → A → B → A × B
+fact ⨾ facts = (fact, facts)
 
 pub there : {A : Type 0} (Is : A → Term → Type 0) (v : A) (o : Option Term) → Agree Is (Some v) o → (t : Term) × (o ≡ Some t) × Is v t
 there Is v (Some t) is = (t, refl, is)
@@ -69,7 +60,7 @@ under_within k (pair l w ps) t n e deep =
     ]
 
 pub required_fact : {A : Type 0} {field : Field} {Is : A → Term → Type 0} {item : A → Term} {most : ℕ} (least k : ℕ) (v : A) (ps : Pairs) → Lawful field Is item most → most ≤ least
-    → RequiredAt k Is v ps → Fact (required k field) (required_entry k item v) least ps
+    → RequiredAt k Is v ps → Fact (required k field) (k, Some (item v)) least ps
 required_fact {field} {Is} {item} {most} least k v ps law le is =
     let at = there Is v (value_under k ps) is in
     let told = law.told v at.0 at.2 in
@@ -83,7 +74,7 @@ required_fact {field} {Is} {item} {most} least k v ps law le is =
     }
 
 told_by : {A : Type 0} (field : Field) (Is : A → Term → Type 0) (item : A → Term) (most least k : ℕ) (x : Option A) (o : Option Term) (ps : Pairs) → most ≤ least → value_under k ps ≡ o
-    → Agree (λ (v : A) (t : Term). Told field Is item most v t) x o → Fact (optional k field) (optional_entry k item x) least ps
+    → Agree (λ (v : A) (t : Term). Told field Is item most v t) x o → Fact (optional k field) (k, option_map item x) least ps
 told_by field Is item most least k None None ps le e told = record {
   none = ap (λ (o : Option Term). value_fault k field o) e;
   fills = λ qs. refl;
@@ -103,7 +94,7 @@ told_by field Is item most least k (Some v) None ps le e told = absurd told
 
 -- where it is known of what stands there alone
 pub told_fact : {A : Type 0} (field : Field) (Is : A → Term → Type 0) (item : A → Term) (most least k : ℕ) (x : Option A) (ps : Pairs) → most ≤ least
-    → Agree (λ (v : A) (t : Term). Told field Is item most v t) x (value_under k ps) → Fact (optional k field) (optional_entry k item x) least ps
+    → Agree (λ (v : A) (t : Term). Told field Is item most v t) x (value_under k ps) → Fact (optional k field) (k, option_map item x) least ps
 told_fact field Is item most least k x ps le told = told_by field Is item most least k x (value_under k ps) ps le refl told
 
 pub agree_told : {A : Type 0} (field : Field) (Is : A → Term → Type 0) (item : A → Term) (most : ℕ) (x : Option A) (o : Option Term) → Lawful field Is item most → Agree Is x o
@@ -114,5 +105,5 @@ agree_told field Is item most None (Some t) law is = absurd is
 agree_told field Is item most (Some v) None law is = absurd is
 
 pub optional_fact : {A : Type 0} {field : Field} {Is : A → Term → Type 0} {item : A → Term} {most : ℕ} (least k : ℕ) (x : Option A) (ps : Pairs) → Lawful field Is item most → most ≤ least
-    → OptionalAt k Is x ps → Fact (optional k field) (optional_entry k item x) least ps
+    → OptionalAt k Is x ps → Fact (optional k field) (k, option_map item x) least ps
 optional_fact {field} {Is} {item} {most} least k x ps law le is = told_fact field Is item most least k x ps le (agree_told field Is item most x (value_under k ps) law is)

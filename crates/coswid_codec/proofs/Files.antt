@@ -1,61 +1,36 @@
 -- Files: RFC 9393, section 2.9.2.
-use Rattle.std.proofs.Common.{◌≡◌, List, [], ◌∷◌, None, refl, sym, ◌∙◌, arith}
+use Rattle.std.proofs.Common.{◌≡◌, None, refl, sym, ◌∙◌, arith}
 use Rattle.cbor_det.specs.Lookup.{other_than}
-use Rattle.cbor_det.specs.Term.{Pairs, map, text, boolean}
+use Rattle.cbor_det.specs.Term.{Pairs, map}
 use Rattle.cbor_det.specs.View.{pairs_view}
 use Rattle.coswid_res.specs.Schema as schema
 use Rattle.coswid_res.specs.Schema.{table, keys_of, one_or_more, a_map}
 use Rattle.coswid_res.specs.Reading.{keys_fault}
-use Rattle.coswid_res.specs.Files.{FileKeys, FileMap, file_pairs, files_item}
-use Rattle.coswid_res.specs.Items.{unsigned_item, hash_item}
+use Rattle.coswid_res.specs.Files.{FileKeys, FileMap, file_rows, file_pairs, files_item}
 use Rattle.coswid_res.specs.Words.{OneOrMore}
 use Rattle.coswid_res.specs.declared.resources.file.FileEntry.{FileEntry}
 use Rattle.coswid_codec.proofs.Plain.{boolean_law, hash_law, text_law, unsigned_law}
 use Rattle.coswid_codec.proofs.Several.{several_law}
 use Rattle.coswid_codec.proofs.Extras.{extras_some, extras_same}
 use Rattle.coswid_codec.proofs.Lawful.{Lawful, MapTold, MapLawful}
-use Rattle.coswid_codec.proofs.Lines.{lines_of, required_again, required_same, required_some, optional_again, optional_same, optional_some, map_law}
-use Rattle.coswid_codec.proofs.Facts.{Entry, Facts, required_entry, required_fact, optional_entry, optional_fact}
+use Rattle.coswid_codec.proofs.Lines.{line_none, required_again, required_same, required_some, optional_again, optional_same, optional_some, map_law}
+use Rattle.coswid_codec.proofs.Facts.{◌⨾◌, Facts, required_fact, optional_fact}
 use Rattle.coswid_codec.proofs.Tables.{made}
 
-abbrev entries : FileEntry → List Entry
-entries f =
-    optional_entry 7 hash_item f.hash
-    ∷ optional_entry 20 unsigned_item f.size
-    ∷ optional_entry 21 text f.file_version
-    ∷ optional_entry 22 boolean f.key
-    ∷ optional_entry 23 text f.location
-    ∷ required_entry 24 text f.fs_name
-    ∷ optional_entry 25 text f.root
-    ∷ []
-
-facts : (f : FileEntry) (ps : Pairs) → FileKeys f ps → Facts 0 ps (table schema.file) (entries f)
-facts f ps is = (
-  optional_fact 0 7 f.hash ps hash_law (omega arith) is.hash,
-  (
-    optional_fact 0 20 f.size ps unsigned_law (omega arith) is.size,
-    (
-      optional_fact 0 21 f.file_version ps text_law (omega arith) is.file_version,
-      (
-        optional_fact 0 22 f.key ps boolean_law (omega arith) is.key,
-        (
-          optional_fact 0 23 f.location ps text_law (omega arith) is.location,
-          (
-            required_fact 0 24 f.fs_name ps text_law (omega arith) is.fs_name,
-            (
-              optional_fact 0 25 f.root ps text_law (omega arith) is.root,
-              tt,
-            ),
-          ),
-        ),
-      ),
-    ),
-  ),
-)
+facts : (f : FileEntry) (ps : Pairs) → FileKeys f ps → Facts 0 ps (table schema.file) (file_rows f)
+facts f ps is =
+    optional_fact 0 7 f.hash ps hash_law (omega arith) is.hash
+    ⨾ optional_fact 0 20 f.size ps unsigned_law (omega arith) is.size
+    ⨾ optional_fact 0 21 f.file_version ps text_law (omega arith) is.file_version
+    ⨾ optional_fact 0 22 f.key ps boolean_law (omega arith) is.key
+    ⨾ optional_fact 0 23 f.location ps text_law (omega arith) is.location
+    ⨾ required_fact 0 24 f.fs_name ps text_law (omega arith) is.fs_name
+    ⨾ optional_fact 0 25 f.root ps text_law (omega arith) is.root
+    ⨾ tt
 
 told : (f : FileEntry) (ps : Pairs) → FileKeys f ps → MapTold schema.file FileKeys file_pairs 0 f ps
 told f ps is =
-    let all = made schema.file (entries f) (pairs_view f.extras) 0 ps (facts f ps is) is.extras in
+    let all = made schema.file (file_rows f) (pairs_view f.extras) 0 ps (facts f ps is) is.extras in
     record {
       none = all.none;
       again = record {
@@ -91,20 +66,14 @@ same a b ps first second =
 
 some : (ps : Pairs) → keys_fault schema.file ps ≡ None → (f : FileEntry) × FileKeys f ps
 some ps none =
-    let lines_0 = lines_of schema.file ps none in
-    let hash = optional_some 7 ps hash_law lines_0.0 in
-    let lines_1 = lines_0.1 in
-    let size = optional_some 20 ps unsigned_law lines_1.0 in
-    let lines_2 = lines_1.1 in
-    let file_version = optional_some 21 ps text_law lines_2.0 in
-    let lines_3 = lines_2.1 in
-    let key = optional_some 22 ps boolean_law lines_3.0 in
-    let lines_4 = lines_3.1 in
-    let location = optional_some 23 ps text_law lines_4.0 in
-    let lines_5 = lines_4.1 in
-    let fs_name = required_some 24 ps text_law lines_5.0 in
-    let lines_6 = lines_5.1 in
-    let root = optional_some 25 ps text_law lines_6.0 in
+    let none_at = line_none schema.file ps none in
+    let hash = optional_some 7 ps hash_law (none_at 7 _ refl) in
+    let size = optional_some 20 ps unsigned_law (none_at 20 _ refl) in
+    let file_version = optional_some 21 ps text_law (none_at 21 _ refl) in
+    let key = optional_some 22 ps boolean_law (none_at 22 _ refl) in
+    let location = optional_some 23 ps text_law (none_at 23 _ refl) in
+    let fs_name = required_some 24 ps text_law (none_at 24 _ refl) in
+    let root = optional_some 25 ps text_law (none_at 25 _ refl) in
     let extras = extras_some (other_than (keys_of (table schema.file)) ps) in (
       record { hash = hash.0; size = size.0; file_version = file_version.0; key = key.0; location = location.0; fs_name = fs_name.0; root = root.0; extras = extras.0 },
       record { hash = hash.1; size = size.1; file_version = file_version.1; key = key.1; location = location.1; fs_name = fs_name.1; root = root.1; extras = extras.1 },

@@ -1,62 +1,37 @@
 -- Links: RFC 9393, section 2.7.
-use Rattle.std.proofs.Common.{◌≡◌, List, [], ◌∷◌, None, refl, sym, ◌∙◌, arith}
+use Rattle.std.proofs.Common.{◌≡◌, None, refl, sym, ◌∙◌, arith}
 use Rattle.cbor_det.specs.Lookup.{other_than}
-use Rattle.cbor_det.specs.Term.{Pairs, map, text}
+use Rattle.cbor_det.specs.Term.{Pairs, map}
 use Rattle.cbor_det.specs.View.{pairs_view}
 use Rattle.coswid_res.specs.Schema as schema
 use Rattle.coswid_res.specs.Schema.{table, keys_of, one_or_more, a_map}
-use Rattle.coswid_res.specs.Items.{uri_item}
 use Rattle.coswid_res.specs.Reading.{keys_fault}
 use Rattle.coswid_res.specs.Words.{OneOrMore}
 use Rattle.coswid_tag.specs.declared.link.LinkEntry.{LinkEntry}
 use Rattle.coswid_codec.specs.Forms.{LinkKeys, LinkMap}
-use Rattle.coswid_codec.specs.Items.{link_pairs, code_item, links_item}
+use Rattle.coswid_codec.specs.Items.{link_rows, link_pairs, links_item}
 use Rattle.coswid_codec.proofs.Extras.{extras_some, extras_same}
 use Rattle.coswid_codec.proofs.Lawful.{Lawful, MapTold, MapLawful}
-use Rattle.coswid_codec.proofs.Lines.{lines_of, required_again, required_same, required_some, optional_again, optional_same, optional_some, map_law}
+use Rattle.coswid_codec.proofs.Lines.{line_none, required_again, required_same, required_some, optional_again, optional_same, optional_some, map_law}
 use Rattle.coswid_codec.proofs.Plain.{code_law, text_law, uri_law}
-use Rattle.coswid_codec.proofs.Facts.{Entry, Facts, required_entry, optional_entry, required_fact, optional_fact}
+use Rattle.coswid_codec.proofs.Facts.{◌⨾◌, Facts, required_fact, optional_fact}
 use Rattle.coswid_codec.proofs.Tables.{made}
 use Rattle.coswid_codec.proofs.Several.{several_law}
 
-abbrev entries : LinkEntry → List Entry
-entries l =
-    optional_entry 10 text l.media
-    ∷ optional_entry 37 text l.artifact
-    ∷ required_entry 38 uri_item l.href
-    ∷ optional_entry 39 code_item l.ownership
-    ∷ required_entry 40 code_item l.rel
-    ∷ optional_entry 41 text l.media_type
-    ∷ optional_entry 42 code_item l.link_use
-    ∷ []
-
-facts : (l : LinkEntry) (ps : Pairs) → LinkKeys l ps → Facts 2 ps (table schema.link) (entries l)
-facts l ps is = (
-  optional_fact 2 10 l.media ps text_law (omega arith) is.media,
-  (
-    optional_fact 2 37 l.artifact ps text_law (omega arith) is.artifact,
-    (
-      required_fact 2 38 l.href ps uri_law (omega arith) is.href,
-      (
-        optional_fact 2 39 l.ownership ps code_law (omega arith) is.ownership,
-        (
-          required_fact 2 40 l.rel ps code_law (omega arith) is.rel,
-          (
-            optional_fact 2 41 l.media_type ps text_law (omega arith) is.media_type,
-            (
-              optional_fact 2 42 l.link_use ps code_law (omega arith) is.link_use,
-              tt,
-            ),
-          ),
-        ),
-      ),
-    ),
-  ),
-)
+facts : (l : LinkEntry) (ps : Pairs) → LinkKeys l ps → Facts 2 ps (table schema.link) (link_rows l)
+facts l ps is =
+    optional_fact 2 10 l.media ps text_law (omega arith) is.media
+    ⨾ optional_fact 2 37 l.artifact ps text_law (omega arith) is.artifact
+    ⨾ required_fact 2 38 l.href ps uri_law (omega arith) is.href
+    ⨾ optional_fact 2 39 l.ownership ps code_law (omega arith) is.ownership
+    ⨾ required_fact 2 40 l.rel ps code_law (omega arith) is.rel
+    ⨾ optional_fact 2 41 l.media_type ps text_law (omega arith) is.media_type
+    ⨾ optional_fact 2 42 l.link_use ps code_law (omega arith) is.link_use
+    ⨾ tt
 
 told : (l : LinkEntry) (ps : Pairs) → LinkKeys l ps → MapTold schema.link LinkKeys link_pairs 2 l ps
 told l ps is =
-    let all = made schema.link (entries l) (pairs_view l.extras) 2 ps (facts l ps is) is.extras in
+    let all = made schema.link (link_rows l) (pairs_view l.extras) 2 ps (facts l ps is) is.extras in
     record {
       none = all.none;
       again = record {
@@ -92,20 +67,14 @@ same a b ps first second =
 
 some : (ps : Pairs) → keys_fault schema.link ps ≡ None → (l : LinkEntry) × LinkKeys l ps
 some ps none =
-    let lines_0 = lines_of schema.link ps none in
-    let media = optional_some 10 ps text_law lines_0.0 in
-    let lines_1 = lines_0.1 in
-    let artifact = optional_some 37 ps text_law lines_1.0 in
-    let lines_2 = lines_1.1 in
-    let href = required_some 38 ps uri_law lines_2.0 in
-    let lines_3 = lines_2.1 in
-    let ownership = optional_some 39 ps code_law lines_3.0 in
-    let lines_4 = lines_3.1 in
-    let rel = required_some 40 ps code_law lines_4.0 in
-    let lines_5 = lines_4.1 in
-    let media_type = optional_some 41 ps text_law lines_5.0 in
-    let lines_6 = lines_5.1 in
-    let link_use = optional_some 42 ps code_law lines_6.0 in
+    let none_at = line_none schema.link ps none in
+    let media = optional_some 10 ps text_law (none_at 10 _ refl) in
+    let artifact = optional_some 37 ps text_law (none_at 37 _ refl) in
+    let href = required_some 38 ps uri_law (none_at 38 _ refl) in
+    let ownership = optional_some 39 ps code_law (none_at 39 _ refl) in
+    let rel = required_some 40 ps code_law (none_at 40 _ refl) in
+    let media_type = optional_some 41 ps text_law (none_at 41 _ refl) in
+    let link_use = optional_some 42 ps code_law (none_at 42 _ refl) in
     let extras = extras_some (other_than (keys_of (table schema.link)) ps) in (
       record { media = media.0; artifact = artifact.0; href = href.0; ownership = ownership.0; rel = rel.0; media_type = media_type.0; link_use = link_use.0; extras = extras.0 },
       record { media = media.1; artifact = artifact.1; href = href.1; ownership = ownership.1; rel = rel.1; media_type = media_type.1; link_use = link_use.1; extras = extras.1 },

@@ -1,7 +1,7 @@
 -- Descriptions of software: RFC 9393, section 2.8.
-use Rattle.std.proofs.Common.{◌≡◌, List, [], ◌∷◌, None, refl, sym, ◌∙◌, arith}
+use Rattle.std.proofs.Common.{◌≡◌, None, refl, sym, ◌∙◌, arith}
 use Rattle.cbor_det.specs.Lookup.{other_than}
-use Rattle.cbor_det.specs.Term.{Pairs, map, text, boolean}
+use Rattle.cbor_det.specs.Term.{Pairs, map}
 use Rattle.cbor_det.specs.View.{pairs_view}
 use Rattle.coswid_res.specs.Schema as schema
 use Rattle.coswid_res.specs.Schema.{table, keys_of, one_or_more, a_map}
@@ -9,85 +9,37 @@ use Rattle.coswid_res.specs.Reading.{keys_fault}
 use Rattle.coswid_res.specs.Words.{OneOrMore}
 use Rattle.coswid_tag.specs.declared.meta.SoftwareMeta.{SoftwareMeta}
 use Rattle.coswid_codec.specs.Forms.{MetaKeys, MetaMap}
-use Rattle.coswid_codec.specs.Items.{meta_pairs, identifier_item, metas_item}
+use Rattle.coswid_codec.specs.Items.{meta_rows, meta_pairs, metas_item}
 use Rattle.coswid_codec.proofs.Extras.{extras_some, extras_same}
 use Rattle.coswid_codec.proofs.Lawful.{Lawful, MapTold, MapLawful}
-use Rattle.coswid_codec.proofs.Lines.{lines_of, optional_again, optional_same, optional_some, map_law}
+use Rattle.coswid_codec.proofs.Lines.{line_none, optional_again, optional_same, optional_some, map_law}
 use Rattle.coswid_codec.proofs.Plain.{boolean_law, identifier_law, text_law}
-use Rattle.coswid_codec.proofs.Facts.{Entry, Facts, optional_entry, optional_fact}
+use Rattle.coswid_codec.proofs.Facts.{◌⨾◌, Facts, optional_fact}
 use Rattle.coswid_codec.proofs.Tables.{made}
 use Rattle.coswid_codec.proofs.Several.{several_law}
 
-abbrev entries : SoftwareMeta → List Entry
-entries m =
-    optional_entry 43 text m.activation_status
-    ∷ optional_entry 44 text m.channel_type
-    ∷ optional_entry 45 text m.colloquial_version
-    ∷ optional_entry 46 text m.description
-    ∷ optional_entry 47 text m.edition
-    ∷ optional_entry 48 boolean m.entitlement_data_required
-    ∷ optional_entry 49 text m.entitlement_key
-    ∷ optional_entry 50 identifier_item m.generator
-    ∷ optional_entry 51 text m.persistent_id
-    ∷ optional_entry 52 text m.product
-    ∷ optional_entry 53 text m.product_family
-    ∷ optional_entry 54 text m.revision
-    ∷ optional_entry 55 text m.summary
-    ∷ optional_entry 56 text m.unspsc_code
-    ∷ optional_entry 57 text m.unspsc_version
-    ∷ []
-
-facts : (m : SoftwareMeta) (ps : Pairs) → MetaKeys m ps → Facts 1 ps (table schema.software_meta) (entries m)
-facts m ps is = (
-  optional_fact 1 43 m.activation_status ps text_law (omega arith) is.activation_status,
-  (
-    optional_fact 1 44 m.channel_type ps text_law (omega arith) is.channel_type,
-    (
-      optional_fact 1 45 m.colloquial_version ps text_law (omega arith) is.colloquial_version,
-      (
-        optional_fact 1 46 m.description ps text_law (omega arith) is.description,
-        (
-          optional_fact 1 47 m.edition ps text_law (omega arith) is.edition,
-          (
-            optional_fact 1 48 m.entitlement_data_required ps boolean_law (omega arith) is.entitlement_data_required,
-            (
-              optional_fact 1 49 m.entitlement_key ps text_law (omega arith) is.entitlement_key,
-              (
-                optional_fact 1 50 m.generator ps identifier_law (omega arith) is.generator,
-                (
-                  optional_fact 1 51 m.persistent_id ps text_law (omega arith) is.persistent_id,
-                  (
-                    optional_fact 1 52 m.product ps text_law (omega arith) is.product,
-                    (
-                      optional_fact 1 53 m.product_family ps text_law (omega arith) is.product_family,
-                      (
-                        optional_fact 1 54 m.revision ps text_law (omega arith) is.revision,
-                        (
-                          optional_fact 1 55 m.summary ps text_law (omega arith) is.summary,
-                          (
-                            optional_fact 1 56 m.unspsc_code ps text_law (omega arith) is.unspsc_code,
-                            (
-                              optional_fact 1 57 m.unspsc_version ps text_law (omega arith) is.unspsc_version,
-                              tt,
-                            ),
-                          ),
-                        ),
-                      ),
-                    ),
-                  ),
-                ),
-              ),
-            ),
-          ),
-        ),
-      ),
-    ),
-  ),
-)
+facts : (m : SoftwareMeta) (ps : Pairs) → MetaKeys m ps → Facts 1 ps (table schema.software_meta) (meta_rows m)
+facts m ps is =
+    optional_fact 1 43 m.activation_status ps text_law (omega arith) is.activation_status
+    ⨾ optional_fact 1 44 m.channel_type ps text_law (omega arith) is.channel_type
+    ⨾ optional_fact 1 45 m.colloquial_version ps text_law (omega arith) is.colloquial_version
+    ⨾ optional_fact 1 46 m.description ps text_law (omega arith) is.description
+    ⨾ optional_fact 1 47 m.edition ps text_law (omega arith) is.edition
+    ⨾ optional_fact 1 48 m.entitlement_data_required ps boolean_law (omega arith) is.entitlement_data_required
+    ⨾ optional_fact 1 49 m.entitlement_key ps text_law (omega arith) is.entitlement_key
+    ⨾ optional_fact 1 50 m.generator ps identifier_law (omega arith) is.generator
+    ⨾ optional_fact 1 51 m.persistent_id ps text_law (omega arith) is.persistent_id
+    ⨾ optional_fact 1 52 m.product ps text_law (omega arith) is.product
+    ⨾ optional_fact 1 53 m.product_family ps text_law (omega arith) is.product_family
+    ⨾ optional_fact 1 54 m.revision ps text_law (omega arith) is.revision
+    ⨾ optional_fact 1 55 m.summary ps text_law (omega arith) is.summary
+    ⨾ optional_fact 1 56 m.unspsc_code ps text_law (omega arith) is.unspsc_code
+    ⨾ optional_fact 1 57 m.unspsc_version ps text_law (omega arith) is.unspsc_version
+    ⨾ tt
 
 told : (m : SoftwareMeta) (ps : Pairs) → MetaKeys m ps → MapTold schema.software_meta MetaKeys meta_pairs 1 m ps
 told m ps is =
-    let all = made schema.software_meta (entries m) (pairs_view m.extras) 1 ps (facts m ps is) is.extras in
+    let all = made schema.software_meta (meta_rows m) (pairs_view m.extras) 1 ps (facts m ps is) is.extras in
     record {
       none = all.none;
       again = record {
@@ -139,36 +91,22 @@ same a b ps first second =
 
 some : (ps : Pairs) → keys_fault schema.software_meta ps ≡ None → (m : SoftwareMeta) × MetaKeys m ps
 some ps none =
-    let lines_0 = lines_of schema.software_meta ps none in
-    let activation_status = optional_some 43 ps text_law lines_0.0 in
-    let lines_1 = lines_0.1 in
-    let channel_type = optional_some 44 ps text_law lines_1.0 in
-    let lines_2 = lines_1.1 in
-    let colloquial_version = optional_some 45 ps text_law lines_2.0 in
-    let lines_3 = lines_2.1 in
-    let description = optional_some 46 ps text_law lines_3.0 in
-    let lines_4 = lines_3.1 in
-    let edition = optional_some 47 ps text_law lines_4.0 in
-    let lines_5 = lines_4.1 in
-    let entitlement_data_required = optional_some 48 ps boolean_law lines_5.0 in
-    let lines_6 = lines_5.1 in
-    let entitlement_key = optional_some 49 ps text_law lines_6.0 in
-    let lines_7 = lines_6.1 in
-    let generator = optional_some 50 ps identifier_law lines_7.0 in
-    let lines_8 = lines_7.1 in
-    let persistent_id = optional_some 51 ps text_law lines_8.0 in
-    let lines_9 = lines_8.1 in
-    let product = optional_some 52 ps text_law lines_9.0 in
-    let lines_10 = lines_9.1 in
-    let product_family = optional_some 53 ps text_law lines_10.0 in
-    let lines_11 = lines_10.1 in
-    let revision = optional_some 54 ps text_law lines_11.0 in
-    let lines_12 = lines_11.1 in
-    let summary = optional_some 55 ps text_law lines_12.0 in
-    let lines_13 = lines_12.1 in
-    let unspsc_code = optional_some 56 ps text_law lines_13.0 in
-    let lines_14 = lines_13.1 in
-    let unspsc_version = optional_some 57 ps text_law lines_14.0 in
+    let none_at = line_none schema.software_meta ps none in
+    let activation_status = optional_some 43 ps text_law (none_at 43 _ refl) in
+    let channel_type = optional_some 44 ps text_law (none_at 44 _ refl) in
+    let colloquial_version = optional_some 45 ps text_law (none_at 45 _ refl) in
+    let description = optional_some 46 ps text_law (none_at 46 _ refl) in
+    let edition = optional_some 47 ps text_law (none_at 47 _ refl) in
+    let entitlement_data_required = optional_some 48 ps boolean_law (none_at 48 _ refl) in
+    let entitlement_key = optional_some 49 ps text_law (none_at 49 _ refl) in
+    let generator = optional_some 50 ps identifier_law (none_at 50 _ refl) in
+    let persistent_id = optional_some 51 ps text_law (none_at 51 _ refl) in
+    let product = optional_some 52 ps text_law (none_at 52 _ refl) in
+    let product_family = optional_some 53 ps text_law (none_at 53 _ refl) in
+    let revision = optional_some 54 ps text_law (none_at 54 _ refl) in
+    let summary = optional_some 55 ps text_law (none_at 55 _ refl) in
+    let unspsc_code = optional_some 56 ps text_law (none_at 56 _ refl) in
+    let unspsc_version = optional_some 57 ps text_law (none_at 57 _ refl) in
     let extras = extras_some (other_than (keys_of (table schema.software_meta)) ps) in (
       record { activation_status = activation_status.0; channel_type = channel_type.0; colloquial_version = colloquial_version.0; description = description.0; edition = edition.0; entitlement_data_required = entitlement_data_required.0; entitlement_key = entitlement_key.0; generator = generator.0; persistent_id = persistent_id.0; product = product.0; product_family = product_family.0; revision = revision.0; summary = summary.0; unspsc_code = unspsc_code.0; unspsc_version = unspsc_version.0; extras = extras.0 },
       record { activation_status = activation_status.1; channel_type = channel_type.1; colloquial_version = colloquial_version.1; description = description.1; edition = edition.1; entitlement_data_required = entitlement_data_required.1; entitlement_key = entitlement_key.1; generator = generator.1; persistent_id = persistent_id.1; product = product.1; product_family = product_family.1; revision = revision.1; summary = summary.1; unspsc_code = unspsc_code.1; unspsc_version = unspsc_version.1; extras = extras.1 },

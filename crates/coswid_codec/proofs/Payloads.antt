@@ -1,15 +1,13 @@
 -- Payloads: RFC 9393, section 2.9.3.
-use Rattle.std.proofs.Common.{◌≡◌, List, [], ◌∷◌, None, refl, sym, ◌∙◌, arith}
+use Rattle.std.proofs.Common.{◌≡◌, None, refl, sym, ◌∙◌, arith}
 use Rattle.cbor_det.specs.Lookup.{other_than}
 use Rattle.cbor_det.specs.Term.{Pairs}
 use Rattle.cbor_det.specs.View.{pairs_view}
 use Rattle.coswid_res.specs.Schema as schema
 use Rattle.coswid_res.specs.Schema.{table, keys_of, one, a_map}
 use Rattle.coswid_res.specs.Reading.{keys_fault}
-use Rattle.coswid_res.specs.DirectoryItems.{directories_item}
-use Rattle.coswid_res.specs.Files.{files_item}
 use Rattle.coswid_res.specs.Resources.{PayloadKeys, PayloadMap}
-use Rattle.coswid_res.specs.ResourceItems.{payload_pairs, payload_item, processes_item, resources_item}
+use Rattle.coswid_res.specs.ResourceItems.{payload_rows, payload_pairs, payload_item}
 use Rattle.coswid_res.specs.declared.resources.payload.Payload.{Payload}
 use Rattle.coswid_codec.proofs.Directories.{directories_law}
 use Rattle.coswid_codec.proofs.Files.{files_law}
@@ -17,36 +15,21 @@ use Rattle.coswid_codec.proofs.Processes.{processes_law}
 use Rattle.coswid_codec.proofs.Resources.{resources_law}
 use Rattle.coswid_codec.proofs.Extras.{extras_some, extras_same}
 use Rattle.coswid_codec.proofs.Lawful.{Lawful, MapTold, MapLawful}
-use Rattle.coswid_codec.proofs.Lines.{lines_of, optional_again, optional_same, optional_some, map_law}
-use Rattle.coswid_codec.proofs.Facts.{Entry, Facts, optional_entry, optional_fact}
+use Rattle.coswid_codec.proofs.Lines.{line_none, optional_again, optional_same, optional_some, map_law}
+use Rattle.coswid_codec.proofs.Facts.{◌⨾◌, Facts, optional_fact}
 use Rattle.coswid_codec.proofs.Tables.{made}
 
-abbrev entries : Payload → List Entry
-entries p =
-    optional_entry 16 directories_item p.directory
-    ∷ optional_entry 17 files_item p.file
-    ∷ optional_entry 18 processes_item p.process
-    ∷ optional_entry 19 resources_item p.resource
-    ∷ []
-
-facts : (p : Payload) (ps : Pairs) → PayloadKeys p ps → Facts 0 ps (table schema.payload) (entries p)
-facts p ps is = (
-  optional_fact 0 16 p.directory ps directories_law (omega arith) is.directory,
-  (
-    optional_fact 0 17 p.file ps files_law (omega arith) is.file,
-    (
-      optional_fact 0 18 p.process ps processes_law (omega arith) is.process,
-      (
-        optional_fact 0 19 p.resource ps resources_law (omega arith) is.resource,
-        tt,
-      ),
-    ),
-  ),
-)
+facts : (p : Payload) (ps : Pairs) → PayloadKeys p ps → Facts 0 ps (table schema.payload) (payload_rows p)
+facts p ps is =
+    optional_fact 0 16 p.directory ps directories_law (omega arith) is.directory
+    ⨾ optional_fact 0 17 p.file ps files_law (omega arith) is.file
+    ⨾ optional_fact 0 18 p.process ps processes_law (omega arith) is.process
+    ⨾ optional_fact 0 19 p.resource ps resources_law (omega arith) is.resource
+    ⨾ tt
 
 told : (p : Payload) (ps : Pairs) → PayloadKeys p ps → MapTold schema.payload PayloadKeys payload_pairs 0 p ps
 told p ps is =
-    let all = made schema.payload (entries p) (pairs_view p.extras) 0 ps (facts p ps is) is.extras in
+    let all = made schema.payload (payload_rows p) (pairs_view p.extras) 0 ps (facts p ps is) is.extras in
     record {
       none = all.none;
       again = record {
@@ -76,14 +59,11 @@ same a b ps first second =
 
 some : (ps : Pairs) → keys_fault schema.payload ps ≡ None → (p : Payload) × PayloadKeys p ps
 some ps none =
-    let lines_0 = lines_of schema.payload ps none in
-    let directory = optional_some 16 ps directories_law lines_0.0 in
-    let lines_1 = lines_0.1 in
-    let file = optional_some 17 ps files_law lines_1.0 in
-    let lines_2 = lines_1.1 in
-    let process = optional_some 18 ps processes_law lines_2.0 in
-    let lines_3 = lines_2.1 in
-    let resource = optional_some 19 ps resources_law lines_3.0 in
+    let none_at = line_none schema.payload ps none in
+    let directory = optional_some 16 ps directories_law (none_at 16 _ refl) in
+    let file = optional_some 17 ps files_law (none_at 17 _ refl) in
+    let process = optional_some 18 ps processes_law (none_at 18 _ refl) in
+    let resource = optional_some 19 ps resources_law (none_at 19 _ refl) in
     let extras = extras_some (other_than (keys_of (table schema.payload)) ps) in (
       record { directory = directory.0; file = file.0; process = process.0; resource = resource.0; extras = extras.0 },
       record { directory = directory.1; file = file.1; process = process.1; resource = resource.1; extras = extras.1 },

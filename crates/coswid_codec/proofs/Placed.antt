@@ -4,16 +4,16 @@ use Rattle.std.proofs.Common.{◌≡◌, ◌≤◌, ◌<◌, ◌==◌, ◌^◌, 
 use Rattle.std.proofs.lemmas.Bool.{and_parts, eqb-true, ne_eqb}
 use Rattle.std.specs.Prelude.{IfSome}
 use Rattle.std.specs.declared.cmp.Ordering.TheVariants.{Less}
+use Rattle.cbor_det.specs.Laid.{Row, put_rows}
 use Rattle.cbor_det.specs.Lookup.{value_under, is_one_of, other_than}
 use Rattle.cbor_det.specs.Proper.{IsProper, ArePairsProper, IsProperMap}
 use Rattle.cbor_det.specs.Spelling.{IsBelow, Rises}
 use Rattle.cbor_det.specs.Term.{Term, Pairs, integer, octets, text, array, map, tagged, boolean, no_pairs, pair, depth, pairs_depth}
 use Rattle.cbor_det.proofs.Order.{key_cmp, below_trans}
-use Rattle.coswid_res.specs.Items.{put_all}
 use Rattle.coswid_res.specs.Schema.{Name, tag, entity, link, software_meta, payload, evidence, directory, path_elements, file, process, resource, table, Line, key_of, keys_of}
 use Rattle.coswid_res.proofs.Lines.{Rising}
 use Rattle.coswid_codec.proofs.Fields.{number, under_other, under_this, others_put, others_none, put_proper, put_within}
-use Rattle.coswid_codec.proofs.Facts.{Entry, fills, put_if, Facts}
+use Rattle.coswid_codec.proofs.Facts.{put_if, Facts}
 
 -- Nothing stands under these keys.
 abbrev pub AreFree : List Line → Pairs → Type 0
@@ -53,14 +53,14 @@ all_free ns [] ps are = tt
 all_free ns (line ∷ lines) ps are = (others_none ns (key_of line) ps are.0, all_free ns lines ps are.1)
 
 -- the pairs with the fields of these lines
-abbrev pub placed : List Line → List Entry → Pairs → Pairs
+abbrev pub placed : List Line → List Row → Pairs → Pairs
 placed (line ∷ lines) (e ∷ es) qs = placed lines es (put_if (key_of line) e.1 qs)
 placed lines es qs = qs
 
-pub fills_placed : (least : ℕ) (ps : Pairs) (lines : List Line) (es : List Entry) (qs : Pairs) → Facts least ps lines es → put_all (fills es) qs ≡ placed lines es qs
+pub fills_placed : (least : ℕ) (ps : Pairs) (lines : List Line) (es : List Row) (qs : Pairs) → Facts least ps lines es → put_rows es qs ≡ placed lines es qs
 fills_placed least ps [] [] qs facts = refl
 fills_placed least ps (line ∷ lines) (e ∷ es) qs facts =
-    ap (λ (rs : Pairs). put_all (fills es) rs) (facts.0.fills qs) ∙ fills_placed least ps lines es (put_if (key_of line) e.1 qs) facts.1
+    ap (λ (rs : Pairs). put_rows es rs) (facts.0.fills qs) ∙ fills_placed least ps lines es (put_if (key_of line) e.1 qs) facts.1
 fills_placed least ps [] (e ∷ es) qs facts = absurd facts
 fills_placed least ps (line ∷ lines) [] qs facts = absurd facts
 
@@ -79,7 +79,7 @@ free_put low j o (line ∷ lines) qs up lt free =
     (other_key (key_of line) j o qs (ne_eqb j (key_of line) (λ e. omega (arith, e, le, lt))) ∙ free.0, free_put (key_of line + 1) j o lines qs up.2 (omega (arith, le, lt)) free.1)
 
 -- A key below those of the lines is left as it is.
-stays : (k low : ℕ) (lines : List Line) (es : List Entry) (qs : Pairs) → Rising low lines → k < low → value_under k (placed lines es qs) ≡ value_under k qs
+stays : (k low : ℕ) (lines : List Line) (es : List Row) (qs : Pairs) → Rising low lines → k < low → value_under k (placed lines es qs) ≡ value_under k qs
 stays k low [] es qs up lt = refl
 stays k low (line ∷ lines) [] qs up lt = refl
 stays k low (line ∷ lines) (e ∷ es) qs up lt =
@@ -88,7 +88,7 @@ stays k low (line ∷ lines) (e ∷ es) qs up lt =
     ∙ other_key k (key_of line) e.1 qs (ne_eqb (key_of line) k (λ same. omega (arith, same, le, lt)))
 
 -- what the field with this key is written as
-abbrev pub look : ℕ → List Line → List Entry → Option Term
+abbrev pub look : ℕ → List Line → List Row → Option Term
 look k (line ∷ lines) (e ∷ es) = if key_of line == k then e.1 else look k lines es
 look k lines es = None
 
@@ -96,7 +96,7 @@ abbrev pub is_line : ℕ → List Line → Bool
 is_line k [] = false
 is_line k (line ∷ lines) = if key_of line == k then true else is_line k lines
 
-looked_by : (b : Bool) (k low : ℕ) (line : Line) (lines : List Line) (e : Entry) (es : List Entry) (qs : Pairs) → (key_of line == k) ≡ b → Rising low (line ∷ lines) → AreFree (line ∷ lines) qs
+looked_by : (b : Bool) (k low : ℕ) (line : Line) (lines : List Line) (e : Row) (es : List Row) (qs : Pairs) → (key_of line == k) ≡ b → Rising low (line ∷ lines) → AreFree (line ∷ lines) qs
     → (is_line k lines ≡ true → value_under k (placed lines es (put_if (key_of line) e.1 qs)) ≡ look k lines es)
     → (if b then true else is_line k lines) ≡ true → value_under k (placed lines es (put_if (key_of line) e.1 qs)) ≡ (if b then e.1 else look k lines es)
 looked_by true k low line lines e es qs same up free rest is =
@@ -106,7 +106,7 @@ looked_by true k low line lines e es qs same up free rest is =
     ∙ this_key (key_of line) e.1 qs free.0
 looked_by false k low line lines e es qs same up free rest is = rest is
 
-pub looked : (least : ℕ) (ps : Pairs) (k low : ℕ) (lines : List Line) (es : List Entry) (qs : Pairs) → Facts least ps lines es → Rising low lines → AreFree lines qs → is_line k lines ≡ true
+pub looked : (least : ℕ) (ps : Pairs) (k low : ℕ) (lines : List Line) (es : List Row) (qs : Pairs) → Facts least ps lines es → Rising low lines → AreFree lines qs → is_line k lines ≡ true
     → value_under k (placed lines es qs) ≡ look k lines es
 looked least ps k low [] es qs facts up free is = absurd cc
 looked least ps k low (line ∷ lines) (e ∷ es) qs facts up free is =
@@ -118,7 +118,7 @@ others_if : (ns : List ℕ) (k : ℕ) (o : Option Term) (qs : Pairs) → is_one_
 others_if ns k None qs is = refl
 others_if ns k (Some t) qs is = others_put ns k t qs is
 
-pub others_placed : (ns : List ℕ) (lines : List Line) (es : List Entry) (qs : Pairs) → AreListed ns lines → other_than ns (placed lines es qs) ≡ other_than ns qs
+pub others_placed : (ns : List ℕ) (lines : List Line) (es : List Row) (qs : Pairs) → AreListed ns lines → other_than ns (placed lines es qs) ≡ other_than ns qs
 others_placed ns [] es qs are = refl
 others_placed ns (line ∷ lines) [] qs are = refl
 others_placed ns (line ∷ lines) (e ∷ es) qs are =
@@ -128,7 +128,7 @@ if_proper : (k : ℕ) (o : Option Term) (qs : Pairs) → k < 2 ^ 63 → value_un
 if_proper k None qs small none value proper = proper
 if_proper k (Some t) qs small none value proper = put_proper k t qs small none value proper
 
-pub placed_proper : (least : ℕ) (ps : Pairs) (low : ℕ) (lines : List Line) (es : List Entry) (qs : Pairs) → Facts least ps lines es → Rising low lines → AreFree lines qs → ArePairsProper ps
+pub placed_proper : (least : ℕ) (ps : Pairs) (low : ℕ) (lines : List Line) (es : List Row) (qs : Pairs) → Facts least ps lines es → Rising low lines → AreFree lines qs → ArePairsProper ps
     → IsProperMap qs → IsProperMap (placed lines es qs)
 placed_proper least ps low [] [] qs facts up free read proper = proper
 placed_proper least ps low (line ∷ lines) (e ∷ es) qs facts up free read proper =
@@ -155,7 +155,7 @@ if_within n k (Some t) qs value deep =
     let bound : depth t ≤ n = value in
     put_within n (number k) t qs (omega (arith, level, bound)) value deep
 
-pub placed_within : (least : ℕ) (ps : Pairs) (n : ℕ) (lines : List Line) (es : List Entry) (qs : Pairs) → Facts least ps lines es → least ≤ n → pairs_depth ps ≤ n → pairs_depth qs ≤ n
+pub placed_within : (least : ℕ) (ps : Pairs) (n : ℕ) (lines : List Line) (es : List Row) (qs : Pairs) → Facts least ps lines es → least ≤ n → pairs_depth ps ≤ n → pairs_depth qs ≤ n
     → pairs_depth (placed lines es qs) ≤ n
 placed_within least ps n [] [] qs facts le read deep = deep
 placed_within least ps n (line ∷ lines) (e ∷ es) qs facts le read deep =

@@ -1,41 +1,32 @@
 -- Processes: RFC 9393, section 2.9.2.
-use Rattle.std.proofs.Common.{◌≡◌, List, [], ◌∷◌, None, refl, sym, ◌∙◌, arith}
+use Rattle.std.proofs.Common.{◌≡◌, None, refl, sym, ◌∙◌, arith}
 use Rattle.cbor_det.specs.Lookup.{other_than}
-use Rattle.cbor_det.specs.Term.{Pairs, map, text, integer}
+use Rattle.cbor_det.specs.Term.{Pairs, map}
 use Rattle.cbor_det.specs.View.{pairs_view}
 use Rattle.coswid_res.specs.Schema as schema
 use Rattle.coswid_res.specs.Schema.{table, keys_of, one_or_more, a_map}
 use Rattle.coswid_res.specs.Reading.{keys_fault}
 use Rattle.coswid_res.specs.Resources.{ProcessKeys, ProcessMap}
-use Rattle.coswid_res.specs.ResourceItems.{process_pairs, processes_item}
+use Rattle.coswid_res.specs.ResourceItems.{process_rows, process_pairs, processes_item}
 use Rattle.coswid_res.specs.Words.{OneOrMore}
 use Rattle.coswid_res.specs.declared.resources.process.ProcessEntry.{ProcessEntry}
 use Rattle.coswid_codec.proofs.Plain.{integer_law, text_law}
 use Rattle.coswid_codec.proofs.Several.{several_law}
 use Rattle.coswid_codec.proofs.Extras.{extras_some, extras_same}
 use Rattle.coswid_codec.proofs.Lawful.{Lawful, MapTold, MapLawful}
-use Rattle.coswid_codec.proofs.Lines.{lines_of, required_again, required_same, required_some, optional_again, optional_same, optional_some, map_law}
-use Rattle.coswid_codec.proofs.Facts.{Entry, Facts, required_entry, required_fact, optional_entry, optional_fact}
+use Rattle.coswid_codec.proofs.Lines.{line_none, required_again, required_same, required_some, optional_again, optional_same, optional_some, map_law}
+use Rattle.coswid_codec.proofs.Facts.{◌⨾◌, Facts, required_fact, optional_fact}
 use Rattle.coswid_codec.proofs.Tables.{made}
 
-abbrev entries : ProcessEntry → List Entry
-entries p =
-    required_entry 27 text p.process_name
-    ∷ optional_entry 28 integer p.pid
-    ∷ []
-
-facts : (p : ProcessEntry) (ps : Pairs) → ProcessKeys p ps → Facts 0 ps (table schema.process) (entries p)
-facts p ps is = (
-  required_fact 0 27 p.process_name ps text_law (omega arith) is.process_name,
-  (
-    optional_fact 0 28 p.pid ps integer_law (omega arith) is.pid,
-    tt,
-  ),
-)
+facts : (p : ProcessEntry) (ps : Pairs) → ProcessKeys p ps → Facts 0 ps (table schema.process) (process_rows p)
+facts p ps is =
+    required_fact 0 27 p.process_name ps text_law (omega arith) is.process_name
+    ⨾ optional_fact 0 28 p.pid ps integer_law (omega arith) is.pid
+    ⨾ tt
 
 told : (p : ProcessEntry) (ps : Pairs) → ProcessKeys p ps → MapTold schema.process ProcessKeys process_pairs 0 p ps
 told p ps is =
-    let all = made schema.process (entries p) (pairs_view p.extras) 0 ps (facts p ps is) is.extras in
+    let all = made schema.process (process_rows p) (pairs_view p.extras) 0 ps (facts p ps is) is.extras in
     record {
       none = all.none;
       again = record {
@@ -61,10 +52,9 @@ same a b ps first second =
 
 some : (ps : Pairs) → keys_fault schema.process ps ≡ None → (p : ProcessEntry) × ProcessKeys p ps
 some ps none =
-    let lines_0 = lines_of schema.process ps none in
-    let process_name = required_some 27 ps text_law lines_0.0 in
-    let lines_1 = lines_0.1 in
-    let pid = optional_some 28 ps integer_law lines_1.0 in
+    let none_at = line_none schema.process ps none in
+    let process_name = required_some 27 ps text_law (none_at 27 _ refl) in
+    let pid = optional_some 28 ps integer_law (none_at 28 _ refl) in
     let extras = extras_some (other_than (keys_of (table schema.process)) ps) in (
       record { process_name = process_name.0; pid = pid.0; extras = extras.0 },
       record { process_name = process_name.1; pid = pid.1; extras = extras.1 },

@@ -1,19 +1,19 @@
 -- A map by its table: what follows for the map that is written.
 use Rattle.std.proofs.Common.{◌≡◌, ◌≤◌, ◌+◌, ℕ, max, true, List, [], ◌∷◌, length, Option, Some, None, refl, sym, ap, ◌∙◌, subst, arith}
 use Rattle.std.specs.Prelude.{IfSome}
+use Rattle.cbor_det.specs.Laid.{Row, put_rows}
 use Rattle.cbor_det.specs.Lookup.{value_under, other_than}
 use Rattle.cbor_det.specs.Proper.{IsProperMap}
 use Rattle.cbor_det.specs.Term.{Term, Pairs, map, pair_count, pairs_depth}
 use Rattle.cbor_det.proofs.Counts.{most, pairs_most}
 use Rattle.coswid_res.specs.Fault.{absent, missing}
-use Rattle.coswid_res.specs.Items.{put_all}
 use Rattle.coswid_res.specs.Reading.{value_fault, line_fault, lines_fault, keys_fault}
 use Rattle.coswid_res.specs.Schema.{Name, tag, entity, link, software_meta, payload, evidence, directory, path_elements, file, process, resource, table, Line, Field, required, optional, key_of, keys_of, required_keys}
 use Rattle.coswid_res.proofs.Lines.{table_rises, none_first}
 use Rattle.coswid_res.proofs.Maps.{or_none}
 use Rattle.coswid_codec.proofs.Fields.{number, others_again}
 use Rattle.coswid_codec.proofs.Lengths.{others_count, others_most, put_count, put_most}
-use Rattle.coswid_codec.proofs.Facts.{Entry, fills, put_if, Facts}
+use Rattle.coswid_codec.proofs.Facts.{put_if, Facts}
 use Rattle.coswid_codec.proofs.Placed.{AreFree, table_listed, all_free, placed, fills_placed, look, is_line, looked, others_placed, placed_proper, placed_within, others_proper, others_within}
 
 -- No line has a fault.
@@ -21,7 +21,7 @@ use Rattle.coswid_codec.proofs.Placed.{AreFree, table_listed, all_free, placed, 
 required_none : (k : ℕ) (field : Field) (ps : Pairs) → line_fault (required k field) ps ≡ None → absent k (value_under k ps) ≡ None
 required_none k field ps none = (or_none (absent k (value_under k ps)) (value_fault k field (value_under k ps)) none).0
 
-pub none_missing : (least : ℕ) (ps : Pairs) (lines : List Line) (es : List Entry) → Facts least ps lines es → missing (required_keys lines) ps ≡ None
+pub none_missing : (least : ℕ) (ps : Pairs) (lines : List Line) (es : List Row) → Facts least ps lines es → missing (required_keys lines) ps ≡ None
 none_missing least ps [] [] facts = refl
 none_missing least ps (required k field ∷ lines) (e ∷ es) facts =
     none_first (absent k (value_under k ps)) (missing (required_keys lines) ps) (required_none k field ps facts.0.none) ∙ none_missing least ps lines es facts.1
@@ -29,7 +29,7 @@ none_missing least ps (optional k field ∷ lines) (e ∷ es) facts = none_missi
 none_missing least ps [] (e ∷ es) facts = absurd facts
 none_missing least ps (line ∷ lines) [] facts = absurd facts
 
-pub lines_none : (least : ℕ) (ps : Pairs) (lines : List Line) (es : List Entry) → Facts least ps lines es → lines_fault lines ps ≡ None
+pub lines_none : (least : ℕ) (ps : Pairs) (lines : List Line) (es : List Row) → Facts least ps lines es → lines_fault lines ps ≡ None
 lines_none least ps [] [] facts = refl
 lines_none least ps (line ∷ lines) (e ∷ es) facts = none_first (line_fault line ps) (lines_fault lines ps) facts.0.none ∙ lines_none least ps lines es facts.1
 lines_none least ps [] (e ∷ es) facts = absurd facts
@@ -41,7 +41,7 @@ if_most : (n k : ℕ) (o : Option Term) (qs : Pairs) → IfSome o (λ t. most t 
 if_most n k None qs value le = le
 if_most n k (Some t) qs value le = put_most n (number k) t qs (omega arith) value le
 
-placed_most : (least : ℕ) (ps : Pairs) (n : ℕ) (lines : List Line) (es : List Entry) (qs : Pairs) → Facts least ps lines es → pairs_most ps ≤ n → pairs_most qs ≤ n + 16
+placed_most : (least : ℕ) (ps : Pairs) (n : ℕ) (lines : List Line) (es : List Row) (qs : Pairs) → Facts least ps lines es → pairs_most ps ≤ n → pairs_most qs ≤ n + 16
     → pairs_most (placed lines es qs) ≤ n + 16
 placed_most least ps n [] [] qs facts read le = le
 placed_most least ps n (line ∷ lines) (e ∷ es) qs facts read le =
@@ -53,7 +53,7 @@ if_count : (k : ℕ) (o : Option Term) (qs : Pairs) → pair_count (put_if k o q
 if_count k None qs = omega arith
 if_count k (Some t) qs = omega (arith, put_count (number k) t qs)
 
-placed_count : (lines : List Line) (es : List Entry) (qs : Pairs) → pair_count (placed lines es qs) ≤ pair_count qs + length lines
+placed_count : (lines : List Line) (es : List Row) (qs : Pairs) → pair_count (placed lines es qs) ≤ pair_count qs + length lines
 placed_count [] es qs = omega arith
 placed_count (line ∷ lines) [] qs = omega arith
 placed_count (line ∷ lines) (e ∷ es) qs =
@@ -72,7 +72,7 @@ table_short file = omega arith
 table_short process = omega arith
 table_short resource = omega arith
 
-placed_few : (least : ℕ) (ps : Pairs) (name : Name) (es : List Entry) (n : ℕ) → Facts least ps (table name) es → most (map ps) ≤ n → (qs : Pairs) → pair_count qs ≤ n → pairs_most qs ≤ n
+placed_few : (least : ℕ) (ps : Pairs) (name : Name) (es : List Row) (n : ℕ) → Facts least ps (table name) es → most (map ps) ≤ n → (qs : Pairs) → pair_count qs ≤ n → pairs_most qs ≤ n
     → most (map (placed (table name) es qs)) ≤ n + 16
 placed_few least ps name es n facts read qs count le =
     let d : max (pair_count ps) (pairs_most ps) ≤ n = read in
@@ -81,18 +81,18 @@ placed_few least ps name es n facts read qs count le =
     omega (arith, l, m, count, table_short name)
 
 -- what follows for the map that is written
-pub record Made (name : Name) (es : List Entry) (xs : Pairs) (least : ℕ) (ps : Pairs) : Type 0 where
+pub record Made (name : Name) (es : List Row) (xs : Pairs) (least : ℕ) (ps : Pairs) : Type 0 where
   pub none : keys_fault name ps ≡ None
-  pub found : (k : ℕ) → is_line k (table name) ≡ true → value_under k (put_all (fills es) xs) ≡ look k (table name) es
-  pub rest : xs ≡ other_than (keys_of (table name)) (put_all (fills es) xs)
-  pub proper : IsProperMap ps → IsProperMap (put_all (fills es) xs)
-  pub within : (n : ℕ) → least ≤ n → pairs_depth ps ≤ n → pairs_depth (put_all (fills es) xs) ≤ n
-  pub few : (n : ℕ) → most (map ps) ≤ n → most (map (put_all (fills es) xs)) ≤ n + 16
+  pub found : (k : ℕ) → is_line k (table name) ≡ true → value_under k (put_rows es xs) ≡ look k (table name) es
+  pub rest : xs ≡ other_than (keys_of (table name)) (put_rows es xs)
+  pub proper : IsProperMap ps → IsProperMap (put_rows es xs)
+  pub within : (n : ℕ) → least ≤ n → pairs_depth ps ≤ n → pairs_depth (put_rows es xs) ≤ n
+  pub few : (n : ℕ) → most (map ps) ≤ n → most (map (put_rows es xs)) ≤ n + 16
 
-pub made : (name : Name) (es : List Entry) (xs : Pairs) (least : ℕ) (ps : Pairs) → Facts least ps (table name) es → xs ≡ other_than (keys_of (table name)) ps → Made name es xs least ps
+pub made : (name : Name) (es : List Row) (xs : Pairs) (least : ℕ) (ps : Pairs) → Facts least ps (table name) es → xs ≡ other_than (keys_of (table name)) ps → Made name es xs least ps
 made name es xs least ps facts is =
     let ns = keys_of (table name) in
-    let e : put_all (fills es) xs ≡ placed (table name) es xs = fills_placed least ps (table name) es xs facts in
+    let e : put_rows es xs ≡ placed (table name) es xs = fills_placed least ps (table name) es xs facts in
     let F : Pairs → Type 0 = λ qs. AreFree (table name) qs in
     let free : AreFree (table name) xs = subst F (sym is) (all_free ns (table name) ps (table_listed name)) in
     let P : Pairs → Type 0 = λ qs. IsProperMap qs in

@@ -1,15 +1,14 @@
 -- The map of a tag: RFC 9393, section 2.3.
-use Rattle.std.proofs.Common.{◌≡◌, List, [], ◌∷◌, None, refl, sym, ◌∙◌, arith}
+use Rattle.std.proofs.Common.{◌≡◌, None, refl, sym, ◌∙◌, arith}
 use Rattle.cbor_det.specs.Lookup.{other_than}
-use Rattle.cbor_det.specs.Term.{Pairs, text, integer, boolean}
+use Rattle.cbor_det.specs.Term.{Pairs}
 use Rattle.cbor_det.specs.View.{pairs_view}
 use Rattle.coswid_res.specs.Schema as schema
 use Rattle.coswid_res.specs.Schema.{table, keys_of}
 use Rattle.coswid_res.specs.Reading.{keys_fault}
-use Rattle.coswid_res.specs.ResourceItems.{payload_item, evidence_item}
 use Rattle.coswid_tag.specs.declared.tag.Tag.{Tag}
 use Rattle.coswid_codec.specs.Forms.{TagKeys}
-use Rattle.coswid_codec.specs.Items.{tag_pairs, identifier_item, code_item, entities_item, links_item, metas_item}
+use Rattle.coswid_codec.specs.Items.{tag_rows, tag_pairs}
 use Rattle.coswid_codec.proofs.Plain.{boolean_law, code_law, identifier_law, integer_law, text_law}
 use Rattle.coswid_codec.proofs.Entities.{entities_law}
 use Rattle.coswid_codec.proofs.EvidenceLaws.{evidence_law}
@@ -18,80 +17,32 @@ use Rattle.coswid_codec.proofs.Metas.{metas_law}
 use Rattle.coswid_codec.proofs.Payloads.{payload_law}
 use Rattle.coswid_codec.proofs.Extras.{extras_some, extras_same}
 use Rattle.coswid_codec.proofs.Lawful.{MapTold, MapLawful}
-use Rattle.coswid_codec.proofs.Lines.{lines_of, required_again, required_same, required_some, optional_again, optional_same, optional_some}
-use Rattle.coswid_codec.proofs.Facts.{Entry, Facts, required_entry, required_fact, optional_entry, optional_fact}
+use Rattle.coswid_codec.proofs.Lines.{line_none, required_again, required_same, required_some, optional_again, optional_same, optional_some}
+use Rattle.coswid_codec.proofs.Facts.{◌⨾◌, Facts, required_fact, optional_fact}
 use Rattle.coswid_codec.proofs.Tables.{made}
 
-abbrev entries : Tag → List Entry
-entries g =
-    required_entry 0 identifier_item g.tag_id
-    ∷ required_entry 1 text g.software_name
-    ∷ required_entry 2 entities_item g.entity
-    ∷ optional_entry 3 evidence_item g.evidence
-    ∷ optional_entry 4 links_item g.link
-    ∷ optional_entry 5 metas_item g.software_meta
-    ∷ optional_entry 6 payload_item g.payload
-    ∷ optional_entry 8 boolean g.corpus
-    ∷ optional_entry 9 boolean g.patch
-    ∷ optional_entry 10 text g.media
-    ∷ optional_entry 11 boolean g.supplemental
-    ∷ required_entry 12 integer g.tag_version
-    ∷ optional_entry 13 text g.software_version
-    ∷ optional_entry 14 code_item g.version_scheme
-    ∷ optional_entry 15 text g.lang
-    ∷ []
-
-facts : (g : Tag) (ps : Pairs) → TagKeys g ps → Facts 4 ps (table schema.tag) (entries g)
-facts g ps is = (
-  required_fact 4 0 g.tag_id ps identifier_law (omega arith) is.tag_id,
-  (
-    required_fact 4 1 g.software_name ps text_law (omega arith) is.software_name,
-    (
-      required_fact 4 2 g.entity ps entities_law (omega arith) is.entity,
-      (
-        optional_fact 4 3 g.evidence ps evidence_law (omega arith) is.evidence,
-        (
-          optional_fact 4 4 g.link ps links_law (omega arith) is.link,
-          (
-            optional_fact 4 5 g.software_meta ps metas_law (omega arith) is.software_meta,
-            (
-              optional_fact 4 6 g.payload ps payload_law (omega arith) is.payload,
-              (
-                optional_fact 4 8 g.corpus ps boolean_law (omega arith) is.corpus,
-                (
-                  optional_fact 4 9 g.patch ps boolean_law (omega arith) is.patch,
-                  (
-                    optional_fact 4 10 g.media ps text_law (omega arith) is.media,
-                    (
-                      optional_fact 4 11 g.supplemental ps boolean_law (omega arith) is.supplemental,
-                      (
-                        required_fact 4 12 g.tag_version ps integer_law (omega arith) is.tag_version,
-                        (
-                          optional_fact 4 13 g.software_version ps text_law (omega arith) is.software_version,
-                          (
-                            optional_fact 4 14 g.version_scheme ps code_law (omega arith) is.version_scheme,
-                            (
-                              optional_fact 4 15 g.lang ps text_law (omega arith) is.lang,
-                              tt,
-                            ),
-                          ),
-                        ),
-                      ),
-                    ),
-                  ),
-                ),
-              ),
-            ),
-          ),
-        ),
-      ),
-    ),
-  ),
-)
+facts : (g : Tag) (ps : Pairs) → TagKeys g ps → Facts 4 ps (table schema.tag) (tag_rows g)
+facts g ps is =
+    required_fact 4 0 g.tag_id ps identifier_law (omega arith) is.tag_id
+    ⨾ required_fact 4 1 g.software_name ps text_law (omega arith) is.software_name
+    ⨾ required_fact 4 2 g.entity ps entities_law (omega arith) is.entity
+    ⨾ optional_fact 4 3 g.evidence ps evidence_law (omega arith) is.evidence
+    ⨾ optional_fact 4 4 g.link ps links_law (omega arith) is.link
+    ⨾ optional_fact 4 5 g.software_meta ps metas_law (omega arith) is.software_meta
+    ⨾ optional_fact 4 6 g.payload ps payload_law (omega arith) is.payload
+    ⨾ optional_fact 4 8 g.corpus ps boolean_law (omega arith) is.corpus
+    ⨾ optional_fact 4 9 g.patch ps boolean_law (omega arith) is.patch
+    ⨾ optional_fact 4 10 g.media ps text_law (omega arith) is.media
+    ⨾ optional_fact 4 11 g.supplemental ps boolean_law (omega arith) is.supplemental
+    ⨾ required_fact 4 12 g.tag_version ps integer_law (omega arith) is.tag_version
+    ⨾ optional_fact 4 13 g.software_version ps text_law (omega arith) is.software_version
+    ⨾ optional_fact 4 14 g.version_scheme ps code_law (omega arith) is.version_scheme
+    ⨾ optional_fact 4 15 g.lang ps text_law (omega arith) is.lang
+    ⨾ tt
 
 told : (g : Tag) (ps : Pairs) → TagKeys g ps → MapTold schema.tag TagKeys tag_pairs 4 g ps
 told g ps is =
-    let all = made schema.tag (entries g) (pairs_view g.extras) 4 ps (facts g ps is) is.extras in
+    let all = made schema.tag (tag_rows g) (pairs_view g.extras) 4 ps (facts g ps is) is.extras in
     record {
       none = all.none;
       again = record {
@@ -143,36 +94,22 @@ same a b ps first second =
 
 some : (ps : Pairs) → keys_fault schema.tag ps ≡ None → (g : Tag) × TagKeys g ps
 some ps none =
-    let lines_0 = lines_of schema.tag ps none in
-    let tag_id = required_some 0 ps identifier_law lines_0.0 in
-    let lines_1 = lines_0.1 in
-    let software_name = required_some 1 ps text_law lines_1.0 in
-    let lines_2 = lines_1.1 in
-    let entity = required_some 2 ps entities_law lines_2.0 in
-    let lines_3 = lines_2.1 in
-    let evidence = optional_some 3 ps evidence_law lines_3.0 in
-    let lines_4 = lines_3.1 in
-    let link = optional_some 4 ps links_law lines_4.0 in
-    let lines_5 = lines_4.1 in
-    let software_meta = optional_some 5 ps metas_law lines_5.0 in
-    let lines_6 = lines_5.1 in
-    let payload = optional_some 6 ps payload_law lines_6.0 in
-    let lines_7 = lines_6.1 in
-    let corpus = optional_some 8 ps boolean_law lines_7.0 in
-    let lines_8 = lines_7.1 in
-    let patch = optional_some 9 ps boolean_law lines_8.0 in
-    let lines_9 = lines_8.1 in
-    let media = optional_some 10 ps text_law lines_9.0 in
-    let lines_10 = lines_9.1 in
-    let supplemental = optional_some 11 ps boolean_law lines_10.0 in
-    let lines_11 = lines_10.1 in
-    let tag_version = required_some 12 ps integer_law lines_11.0 in
-    let lines_12 = lines_11.1 in
-    let software_version = optional_some 13 ps text_law lines_12.0 in
-    let lines_13 = lines_12.1 in
-    let version_scheme = optional_some 14 ps code_law lines_13.0 in
-    let lines_14 = lines_13.1 in
-    let lang = optional_some 15 ps text_law lines_14.0 in
+    let none_at = line_none schema.tag ps none in
+    let tag_id = required_some 0 ps identifier_law (none_at 0 _ refl) in
+    let software_name = required_some 1 ps text_law (none_at 1 _ refl) in
+    let entity = required_some 2 ps entities_law (none_at 2 _ refl) in
+    let evidence = optional_some 3 ps evidence_law (none_at 3 _ refl) in
+    let link = optional_some 4 ps links_law (none_at 4 _ refl) in
+    let software_meta = optional_some 5 ps metas_law (none_at 5 _ refl) in
+    let payload = optional_some 6 ps payload_law (none_at 6 _ refl) in
+    let corpus = optional_some 8 ps boolean_law (none_at 8 _ refl) in
+    let patch = optional_some 9 ps boolean_law (none_at 9 _ refl) in
+    let media = optional_some 10 ps text_law (none_at 10 _ refl) in
+    let supplemental = optional_some 11 ps boolean_law (none_at 11 _ refl) in
+    let tag_version = required_some 12 ps integer_law (none_at 12 _ refl) in
+    let software_version = optional_some 13 ps text_law (none_at 13 _ refl) in
+    let version_scheme = optional_some 14 ps code_law (none_at 14 _ refl) in
+    let lang = optional_some 15 ps text_law (none_at 15 _ refl) in
     let extras = extras_some (other_than (keys_of (table schema.tag)) ps) in (
       record { tag_id = tag_id.0; software_name = software_name.0; entity = entity.0; evidence = evidence.0; link = link.0; software_meta = software_meta.0; payload = payload.0; corpus = corpus.0; patch = patch.0; media = media.0; supplemental = supplemental.0; tag_version = tag_version.0; software_version = software_version.0; version_scheme = version_scheme.0; lang = lang.0; extras = extras.0 },
       record { tag_id = tag_id.1; software_name = software_name.1; entity = entity.1; evidence = evidence.1; link = link.1; software_meta = software_meta.1; payload = payload.1; corpus = corpus.1; patch = patch.1; media = media.1; supplemental = supplemental.1; tag_version = tag_version.1; software_version = software_version.1; version_scheme = version_scheme.1; lang = lang.1; extras = extras.1 },

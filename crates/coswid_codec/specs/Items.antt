@@ -1,8 +1,9 @@
 -- The one item that a tag is written as: RFC 9393, section 2, under the tag of section 8.
 use Rattle.std.specs.Prelude.{List, [], ◌∷◌, map as map_list}
+use Rattle.cbor_det.specs.Laid.{Row, put_rows}
 use Rattle.cbor_det.specs.Term.{Term, Pairs, integer, octets, text, map, tagged, boolean}
 use Rattle.cbor_det.specs.View.{pairs_view}
-use Rattle.coswid_res.specs.Items.{uri_item, hash_item, row_item, required_pair, optional_pair, put_all}
+use Rattle.coswid_res.specs.Items.{uri_item, hash_item, row_item, required_pair, optional_pair}
 use Rattle.coswid_res.specs.Keys as keys
 use Rattle.coswid_res.specs.ResourceItems.{payload_item, evidence_item}
 use Rattle.coswid_tag.specs.declared.entity.Entity.{Entity}
@@ -26,21 +27,22 @@ code_item (code.Text s) = text s
 abbrev pub codes_item : List CodeValue → Term
 codes_item cs = row_item (map_list code_item cs)
 
-abbrev pub entity_pairs : Entity → Pairs
-entity_pairs e =
-    put_all (
+abbrev pub entity_rows : Entity → List Row
+entity_rows e =
     required_pair keys.entity_name text e.entity_name
     ∷ optional_pair keys.reg_id uri_item e.reg_id
     ∷ required_pair keys.role codes_item e.role
     ∷ optional_pair keys.thumbprint hash_item e.thumbprint
-    ∷ []) (pairs_view e.extras)
+    ∷ []
+
+abbrev pub entity_pairs : Entity → Pairs
+entity_pairs e = put_rows (entity_rows e) (pairs_view e.extras)
 
 abbrev pub entities_item : List Entity → Term
 entities_item es = row_item (map_list (λ e. map (entity_pairs e)) es)
 
-abbrev pub link_pairs : LinkEntry → Pairs
-link_pairs l =
-    put_all (
+abbrev pub link_rows : LinkEntry → List Row
+link_rows l =
     optional_pair keys.media text l.media
     ∷ optional_pair keys.artifact text l.artifact
     ∷ required_pair keys.href uri_item l.href
@@ -48,14 +50,16 @@ link_pairs l =
     ∷ required_pair keys.rel code_item l.rel
     ∷ optional_pair keys.media_type text l.media_type
     ∷ optional_pair keys.link_use code_item l.link_use
-    ∷ []) (pairs_view l.extras)
+    ∷ []
+
+abbrev pub link_pairs : LinkEntry → Pairs
+link_pairs l = put_rows (link_rows l) (pairs_view l.extras)
 
 abbrev pub links_item : List LinkEntry → Term
 links_item ls = row_item (map_list (λ l. map (link_pairs l)) ls)
 
-abbrev pub meta_pairs : SoftwareMeta → Pairs
-meta_pairs m =
-    put_all (
+abbrev pub meta_rows : SoftwareMeta → List Row
+meta_rows m =
     optional_pair keys.activation_status text m.activation_status
     ∷ optional_pair keys.channel_type text m.channel_type
     ∷ optional_pair keys.colloquial_version text m.colloquial_version
@@ -71,14 +75,16 @@ meta_pairs m =
     ∷ optional_pair keys.summary text m.summary
     ∷ optional_pair keys.unspsc_code text m.unspsc_code
     ∷ optional_pair keys.unspsc_version text m.unspsc_version
-    ∷ []) (pairs_view m.extras)
+    ∷ []
+
+abbrev pub meta_pairs : SoftwareMeta → Pairs
+meta_pairs m = put_rows (meta_rows m) (pairs_view m.extras)
 
 abbrev pub metas_item : List SoftwareMeta → Term
 metas_item ms = row_item (map_list (λ m. map (meta_pairs m)) ms)
 
-abbrev pub tag_pairs : Tag → Pairs
-tag_pairs g =
-    put_all (
+abbrev pub tag_rows : Tag → List Row
+tag_rows g =
     required_pair keys.tag_id identifier_item g.tag_id
     ∷ required_pair keys.software_name text g.software_name
     ∷ required_pair keys.entity entities_item g.entity
@@ -94,7 +100,10 @@ tag_pairs g =
     ∷ optional_pair keys.software_version text g.software_version
     ∷ optional_pair keys.version_scheme code_item g.version_scheme
     ∷ optional_pair keys.lang text g.lang
-    ∷ []) (pairs_view g.extras)
+    ∷ []
+
+abbrev pub tag_pairs : Tag → Pairs
+tag_pairs g = put_rows (tag_rows g) (pairs_view g.extras)
 
 abbrev pub tag_item : Tag → Term
 tag_item g = tagged coswid (map (tag_pairs g))

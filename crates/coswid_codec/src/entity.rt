@@ -6,10 +6,10 @@ ghost use Rattle.coswid_res.specs.Schema as schema;
 
 use crate::key;
 use cbor_det::Pairs;
-use coswid_res::{FormRefused, Mapped};
+use coswid_res::{FormRefused, Mapped, count};
 use coswid_tag::Entity;
 use std::alloc::Global;
-use wire_base::{Memory, TryCopy};
+use wire_base::{Memory, Octets};
 
 /// The table of entities.
 pub(crate) struct EntityTable;
@@ -22,8 +22,6 @@ impl Mapped for EntityTable {
     ghost keys = { EntityKeys };
 
     ghost written = { entity_pairs };
-
-    ghost fits = { λ v. Unit {0} };
 
     fn read(alloc: Global, pairs: &Pairs) -> Result<Entity, FormRefused> {
         key::EntityName::expect(alloc, pairs)?;
@@ -42,12 +40,14 @@ impl Mapped for EntityTable {
         })
     }
 
-    fn write(entity: &Entity) -> Result<Pairs, Memory> {
-        let mut pairs = entity.extras.copy()?;
-        key::EntityName::put(&mut pairs, &entity.entity_name)?;
-        key::RegId::put_optional(&mut pairs, &entity.reg_id)?;
-        key::Role::put_row(&mut pairs, &entity.role)?;
-        key::Thumbprint::put_optional(&mut pairs, &entity.thumbprint)?;
-        Ok(pairs)
+    fn spell(out: &mut Octets, entity: &Entity) -> Result<(), Memory> {
+        let others = &entity.extras;
+        let more = 2 + count(&entity.reg_id) + count(&entity.thumbprint);
+        others.put_head_with(out, more)?;
+        let place = key::EntityName::spell(out, others, 0, &entity.entity_name)?;
+        let place = key::RegId::spell_optional(out, others, place, &entity.reg_id)?;
+        let place = key::Role::spell_row(out, others, place, &entity.role)?;
+        let place = key::Thumbprint::spell_optional(out, others, place, &entity.thumbprint)?;
+        Ok(others.put_from(out, place)?)
     }
 }

@@ -8,11 +8,11 @@ ghost use Rattle.cbor_det.specs.Term.{octets as octets_item};
 ghost use Rattle.coswid_res.specs.Fault.{unless_wrong};
 ghost use Rattle.coswid_res.specs.Reading.{Gives};
 
-use cbor_det::Item;
+use cbor_det::{Item, put_bytes, put_integer, put_text};
 use coswid_res::{Form, FormRefused, WRONG_FORM};
 use coswid_tag::{CodeValue, TagId};
 use std::alloc::Global;
-use wire_base::{List, Memory, Octets, TryCopy};
+use wire_base::{Memory, Octets, TryCopy};
 
 /// An identifier: a text, or the 16 octets of a UUID.
 pub(crate) struct IdentifierForm;
@@ -26,8 +26,6 @@ impl Form for IdentifierForm {
 
     ghost written = { identifier_item };
 
-    ghost fits = { λ v. Unit {0} };
-
     fn read(alloc: Global, item: &Item) -> Result<TagId, FormRefused> {
         match item {
             Item::Text(text) => Ok(TagId::Text(text.copy()?)),
@@ -36,13 +34,10 @@ impl Form for IdentifierForm {
         }
     }
 
-    fn write(alloc: Global, value: &TagId) -> Result<Item, Memory> {
+    fn spell(out: &mut Octets, value: &TagId) -> Result<(), Memory> {
         match value {
-            TagId::Text(text) => Ok(Item::Text(text.copy()?)),
-            TagId::Uuid(octets) => {
-                let octets = Vec::from_slice(alloc, octets.as_slice())?;
-                Ok(Item::Bytes(List::from_vec(octets)))
-            }
+            TagId::Text(text) => put_text(out, text.as_str()),
+            TagId::Uuid(octets) => put_bytes(out, octets.as_slice()),
         }
     }
 }
@@ -68,8 +63,6 @@ impl Form for CodeForm {
 
     ghost written = { code_item };
 
-    ghost fits = { λ v. Unit {0} };
-
     fn read(alloc: Global, item: &Item) -> Result<CodeValue, FormRefused> {
         match item {
             Item::Int(number) => Ok(CodeValue::Int(*number)),
@@ -78,10 +71,10 @@ impl Form for CodeForm {
         }
     }
 
-    fn write(_alloc: Global, value: &CodeValue) -> Result<Item, Memory> {
+    fn spell(out: &mut Octets, value: &CodeValue) -> Result<(), Memory> {
         match value {
-            CodeValue::Int(number) => Ok(Item::Int(*number)),
-            CodeValue::Text(text) => Ok(Item::Text(text.copy()?)),
+            CodeValue::Int(number) => put_integer(out, *number),
+            CodeValue::Text(text) => put_text(out, text.as_str()),
         }
     }
 }

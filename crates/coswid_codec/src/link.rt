@@ -6,10 +6,10 @@ ghost use Rattle.coswid_res.specs.Schema as schema;
 
 use crate::key;
 use cbor_det::Pairs;
-use coswid_res::{FormRefused, Mapped};
+use coswid_res::{FormRefused, Mapped, count};
 use coswid_tag::LinkEntry;
 use std::alloc::Global;
-use wire_base::{Memory, TryCopy};
+use wire_base::{Memory, Octets};
 
 /// The table of links.
 pub(crate) struct LinkTable;
@@ -22,8 +22,6 @@ impl Mapped for LinkTable {
     ghost keys = { LinkKeys };
 
     ghost written = { link_pairs };
-
-    ghost fits = { λ v. Unit {0} };
 
     fn read(alloc: Global, pairs: &Pairs) -> Result<LinkEntry, FormRefused> {
         key::Href::expect(alloc, pairs)?;
@@ -48,15 +46,22 @@ impl Mapped for LinkTable {
         })
     }
 
-    fn write(link: &LinkEntry) -> Result<Pairs, Memory> {
-        let mut pairs = link.extras.copy()?;
-        key::Media::put_optional(&mut pairs, &link.media)?;
-        key::Artifact::put_optional(&mut pairs, &link.artifact)?;
-        key::Href::put(&mut pairs, &link.href)?;
-        key::Ownership::put_optional(&mut pairs, &link.ownership)?;
-        key::Rel::put(&mut pairs, &link.rel)?;
-        key::MediaType::put_optional(&mut pairs, &link.media_type)?;
-        key::LinkUse::put_optional(&mut pairs, &link.link_use)?;
-        Ok(pairs)
+    fn spell(out: &mut Octets, link: &LinkEntry) -> Result<(), Memory> {
+        let others = &link.extras;
+        let more = 2
+            + count(&link.media)
+            + count(&link.artifact)
+            + count(&link.ownership)
+            + count(&link.media_type)
+            + count(&link.link_use);
+        others.put_head_with(out, more)?;
+        let place = key::Media::spell_optional(out, others, 0, &link.media)?;
+        let place = key::Artifact::spell_optional(out, others, place, &link.artifact)?;
+        let place = key::Href::spell(out, others, place, &link.href)?;
+        let place = key::Ownership::spell_optional(out, others, place, &link.ownership)?;
+        let place = key::Rel::spell(out, others, place, &link.rel)?;
+        let place = key::MediaType::spell_optional(out, others, place, &link.media_type)?;
+        let place = key::LinkUse::spell_optional(out, others, place, &link.link_use)?;
+        Ok(others.put_from(out, place)?)
     }
 }

@@ -6,10 +6,10 @@ ghost use Rattle.coswid_res.specs.Schema as schema;
 
 use crate::key;
 use cbor_det::Pairs;
-use coswid_res::{FormRefused, Mapped};
+use coswid_res::{FormRefused, Mapped, count};
 use coswid_tag::SoftwareMeta;
 use std::alloc::Global;
-use wire_base::{Memory, TryCopy};
+use wire_base::{Memory, Octets};
 
 /// The table of descriptions of software.
 pub(crate) struct MetaTable;
@@ -22,8 +22,6 @@ impl Mapped for MetaTable {
     ghost keys = { MetaKeys };
 
     ghost written = { meta_pairs };
-
-    ghost fits = { λ v. Unit {0} };
 
     fn read(alloc: Global, pairs: &Pairs) -> Result<SoftwareMeta, FormRefused> {
         let activation_status = key::ActivationStatus::optional(alloc, pairs)?;
@@ -62,23 +60,49 @@ impl Mapped for MetaTable {
         })
     }
 
-    fn write(meta: &SoftwareMeta) -> Result<Pairs, Memory> {
-        let mut pairs = meta.extras.copy()?;
-        key::ActivationStatus::put_optional(&mut pairs, &meta.activation_status)?;
-        key::ChannelType::put_optional(&mut pairs, &meta.channel_type)?;
-        key::ColloquialVersion::put_optional(&mut pairs, &meta.colloquial_version)?;
-        key::Description::put_optional(&mut pairs, &meta.description)?;
-        key::Edition::put_optional(&mut pairs, &meta.edition)?;
-        key::EntitlementDataRequired::put_optional(&mut pairs, &meta.entitlement_data_required)?;
-        key::EntitlementKey::put_optional(&mut pairs, &meta.entitlement_key)?;
-        key::Generator::put_optional(&mut pairs, &meta.generator)?;
-        key::PersistentId::put_optional(&mut pairs, &meta.persistent_id)?;
-        key::Product::put_optional(&mut pairs, &meta.product)?;
-        key::ProductFamily::put_optional(&mut pairs, &meta.product_family)?;
-        key::Revision::put_optional(&mut pairs, &meta.revision)?;
-        key::Summary::put_optional(&mut pairs, &meta.summary)?;
-        key::UnspscCode::put_optional(&mut pairs, &meta.unspsc_code)?;
-        key::UnspscVersion::put_optional(&mut pairs, &meta.unspsc_version)?;
-        Ok(pairs)
+    fn spell(out: &mut Octets, meta: &SoftwareMeta) -> Result<(), Memory> {
+        let others = &meta.extras;
+        let more = count(&meta.activation_status)
+            + count(&meta.channel_type)
+            + count(&meta.colloquial_version)
+            + count(&meta.description)
+            + count(&meta.edition)
+            + count(&meta.entitlement_data_required)
+            + count(&meta.entitlement_key)
+            + count(&meta.generator)
+            + count(&meta.persistent_id)
+            + count(&meta.product)
+            + count(&meta.product_family)
+            + count(&meta.revision)
+            + count(&meta.summary)
+            + count(&meta.unspsc_code)
+            + count(&meta.unspsc_version);
+        others.put_head_with(out, more)?;
+        let place = key::ActivationStatus::spell_optional(out, others, 0, &meta.activation_status)?;
+        let place = key::ChannelType::spell_optional(out, others, place, &meta.channel_type)?;
+        let place = key::ColloquialVersion::spell_optional(
+            out,
+            others,
+            place,
+            &meta.colloquial_version,
+        )?;
+        let place = key::Description::spell_optional(out, others, place, &meta.description)?;
+        let place = key::Edition::spell_optional(out, others, place, &meta.edition)?;
+        let place = key::EntitlementDataRequired::spell_optional(
+            out,
+            others,
+            place,
+            &meta.entitlement_data_required,
+        )?;
+        let place = key::EntitlementKey::spell_optional(out, others, place, &meta.entitlement_key)?;
+        let place = key::Generator::spell_optional(out, others, place, &meta.generator)?;
+        let place = key::PersistentId::spell_optional(out, others, place, &meta.persistent_id)?;
+        let place = key::Product::spell_optional(out, others, place, &meta.product)?;
+        let place = key::ProductFamily::spell_optional(out, others, place, &meta.product_family)?;
+        let place = key::Revision::spell_optional(out, others, place, &meta.revision)?;
+        let place = key::Summary::spell_optional(out, others, place, &meta.summary)?;
+        let place = key::UnspscCode::spell_optional(out, others, place, &meta.unspsc_code)?;
+        let place = key::UnspscVersion::spell_optional(out, others, place, &meta.unspsc_version)?;
+        Ok(others.put_from(out, place)?)
     }
 }

@@ -5,7 +5,6 @@ ghost use Rattle.cbor_det.specs.View.{pairs_view};
 ghost use Rattle.coswid_codec.specs.Forms.{TagKeys};
 ghost use Rattle.coswid_codec.specs.LastKeys.{LastKeys};
 ghost use Rattle.coswid_codec.specs.Items.{tag_pairs};
-ghost use Rattle.coswid_codec.specs.SizesFit.{SizesFit};
 ghost use Rattle.coswid_res.specs.Fault.{missing};
 ghost use Rattle.coswid_res.specs.Reading.{Gives, lines_fault};
 ghost use Rattle.coswid_res.specs.Schema as schema;
@@ -13,10 +12,10 @@ ghost use Rattle.coswid_res.specs.Schema.{table, required_keys};
 
 use crate::key;
 use cbor_det::Pairs;
-use coswid_res::{FormRefused, Mapped};
+use coswid_res::{FormRefused, Mapped, count};
 use coswid_tag::{CodeValue, Tag};
 use std::alloc::Global;
-use wire_base::{Memory, Text, TryCopy};
+use wire_base::{Memory, Octets, Text};
 
 /// The table of tags.
 pub(crate) struct TagTable;
@@ -29,8 +28,6 @@ impl Mapped for TagTable {
     ghost keys = { TagKeys };
 
     ghost written = { tag_pairs };
-
-    ghost fits = { SizesFit };
 
     fn read(alloc: Global, pairs: &Pairs) -> Result<Tag, FormRefused> {
         expect_required(alloc, pairs)?;
@@ -63,24 +60,42 @@ impl Mapped for TagTable {
         })
     }
 
-    fn write(tag: &Tag) -> Result<Pairs, Memory> {
-        let mut pairs = tag.extras.copy()?;
-        key::TagId::put(&mut pairs, &tag.tag_id)?;
-        key::SoftwareName::put(&mut pairs, &tag.software_name)?;
-        key::Entity::put_row(&mut pairs, &tag.entity)?;
-        key::Evidence::put_optional(&mut pairs, &tag.evidence)?;
-        key::Link::put_optional_row(&mut pairs, &tag.link)?;
-        key::SoftwareMeta::put_optional_row(&mut pairs, &tag.software_meta)?;
-        key::Payload::put_optional(&mut pairs, &tag.payload)?;
-        key::Corpus::put_optional(&mut pairs, &tag.corpus)?;
-        key::Patch::put_optional(&mut pairs, &tag.patch)?;
-        key::Media::put_optional(&mut pairs, &tag.media)?;
-        key::Supplemental::put_optional(&mut pairs, &tag.supplemental)?;
-        key::TagVersion::put(&mut pairs, &tag.tag_version)?;
-        key::SoftwareVersion::put_optional(&mut pairs, &tag.software_version)?;
-        key::VersionScheme::put_optional(&mut pairs, &tag.version_scheme)?;
-        key::Lang::put_optional(&mut pairs, &tag.lang)?;
-        Ok(pairs)
+    fn spell(out: &mut Octets, tag: &Tag) -> Result<(), Memory> {
+        let others = &tag.extras;
+        let more = 4
+            + count(&tag.evidence)
+            + count(&tag.link)
+            + count(&tag.software_meta)
+            + count(&tag.payload)
+            + count(&tag.corpus)
+            + count(&tag.patch)
+            + count(&tag.media)
+            + count(&tag.supplemental)
+            + count(&tag.software_version)
+            + count(&tag.version_scheme)
+            + count(&tag.lang);
+        others.put_head_with(out, more)?;
+        let place = key::TagId::spell(out, others, 0, &tag.tag_id)?;
+        let place = key::SoftwareName::spell(out, others, place, &tag.software_name)?;
+        let place = key::Entity::spell_row(out, others, place, &tag.entity)?;
+        let place = key::Evidence::spell_optional(out, others, place, &tag.evidence)?;
+        let place = key::Link::spell_optional_row(out, others, place, &tag.link)?;
+        let place = key::SoftwareMeta::spell_optional_row(out, others, place, &tag.software_meta)?;
+        let place = key::Payload::spell_optional(out, others, place, &tag.payload)?;
+        let place = key::Corpus::spell_optional(out, others, place, &tag.corpus)?;
+        let place = key::Patch::spell_optional(out, others, place, &tag.patch)?;
+        let place = key::Media::spell_optional(out, others, place, &tag.media)?;
+        let place = key::Supplemental::spell_optional(out, others, place, &tag.supplemental)?;
+        let place = key::TagVersion::spell(out, others, place, &tag.tag_version)?;
+        let place = key::SoftwareVersion::spell_optional(
+            out,
+            others,
+            place,
+            &tag.software_version,
+        )?;
+        let place = key::VersionScheme::spell_optional(out, others, place, &tag.version_scheme)?;
+        let place = key::Lang::spell_optional(out, others, place, &tag.lang)?;
+        Ok(others.put_from(out, place)?)
     }
 }
 

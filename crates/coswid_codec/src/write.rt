@@ -3,16 +3,15 @@
 ghost use Rattle.std.specs.Prelude.{◌≡◌, ◌≤◌, IfOk};
 ghost use Rattle.cbor_det.specs.Canonical.{canon};
 ghost use Rattle.cbor_det.specs.Term.{depth};
-ghost use Rattle.cbor_det.specs.View.{view};
 ghost use Rattle.coswid_codec.specs.Items.{tag_item};
 ghost use Rattle.coswid_codec.specs.SizesFit.{SizesFit};
 
 use crate::tag::TagTable;
-use cbor_det::{Item, write_item};
+use cbor_det::put_tag_head;
 use coswid_res::Mapped;
 use coswid_tag::Tag;
 use std::alloc::Global;
-use wire_base::{Boxed, Memory, Octets};
+use wire_base::{List, Memory, Octets};
 
 /// The tag of CoSWID tags (RFC 9393, section 8).
 pub(crate) const COSWID: u64 = 1398229316;
@@ -27,14 +26,8 @@ pub fn write_tag(alloc: Global, tag: &Tag) -> Result<Octets, Memory>
     requires sizes { SizesFit tag.now }
     ensures canonical { IfOk result (λ written. written ≡ canon (tag_item tag.now)) }
 {
-    let item = tag_item(alloc, tag)?;
-    write_item(alloc, &item)
-}
-
-fn tag_item(alloc: Global, tag: &Tag) -> Result<Item, Memory>
-    requires sizes { SizesFit tag.now }
-    ensures item { IfOk result (λ made. view made ≡ tag_item tag.now) }
-{
-    let pairs = TagTable::write(tag)?;
-    Ok(Item::Tag(COSWID, Boxed::new(alloc, Item::Map(pairs))?))
+    let mut out = List::new(alloc);
+    put_tag_head(&mut out, COSWID)?;
+    TagTable::spell(&mut out, tag)?;
+    Ok(out)
 }

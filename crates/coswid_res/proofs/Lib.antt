@@ -1,5 +1,6 @@
 pub mod Elements
 pub mod Hashes
+pub mod Rows
 pub mod Keys
 pub mod Lines
 pub mod Maps

@@ -1,18 +1,19 @@
 -- The pairs that a directory is written as, and the item of several: RFC 9393, section 2.9.2.
 use Rattle.std.specs.Prelude.{List, [], ◌∷◌, map as map_list}
+use Rattle.cbor_det.specs.Laid.{put_rows}
 use Rattle.cbor_det.specs.Term.{Term, Pairs, text, map, boolean}
 use Rattle.cbor_det.specs.View.{pairs_view}
 use Rattle.coswid_res.specs.declared.resources.directory.DirEntry.{DirEntry, fold-DirEntry}
 use Rattle.coswid_res.specs.declared.resources.directory.PathElements.{PathElements, fold-PathElements}
 use Rattle.coswid_res.specs.declared.resources.directory.DirEntry.TheOpen as layer
 use Rattle.coswid_res.specs.Files.{files_item}
-use Rattle.coswid_res.specs.Items.{row_item, required_pair, optional_pair, put_all}
+use Rattle.coswid_res.specs.Items.{row_item, required_pair, optional_pair}
 use Rattle.coswid_res.specs.Keys as keys
 
 -- A directory, whose parts stand as the pairs that they are written as.
 abbrev pub directory_step : layer.DirEntry-F Pairs Pairs → Pairs
 directory_step d =
-    put_all (
+    put_rows (
     optional_pair keys.key boolean d.key
     ∷ optional_pair keys.location text d.location
     ∷ required_pair keys.fs_name text d.fs_name
@@ -23,7 +24,7 @@ directory_step d =
 -- What a directory holds, likewise.
 abbrev pub path_step : layer.PathElements-F Pairs Pairs → Pairs
 path_step p =
-    put_all (
+    put_rows (
     optional_pair keys.directory (λ ds. row_item (map_list map ds)) p.directory
     ∷ optional_pair keys.file files_item p.file
     ∷ []) (pairs_view p.extras)

@@ -1,10 +1,11 @@
 -- The items that a file is read from, and the pairs that it is written as, key by key: RFC 9393,
 -- section 2.9.2.
 use Rattle.std.specs.Prelude.{List, [], ◌∷◌, map as map_list}
+use Rattle.cbor_det.specs.Laid.{Row, put_rows}
 use Rattle.cbor_det.specs.Term.{Term, Pairs, text, map, boolean}
 use Rattle.cbor_det.specs.View.{pairs_view}
 use Rattle.coswid_res.specs.declared.resources.file.FileEntry.{FileEntry}
-use Rattle.coswid_res.specs.Items.{unsigned_item, hash_item, row_item, required_pair, optional_pair, put_all}
+use Rattle.coswid_res.specs.Items.{unsigned_item, hash_item, row_item, required_pair, optional_pair}
 use Rattle.coswid_res.specs.Keys as keys
 use Rattle.coswid_res.specs.Schema as schema
 use Rattle.coswid_res.specs.Words.{Text, Boolean, Unsigned, Hash, IsMap, Required, Optional, Rest}
@@ -22,9 +23,8 @@ pub record FileKeys (f : FileEntry) (ps : Pairs) : Type 0 where
 abbrev pub FileMap : FileEntry → Term → Type 0
 FileMap f = IsMap (FileKeys f)
 
-abbrev pub file_pairs : FileEntry → Pairs
-file_pairs f =
-    put_all (
+abbrev pub file_rows : FileEntry → List Row
+file_rows f =
     optional_pair keys.hash hash_item f.hash
     ∷ optional_pair keys.size unsigned_item f.size
     ∷ optional_pair keys.file_version text f.file_version
@@ -32,7 +32,10 @@ file_pairs f =
     ∷ optional_pair keys.location text f.location
     ∷ required_pair keys.fs_name text f.fs_name
     ∷ optional_pair keys.root text f.root
-    ∷ []) (pairs_view f.extras)
+    ∷ []
+
+abbrev pub file_pairs : FileEntry → Pairs
+file_pairs f = put_rows (file_rows f) (pairs_view f.extras)
 
 abbrev pub files_item : List FileEntry → Term
 files_item fs = row_item (map_list (λ f. map (file_pairs f)) fs)

@@ -6,6 +6,7 @@ pub mod FaultKinds
 pub mod Words
 pub mod Reading
 pub mod Items
+pub mod Spelled
 pub mod Files
 pub mod Sizes
 pub mod Resources

@@ -6,7 +6,8 @@
 //!
 //! - `told` of `Form::read`, of the methods of `Key`, of `payload_of` and of `evidence_of`: the
 //!   value that is read, or the first form fault with its path.
-//! - `puts`, `there` and `number` of the methods of `Key`.
+//! - `appended` of `Form::spell`, and `spelled` of the methods of `Key`: what a value is written as.
+//! - `there` and `number` of the methods of `Key`.
 //! - `written` of `payload_item` and `evidence_item`: the item of a value.
 //! - `verdicts`, `cause` and `reads` of `verify`: a verdict on each file of a payload.
 //! - `laws`: what the definitions mean.
@@ -14,14 +15,14 @@
 //! | file | what it holds | its words in `specs/` |
 //! |---|---|---|
 //! | `tables/form.rt`, `value_forms.rt` | the forms of values | `Fields`, `Words`, `Items` |
-//! | `tables/key.rt` | a number with its form; a field of a map | `Words`, `Reading` |
+//! | `tables/key.rt` | a number with its form; a field of a map | `Words`, `Reading`, `Spelled` |
 //! | `tables/map_form.rt` | values that are written as maps | `Schema`, `Reading` |
 //! | `tables/rows.rt` | one or more values: an array, or one alone | `Words`, `Items` |
 //! | `tables/missing_key.rt`, `fault.rt` | the first form fault, with its path | `Fault` |
 //! | `fault_kind.rt` | the kinds of form faults, by name | `FaultKinds` |
 //! | `resources/table.rt` | the keys of payload and evidence | `Keys`, `Schema` |
 //! | `resources/file.rt` | files | `Files`, `Sizes` |
-//! | `resources/directory*.rt` | directories, read and written | `Directories`, `DirectoryItems` |
+//! | `resources/directory*.rt` | directories, read, spelled and written | `Directories`, `DirectoryItems` |
 //! | the others of `resources/` | the other values | `Resources`, `ResourceItems` |
 //! | `verification/directory_path.rt` | the paths of files | `Listing` |
 //! | `verification/verdict.rt`, `verify.rt` | the verdict on each file | `Verify` |
@@ -45,9 +46,9 @@ pub use resources::hash::HashEntry;
 pub use resources::payload::{Payload, PayloadTable, payload_item, payload_of};
 pub use resources::process::{ProcessEntries, ProcessEntry};
 pub use resources::resource::{ResourceEntries, ResourceEntry};
-pub use tables::form::Form;
-pub use tables::key::Key;
-pub use tables::map_form::{MapForm, Mapped};
+pub use tables::form::{Form, ItemForm};
+pub use tables::key::{Key, count};
+pub use tables::map_form::{ItemMapped, MapForm, Mapped};
 pub use tables::value_forms::{BoolForm, HashForm, IntForm, TextForm, TimeForm, UintForm, UriForm};
 pub use verification::verdict::Verdict;
 pub use verification::verify::{Verdicts, VerifyRefused, verify};

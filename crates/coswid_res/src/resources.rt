@@ -3,6 +3,7 @@
 pub(crate) mod copy_option;
 pub(crate) mod directory;
 pub(crate) mod directory_read;
+pub(crate) mod directory_spell;
 pub(crate) mod directory_write;
 pub(crate) mod evidence;
 pub(crate) mod file;

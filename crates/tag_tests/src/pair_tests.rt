@@ -64,3 +64,17 @@ fn pairs_are_put_in_the_order_of_their_keys(rt: HostRuntime) -> Result<(), Fail>
     assert!(rt; puts_pairs(rt.alloc())?);
     Ok(())
 }
+
+/// Whether the value under a key is taken out once, and the other pairs are left.
+fn takes_pairs(alloc: Global) -> Result<bool, Fail> {
+    let mut pairs = three_pairs(alloc)?;
+    let taken = pairs.take(24);
+    let again = pairs.take(24);
+    Ok(is_int(taken.as_ref(), -1) && again.is_none() && are_others(pairs))
+}
+
+#[test]
+fn a_value_is_taken_out_once(rt: HostRuntime) -> Result<(), Fail> {
+    assert!(rt; takes_pairs(rt.alloc())?);
+    Ok(())
+}

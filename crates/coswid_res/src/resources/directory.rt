@@ -9,12 +9,13 @@ ghost use Rattle.coswid_res.specs.Schema as schema;
 use crate::fault::FormRefused;
 use crate::resources::copy_option::copy_option;
 use crate::resources::directory_read::read_directory;
+use crate::resources::directory_spell::spell_directory;
 use crate::resources::directory_write::write_directory;
 use crate::resources::file::FileEntry;
-use crate::tables::map_form::Mapped;
+use crate::tables::map_form::{ItemMapped, Mapped};
 use cbor_det::Pairs;
 use std::alloc::Global;
-use wire_base::{List, Memory, Text, TryCopy};
+use wire_base::{List, Memory, Octets, Text, TryCopy};
 
 /// Directories in order.
 pub type DirEntries = List<DirEntry>;
@@ -121,11 +122,17 @@ impl Mapped for DirectoryTable {
 
     ghost written = { directory_pairs };
 
-    ghost fits = { DirectorySizesFit };
-
     fn read(alloc: Global, pairs: &Pairs) -> Result<DirEntry, FormRefused> {
         read_directory(alloc, pairs)
     }
+
+    fn spell(out: &mut Octets, directory: &DirEntry) -> Result<(), Memory> {
+        spell_directory(out, directory)
+    }
+}
+
+impl ItemMapped for DirectoryTable {
+    ghost fits = { DirectorySizesFit };
 
     fn write(directory: &DirEntry) -> Result<Pairs, Memory> {
         write_directory(directory)

@@ -16,11 +16,12 @@ use crate::resources::file::FileEntries;
 use crate::resources::process::ProcessEntries;
 use crate::resources::resource::ResourceEntries;
 use crate::resources::table;
-use crate::tables::form::Form;
-use crate::tables::map_form::{MapForm, Mapped};
+use crate::tables::form::{Form, ItemForm};
+use crate::tables::key::count;
+use crate::tables::map_form::{ItemMapped, MapForm, Mapped};
 use cbor_det::{Item, Pairs};
 use std::alloc::Global;
-use wire_base::{Memory, Text, TryCopy};
+use wire_base::{Memory, Octets, Text, TryCopy};
 
 /// What was found of the software on an endpoint.
 #[derive(Debug, Drop)]
@@ -77,8 +78,6 @@ impl Mapped for EvidenceTable {
 
     ghost written = { evidence_pairs };
 
-    ghost fits = { EvidenceSizesFit };
-
     fn read(alloc: Global, pairs: &Pairs) -> Result<Evidence, FormRefused> {
         let directory = table::Directory::optional_row(alloc, pairs)?;
         let file = table::File::optional_row(alloc, pairs)?;
@@ -99,6 +98,30 @@ impl Mapped for EvidenceTable {
             extras,
         })
     }
+
+    fn spell(out: &mut Octets, evidence: &Evidence) -> Result<(), Memory> {
+        let others = &evidence.extras;
+        let more = count(&evidence.directory)
+            + count(&evidence.file)
+            + count(&evidence.process)
+            + count(&evidence.resource)
+            + count(&evidence.location)
+            + count(&evidence.date)
+            + count(&evidence.device_id);
+        others.put_head_with(out, more)?;
+        let place = table::Directory::spell_optional_row(out, others, 0, &evidence.directory)?;
+        let place = table::File::spell_optional_row(out, others, place, &evidence.file)?;
+        let place = table::Process::spell_optional_row(out, others, place, &evidence.process)?;
+        let place = table::Resource::spell_optional_row(out, others, place, &evidence.resource)?;
+        let place = table::Location::spell_optional(out, others, place, &evidence.location)?;
+        let place = table::Date::spell_optional(out, others, place, &evidence.date)?;
+        let place = table::DeviceId::spell_optional(out, others, place, &evidence.device_id)?;
+        Ok(others.put_from(out, place)?)
+    }
+}
+
+impl ItemMapped for EvidenceTable {
+    ghost fits = { EvidenceSizesFit };
 
     fn write(evidence: &Evidence) -> Result<Pairs, Memory> {
         let mut pairs = evidence.extras.copy()?;

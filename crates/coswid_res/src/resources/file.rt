@@ -8,10 +8,11 @@ use crate::fault::FormRefused;
 use crate::resources::copy_option::copy_option;
 use crate::resources::hash::HashEntry;
 use crate::resources::table;
-use crate::tables::map_form::Mapped;
+use crate::tables::key::count;
+use crate::tables::map_form::{ItemMapped, Mapped};
 use cbor_det::Pairs;
 use std::alloc::Global;
-use wire_base::{List, Memory, Text, TryCopy};
+use wire_base::{List, Memory, Octets, Text, TryCopy};
 
 /// Files in order.
 pub type FileEntries = List<FileEntry>;
@@ -69,8 +70,6 @@ impl Mapped for FileTable {
 
     ghost written = { file_pairs };
 
-    ghost fits = { SizeFits };
-
     fn read(alloc: Global, pairs: &Pairs) -> Result<FileEntry, FormRefused> {
         table::FsName::expect(alloc, pairs)?;
         let hash = table::Hash::optional(alloc, pairs)?;
@@ -92,6 +91,30 @@ impl Mapped for FileTable {
             extras,
         })
     }
+
+    fn spell(out: &mut Octets, file: &FileEntry) -> Result<(), Memory> {
+        let others = &file.extras;
+        let more = 1
+            + count(&file.hash)
+            + count(&file.size)
+            + count(&file.file_version)
+            + count(&file.key)
+            + count(&file.location)
+            + count(&file.root);
+        others.put_head_with(out, more)?;
+        let place = table::Hash::spell_optional(out, others, 0, &file.hash)?;
+        let place = table::Size::spell_optional(out, others, place, &file.size)?;
+        let place = table::FileVersion::spell_optional(out, others, place, &file.file_version)?;
+        let place = table::IsKey::spell_optional(out, others, place, &file.key)?;
+        let place = table::Location::spell_optional(out, others, place, &file.location)?;
+        let place = table::FsName::spell(out, others, place, &file.fs_name)?;
+        let place = table::Root::spell_optional(out, others, place, &file.root)?;
+        Ok(others.put_from(out, place)?)
+    }
+}
+
+impl ItemMapped for FileTable {
+    ghost fits = { SizeFits };
 
     fn write(file: &FileEntry) -> Result<Pairs, Memory> {
         let mut pairs = file.extras.copy()?;

@@ -16,11 +16,12 @@ use crate::resources::file::FileEntries;
 use crate::resources::process::ProcessEntries;
 use crate::resources::resource::ResourceEntries;
 use crate::resources::table;
-use crate::tables::form::Form;
-use crate::tables::map_form::{MapForm, Mapped};
+use crate::tables::form::{Form, ItemForm};
+use crate::tables::key::count;
+use crate::tables::map_form::{ItemMapped, MapForm, Mapped};
 use cbor_det::{Item, Pairs};
 use std::alloc::Global;
-use wire_base::{Memory, TryCopy};
+use wire_base::{Memory, Octets, TryCopy};
 
 /// What the software installs, as the tag's author states it.
 #[derive(Debug, Drop)]
@@ -66,8 +67,6 @@ impl Mapped for PayloadTable {
 
     ghost written = { payload_pairs };
 
-    ghost fits = { PayloadSizesFit };
-
     fn read(alloc: Global, pairs: &Pairs) -> Result<Payload, FormRefused> {
         let directory = table::Directory::optional_row(alloc, pairs)?;
         let file = table::File::optional_row(alloc, pairs)?;
@@ -82,6 +81,24 @@ impl Mapped for PayloadTable {
             extras,
         })
     }
+
+    fn spell(out: &mut Octets, payload: &Payload) -> Result<(), Memory> {
+        let others = &payload.extras;
+        let more = count(&payload.directory)
+            + count(&payload.file)
+            + count(&payload.process)
+            + count(&payload.resource);
+        others.put_head_with(out, more)?;
+        let place = table::Directory::spell_optional_row(out, others, 0, &payload.directory)?;
+        let place = table::File::spell_optional_row(out, others, place, &payload.file)?;
+        let place = table::Process::spell_optional_row(out, others, place, &payload.process)?;
+        let place = table::Resource::spell_optional_row(out, others, place, &payload.resource)?;
+        Ok(others.put_from(out, place)?)
+    }
+}
+
+impl ItemMapped for PayloadTable {
+    ghost fits = { PayloadSizesFit };
 
     fn write(payload: &Payload) -> Result<Pairs, Memory> {
         let mut pairs = payload.extras.copy()?;

@@ -6,10 +6,11 @@ ghost use Rattle.coswid_res.specs.Schema as schema;
 
 use crate::fault::FormRefused;
 use crate::resources::table;
-use crate::tables::map_form::Mapped;
+use crate::tables::key::count;
+use crate::tables::map_form::{ItemMapped, Mapped};
 use cbor_det::Pairs;
 use std::alloc::Global;
-use wire_base::{List, Memory, Text, TryCopy};
+use wire_base::{List, Memory, Octets, Text, TryCopy};
 
 /// Processes in order.
 pub type ProcessEntries = List<ProcessEntry>;
@@ -47,8 +48,6 @@ impl Mapped for ProcessTable {
 
     ghost written = { process_pairs };
 
-    ghost fits = { λ v. Unit {0} };
-
     fn read(alloc: Global, pairs: &Pairs) -> Result<ProcessEntry, FormRefused> {
         table::ProcessName::expect(alloc, pairs)?;
         let process_name = table::ProcessName::required(alloc, pairs)?;
@@ -60,6 +59,18 @@ impl Mapped for ProcessTable {
             extras,
         })
     }
+
+    fn spell(out: &mut Octets, process: &ProcessEntry) -> Result<(), Memory> {
+        let others = &process.extras;
+        others.put_head_with(out, 1 + count(&process.pid))?;
+        let place = table::ProcessName::spell(out, others, 0, &process.process_name)?;
+        let place = table::Pid::spell_optional(out, others, place, &process.pid)?;
+        Ok(others.put_from(out, place)?)
+    }
+}
+
+impl ItemMapped for ProcessTable {
+    ghost fits = { λ v. Unit {0} };
 
     fn write(process: &ProcessEntry) -> Result<Pairs, Memory> {
         let mut pairs = process.extras.copy()?;

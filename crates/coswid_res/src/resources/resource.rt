@@ -7,10 +7,10 @@ ghost use Rattle.coswid_res.specs.Schema as schema;
 
 use crate::fault::FormRefused;
 use crate::resources::table;
-use crate::tables::map_form::Mapped;
+use crate::tables::map_form::{ItemMapped, Mapped};
 use cbor_det::Pairs;
 use std::alloc::Global;
-use wire_base::{List, Memory, Text, TryCopy};
+use wire_base::{List, Memory, Octets, Text, TryCopy};
 
 /// Resources in order.
 pub type ResourceEntries = List<ResourceEntry>;
@@ -45,8 +45,6 @@ impl Mapped for ResourceTable {
 
     ghost written = { resource_pairs };
 
-    ghost fits = { λ v. Unit {0} };
-
     fn read(alloc: Global, pairs: &Pairs) -> Result<ResourceEntry, FormRefused> {
         table::ResourceType::expect(alloc, pairs)?;
         let resource_type = table::ResourceType::required(alloc, pairs)?;
@@ -56,6 +54,17 @@ impl Mapped for ResourceTable {
             extras,
         })
     }
+
+    fn spell(out: &mut Octets, resource: &ResourceEntry) -> Result<(), Memory> {
+        let others = &resource.extras;
+        others.put_head_with(out, 1)?;
+        let place = table::ResourceType::spell(out, others, 0, &resource.resource_type)?;
+        Ok(others.put_from(out, place)?)
+    }
+}
+
+impl ItemMapped for ResourceTable {
+    ghost fits = { λ v. Unit {0} };
 
     fn write(resource: &ResourceEntry) -> Result<Pairs, Memory> {
         let mut pairs = resource.extras.copy()?;

@@ -1,6 +1,7 @@
 //! One or more values: an array of them, or one alone.
 
-ghost use Rattle.std.specs.Prelude.{◌≡◌, ◌<◌, ◌≢◌, ◌^◌, IfOk, [], map};
+ghost use Rattle.std.specs.Prelude.{◌≡◌, ◌<◌, ◌≢◌, ◌^◌, ◌++◌, IfOk, OnOk, [], map};
+ghost use Rattle.cbor_det.specs.Canonical.{canon};
 ghost use Rattle.std.specs.List.{All};
 ghost use Rattle.cbor_det.specs.Term.{array};
 ghost use Rattle.cbor_det.specs.View.{view, terms_of};
@@ -11,10 +12,10 @@ ghost use Rattle.coswid_res.specs.Schema.{one_or_more};
 ghost use Rattle.coswid_res.specs.Words.{Each, OneOrMore};
 
 use crate::fault::{FormRefused, WRONG_FORM};
-use crate::tables::form::{Form, read_at};
-use cbor_det::Item;
+use crate::tables::form::{Form, ItemForm, read_at};
+use cbor_det::{Item, put_array_head};
 use std::alloc::Global;
-use wire_base::{List, Memory};
+use wire_base::{List, Memory, Octets};
 
 /// One or more values at the key `place`, with their faults reported from the map's level.
 pub(crate) fn read_row_at<F: Form>(
@@ -61,8 +62,30 @@ fn read_elements<F: Form>(alloc: Global, items: &[Item]) -> Result<List<F::Value
     Ok(values)
 }
 
+/// Puts the value alone where there is one, and else an array of all.
+pub(crate) fn spell_row<F: Form>(out: &mut Octets, values: &List<F::Value>) -> Result<(), Memory>
+    ensures appended { OnOk result (out.new ≡ out.old ++ canon (row_item (map F.written values.now))) }
+{
+    let slice = values.as_slice();
+    if slice.len() == 1 {
+        return F::spell(out, &slice[0]);
+    }
+    spell_all::<F>(out, slice)
+}
+
+/// Puts an array of the values.
+fn spell_all<F: Form>(out: &mut Octets, values: &[F::Value]) -> Result<(), Memory>
+    ensures appended { OnOk result (out.new ≡ out.old ++ canon (array (terms_of (map F.written values.now)))) }
+{
+    put_array_head(out, values.len() as u64)?;
+    for value in values {
+        F::spell(out, value)?;
+    }
+    Ok(())
+}
+
 /// The value alone where there is one, and else an array of all.
-pub(crate) fn write_row<F: Form>(alloc: Global, values: &List<F::Value>) -> Result<Item, Memory>
+pub(crate) fn write_row<F: ItemForm>(alloc: Global, values: &List<F::Value>) -> Result<Item, Memory>
     requires fits { All F.fits values.now }
     ensures written { IfOk result (λ made. view made ≡ row_item (map F.written values.now)) }
 {
@@ -74,7 +97,7 @@ pub(crate) fn write_row<F: Form>(alloc: Global, values: &List<F::Value>) -> Resu
 }
 
 /// An array of the values.
-fn write_all<F: Form>(alloc: Global, values: &[F::Value]) -> Result<Item, Memory>
+fn write_all<F: ItemForm>(alloc: Global, values: &[F::Value]) -> Result<Item, Memory>
     requires fits { All F.fits values.now }
     ensures written { IfOk result (λ made. view made ≡ array (terms_of (map F.written values.now))) }
 {

@@ -11,8 +11,11 @@ ghost use Rattle.coswid_res.specs.Reading.{Gives};
 
 use crate::fault::{FormRefused, WRONG_FORM};
 use crate::resources::hash::HashEntry;
-use crate::tables::form::Form;
-use cbor_det::{Item, Items};
+use crate::tables::form::{Form, ItemForm};
+use cbor_det::{
+    Item, Items, put_array_head, put_boolean, put_bytes, put_integer, put_tag_head, put_text,
+    put_unsigned,
+};
 use std::alloc::Global;
 use wire_base::{Boxed, List, Memory, Octets, Text, TryCopy};
 
@@ -28,14 +31,20 @@ impl Form for TextForm {
 
     ghost written = { text };
 
-    ghost fits = { λ v. Unit {0} };
-
     fn read(alloc: Global, item: &Item) -> Result<Text, FormRefused> {
         match item {
             Item::Text(text) => Ok(text.copy()?),
             _ => Err(FormRefused::new(alloc, WRONG_FORM)),
         }
     }
+
+    fn spell(out: &mut Octets, value: &Text) -> Result<(), Memory> {
+        put_text(out, value.as_str())
+    }
+}
+
+impl ItemForm for TextForm {
+    ghost fits = { λ v. Unit {0} };
 
     fn write(_alloc: Global, value: &Text) -> Result<Item, Memory> {
         Ok(Item::Text(value.copy()?))
@@ -54,14 +63,20 @@ impl Form for BoolForm {
 
     ghost written = { boolean };
 
-    ghost fits = { λ v. Unit {0} };
-
     fn read(alloc: Global, item: &Item) -> Result<bool, FormRefused> {
         match item {
             Item::Bool(value) => Ok(*value),
             _ => Err(FormRefused::new(alloc, WRONG_FORM)),
         }
     }
+
+    fn spell(out: &mut Octets, value: &bool) -> Result<(), Memory> {
+        put_boolean(out, *value)
+    }
+}
+
+impl ItemForm for BoolForm {
+    ghost fits = { λ v. Unit {0} };
 
     fn write(_alloc: Global, value: &bool) -> Result<Item, Memory> {
         Ok(Item::Bool(*value))
@@ -80,14 +95,20 @@ impl Form for IntForm {
 
     ghost written = { integer };
 
-    ghost fits = { λ v. Unit {0} };
-
     fn read(alloc: Global, item: &Item) -> Result<i64, FormRefused> {
         match item {
             Item::Int(number) => Ok(*number),
             _ => Err(FormRefused::new(alloc, WRONG_FORM)),
         }
     }
+
+    fn spell(out: &mut Octets, value: &i64) -> Result<(), Memory> {
+        put_integer(out, *value)
+    }
+}
+
+impl ItemForm for IntForm {
+    ghost fits = { λ v. Unit {0} };
 
     fn write(_alloc: Global, value: &i64) -> Result<Item, Memory> {
         Ok(Item::Int(*value))
@@ -106,14 +127,20 @@ impl Form for UintForm {
 
     ghost written = { unsigned_item };
 
-    ghost fits = { λ n. n < 2 ^ 63 };
-
     fn read(alloc: Global, item: &Item) -> Result<u64, FormRefused> {
         match item {
             Item::Int(number) if *number >= 0 => Ok(*number as u64),
             _ => Err(FormRefused::new(alloc, WRONG_FORM)),
         }
     }
+
+    fn spell(out: &mut Octets, value: &u64) -> Result<(), Memory> {
+        put_unsigned(out, *value)
+    }
+}
+
+impl ItemForm for UintForm {
+    ghost fits = { λ n. n < 2 ^ 63 };
 
     fn write(_alloc: Global, value: &u64) -> Result<Item, Memory> {
         Ok(Item::Int(*value as i64))
@@ -136,8 +163,6 @@ impl Form for UriForm {
 
     ghost written = { uri_item };
 
-    ghost fits = { λ v. Unit {0} };
-
     fn read(alloc: Global, item: &Item) -> Result<Text, FormRefused> {
         match item {
             Item::Text(_) => TextForm::read(alloc, item),
@@ -145,6 +170,15 @@ impl Form for UriForm {
             _ => Err(FormRefused::new(alloc, WRONG_FORM)),
         }
     }
+
+    fn spell(out: &mut Octets, value: &Text) -> Result<(), Memory> {
+        put_tag_head(out, URI_TAG)?;
+        Ok(put_text(out, value.as_str())?)
+    }
+}
+
+impl ItemForm for UriForm {
+    ghost fits = { λ v. Unit {0} };
 
     fn write(alloc: Global, value: &Text) -> Result<Item, Memory> {
         let text = Item::Text(value.copy()?);
@@ -168,8 +202,6 @@ impl Form for TimeForm {
 
     ghost written = { time_item };
 
-    ghost fits = { λ v. Unit {0} };
-
     fn read(alloc: Global, item: &Item) -> Result<i64, FormRefused> {
         match item {
             Item::Int(number) => Ok(*number),
@@ -177,6 +209,15 @@ impl Form for TimeForm {
             _ => Err(FormRefused::new(alloc, WRONG_FORM)),
         }
     }
+
+    fn spell(out: &mut Octets, value: &i64) -> Result<(), Memory> {
+        put_tag_head(out, TIME_TAG)?;
+        Ok(put_integer(out, *value)?)
+    }
+}
+
+impl ItemForm for TimeForm {
+    ghost fits = { λ v. Unit {0} };
 
     fn write(alloc: Global, value: &i64) -> Result<Item, Memory> {
         Ok(Item::Tag(TIME_TAG, Boxed::new(alloc, Item::Int(*value))?))
@@ -195,14 +236,22 @@ impl Form for HashForm {
 
     ghost written = { hash_item };
 
-    ghost fits = { λ v. Unit {0} };
-
     fn read(alloc: Global, item: &Item) -> Result<HashEntry, FormRefused> {
         match item {
             Item::Array(parts) => read_hash(alloc, parts),
             _ => Err(FormRefused::new(alloc, WRONG_FORM)),
         }
     }
+
+    fn spell(out: &mut Octets, value: &HashEntry) -> Result<(), Memory> {
+        put_array_head(out, 2)?;
+        put_integer(out, value.algorithm)?;
+        Ok(put_bytes(out, value.value.as_slice())?)
+    }
+}
+
+impl ItemForm for HashForm {
+    ghost fits = { λ v. Unit {0} };
 
     fn write(alloc: Global, value: &HashEntry) -> Result<Item, Memory> {
         let mut parts = List::new(alloc);
