@@ -94,9 +94,10 @@ class Script:
     kind: str
     lines: list
     bad: int = 0
+    subscribe: bool = False
 
     def octets(self):
-        first = f"replay {self.epoch} {self.cap} {self.room} {self.kind} no"
+        first = f"replay {self.epoch} {self.cap} {self.room} {self.kind} {'yes' if self.subscribe else 'no'}"
         return text([first, *(" ".join([word, *map(spelled, values)]) for word, *values in self.filled())]).encode("ascii")
 
     def filled(self):
@@ -105,7 +106,7 @@ class Script:
         return [(*it, b"") if len(it) < wanted.get(it[0], 0) else it for it in self.lines]
 
     def output(self):
-        world, lines = World(self.epoch, self.cap, self.room, self.kind), []
+        world, lines = World(self.epoch, self.cap, self.room, self.kind, self.subscribe), []
         for place, (word, *values) in enumerate(self.lines, 2):
             if place == self.bad:
                 return text([*lines, f"script {place}"])

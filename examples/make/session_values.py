@@ -78,6 +78,20 @@ PARTIAL = [
     SHOW,
 ]
 
+# The first request subscribes, so the collector reports a change at an idle turn, and nobody asks for it.
+SUBSCRIBED = [
+    *FIRST,
+    ("alter", 1, "example.com__editor_2"),
+    IDLE,  # the collector asks for a turn of its own, and reports
+    RUN,  # took advanced 2 3
+    ("delete", 2),
+    WAITS,  # nothing: a change alone writes nothing
+    IDLE,
+    WAITS,
+    RUN,  # took advanced 3 4
+    SHOW,
+]
+
 # The octets of a session, batch by batch.
 OCTETS = [
     *create("a"),
@@ -117,6 +131,7 @@ CASES = {
     "truncated": Script(7, 2, 16000000, IDS, TRUNCATED),
     "epoch": Script(7, 1024, 16000000, IDS, EPOCH),
     "partial": Script(7, 1024, 150, IDS, PARTIAL),
+    "subscribed": Script(7, 1024, 16000000, IDS, SUBSCRIBED, subscribe=True),
     "octets": Script(7, 1024, 16000000, IDS, OCTETS),
     "bodies": Script(1, 1024, 16000000, FULL, BODIES),
     "bad-line": Script(7, 1024, 16000000, IDS, BAD_LINE, bad=6),

@@ -2,7 +2,8 @@
 //! altered, and a log that keeps one event. So changes and answers are as quick as they can be. For
 //! the task `events` its log is as long as it may be.
 
-ghost use Rattle.std.specs.Prelude.{◌≡◌, ◌≤◌, true};
+ghost use Rattle.std.specs.Prelude.{◌≡◌, ◌≤◌, IfOk, true};
+ghost use Rattle.std.specs.List.{All};
 
 use crate::book::{KEPT, STAMP, alterations, book_of, content, count_of, latest, latest_answers};
 use crate::trouble::Trouble;
@@ -115,8 +116,8 @@ fn shared<R: Threads + Wait + Sync>(
     };
     match threads {
         "1" => work(rt, alloc, &shelf, pass, task, times),
-        "2" => in_two(rt, alloc, &shelf, pass, task, times),
-        "4" => in_four(rt, alloc, &shelf, pass, task, times),
+        "2" => in_threads(rt, alloc, &shelf, pass, 2, task, times),
+        "4" => in_threads(rt, alloc, &shelf, pass, 4, task, times),
         _ => Err(Trouble::Words),
     }
 }
@@ -128,54 +129,49 @@ fn small_book(alloc: Global, task: Task) -> Result<Book, Trouble> {
     Ok(book)
 }
 
-/// Two threads.
-fn in_two<R: Threads + Wait + Sync>(
+/// Does a task that many times in each of that many threads, through a pass for each.
+fn in_threads<R: Threads + Wait + Sync>(
     rt: &R,
     alloc: Global,
     shelf: &Shelf,
-    mut pass: Pass,
+    pass: Pass,
+    threads: u8,
     task: Task,
     times: u32,
 ) -> Result<u64, Trouble>
     requires here { pass.shelf ≡ shelf.now }
     requires may { pass.may_change ≡ true }
 {
-    let second = shelf.split(&mut pass, true);
-    let (one, two) = thread::join(
+    let passes = passes(alloc, shelf, pass, threads)?;
+    let Ok(done) = thread::map_vec(
         rt,
-        ||
+        passes,
+        &|pass: Pass|
             requires { (pass.shelf ≡ shelf.now) × (pass.may_change ≡ true) }
         { work(rt, alloc, shelf, pass, task, times) },
-        ||
-            requires { (second.shelf ≡ shelf.now) × (second.may_change ≡ true) }
-        { work(rt, alloc, shelf, second, task, times) },
-    );
-    Ok(one?.saturating_add(two?))
+    ) else {
+        return Err(Trouble::Memory);
+    };
+    let mut sum: u64 = 0;
+    for one in done {
+        sum = sum.saturating_add(one?);
+    }
+    Ok(sum)
 }
 
-/// Four threads.
-fn in_four<R: Threads + Wait + Sync>(
-    rt: &R,
-    alloc: Global,
-    shelf: &Shelf,
-    mut pass: Pass,
-    task: Task,
-    times: u32,
-) -> Result<u64, Trouble>
+/// That many passes of the shelf, this one among them.
+fn passes(alloc: Global, shelf: &Shelf, mut pass: Pass, count: u8) -> Result<Vec<Pass>, Trouble>
     requires here { pass.shelf ≡ shelf.now }
     requires may { pass.may_change ≡ true }
+    ensures here { IfOk result (λ passes. All (λ pass. pass.shelf ≡ shelf.now) passes.items) }
+    ensures may { IfOk result (λ passes. All (λ pass. pass.may_change ≡ true) passes.items) }
 {
-    let second = shelf.split(&mut pass, true);
-    let (one, two) = thread::join(
-        rt,
-        ||
-            requires { (pass.shelf ≡ shelf.now) × (pass.may_change ≡ true) }
-        { in_two(rt, alloc, shelf, pass, task, times) },
-        ||
-            requires { (second.shelf ≡ shelf.now) × (second.may_change ≡ true) }
-        { in_two(rt, alloc, shelf, second, task, times) },
-    );
-    Ok(one?.saturating_add(two?))
+    let mut passes = Vec::new(alloc);
+    for _ in 1..count {
+        passes.push(shelf.split(&mut pass, true))?;
+    }
+    passes.push(pass)?;
+    Ok(passes)
 }
 
 /// Does a task that many times through a pass, and gives how often that was done.

@@ -1,12 +1,10 @@
 //! PA-TNC Errors (RFC 5792, section 4.2.8, and RFC 8412, section 5.15): made, written and read.
 
+use crate::value::placed_value;
 use conformance_words::{digits_of, eight_of, octets_of, refusal_text};
 use pa_attrs::{PaError, PaFault, read_error, write_error};
 use std::alloc::Global;
 use wire_base::List;
-
-/// The most octets of an Error in a row, and the highest place of its first.
-const MOST: usize = 4096;
 
 /// `reported CODE PLACE HEADER FIRST`: the Error that reports the fault.
 pub fn reported(alloc: Global, words: &str) -> Option<String> {
@@ -64,12 +62,7 @@ fn error_text(alloc: Global, error: &PaError) -> Option<String> {
 
 /// `error_read PLACE HEX`: the Error that is the value at the place, or `fault PLACE`.
 pub fn error_read(alloc: Global, words: &str) -> Option<String> {
-    let (place, digits) = words.split_once(' ')?;
-    let place: u32 = place.parse().ok()?;
-    let octets = octets_of(alloc, digits)?;
-    if place as usize > MOST || octets.len() > MOST {
-        return None;
-    }
+    let (place, octets) = placed_value(alloc, words)?;
     match read_error(alloc, octets.as_slice(), place) {
         Ok(error) => error_text(alloc, &error),
         Err(refused) => refusal_text(alloc, refused),

@@ -12,6 +12,8 @@
 //! | `stream.rt` | `stream`, `stream_on`, `header` |
 //! | `request.rt`, `status.rt` | `request`, `request_written`, `status`, `status_written`, `status_fits` |
 //! | `report.rt` | `report`, `report_written` |
+//!
+//! `value.rt` has the words of a value and of its place.
 #![tactic(auto)]
 
 pub mod attributes;
@@ -22,3 +24,4 @@ pub mod report;
 pub mod request;
 pub mod status;
 pub mod stream;
+mod value;

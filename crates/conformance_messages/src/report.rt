@@ -2,25 +2,18 @@
 
 ghost use Rattle.std.specs.Prelude.{◌≤◌, IfSome, length};
 
-use conformance_words::{digits_of, octets_of, refusal_text, report_text};
+use crate::value::{placed_value, value_of};
+use conformance_words::{digits_of, refusal_text, report_text};
 use std::alloc::Global;
 use swima_reports::{read_report, write_report};
 use wire_base::{FieldRefused, Octets};
-
-/// The most octets of a value in a row, and the highest place of its first.
-const MOST: usize = 4096;
 
 /// `report TYPE PLACE HEX`: the report that is the value of an attribute of the type at the place,
 /// or `fault PLACE`.
 pub fn report(alloc: Global, words: &str) -> Option<String> {
     let (word, rest) = words.split_once(' ')?;
-    let (place, digits) = rest.split_once(' ')?;
     let attr_type = type_of(word)?;
-    let place: u32 = place.parse().ok()?;
-    let octets = octets_of(alloc, digits)?;
-    if place as usize > MOST || octets.len() > MOST {
-        return None;
-    }
+    let (place, octets) = placed_value(alloc, rest)?;
     match read_report(alloc, attr_type, octets.as_slice(), place) {
         Ok(report) => report_text(alloc, &report),
         Err(refused) => refusal_text(alloc, refused),
@@ -31,10 +24,7 @@ pub fn report(alloc: Global, words: &str) -> Option<String> {
 pub fn report_written(alloc: Global, words: &str) -> Option<String> {
     let (word, digits) = words.split_once(' ')?;
     let attr_type = type_of(word)?;
-    let octets = octets_of(alloc, digits)?;
-    if octets.len() > MOST {
-        return None;
-    }
+    let octets = value_of(alloc, digits)?;
     match written_again(alloc, attr_type, octets.as_slice()) {
         Ok(written) => digits_of(alloc, written.as_slice()),
         Err(refused) => refusal_text(alloc, refused),

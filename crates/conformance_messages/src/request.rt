@@ -2,22 +2,15 @@
 
 ghost use Rattle.std.specs.Prelude.{◌≤◌, length};
 
-use conformance_words::{digits_of, kind_word, octets_of, refusal_text};
+use crate::value::{placed_value, value_of};
+use conformance_words::{digits_of, kind_word, refusal_text};
 use std::alloc::Global;
 use swima_request::{Request, read_request, write_request};
 use wire_base::{FieldRefused, Octets};
 
-/// The most octets of a value in a row, and the highest place of its first.
-const MOST: usize = 4096;
-
 /// `request PLACE HEX`: the request that is the value at the place, or `fault PLACE`.
 pub fn request(alloc: Global, words: &str) -> Option<String> {
-    let (place, digits) = words.split_once(' ')?;
-    let place: u32 = place.parse().ok()?;
-    let octets = octets_of(alloc, digits)?;
-    if place as usize > MOST || octets.len() > MOST {
-        return None;
-    }
+    let (place, octets) = placed_value(alloc, words)?;
     match read_request(alloc, octets.as_slice(), place) {
         Ok(request) => request_text(alloc, &request),
         Err(refused) => refusal_text(alloc, refused),
@@ -26,10 +19,7 @@ pub fn request(alloc: Global, words: &str) -> Option<String> {
 
 /// `request_written HEX`: what is written of the request that is read.
 pub fn request_written(alloc: Global, words: &str) -> Option<String> {
-    let octets = octets_of(alloc, words)?;
-    if octets.len() > MOST {
-        return None;
-    }
+    let octets = value_of(alloc, words)?;
     match written_again(alloc, octets.as_slice()) {
         Ok(written) => digits_of(alloc, written.as_slice()),
         Err(refused) => refusal_text(alloc, refused),

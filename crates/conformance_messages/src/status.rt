@@ -4,23 +4,16 @@
 ghost use Rattle.std.specs.Prelude.{◌≤◌, length};
 
 use crate::request::request_text;
-use conformance_words::{digits_of, octets_of, refusal_text};
+use crate::value::{placed_value, value_of};
+use conformance_words::{digits_of, refusal_text};
 use std::alloc::Global;
 use swima_request::{Requests, read_status, status_fits, write_status};
 use wire_base::{FieldRefused, Octets};
 
-/// The most octets of a value in a row, and the highest place of its first.
-const MOST: usize = 4096;
-
 /// `status PLACE HEX`: the requests of the subscriptions that are the value at the place, or
 /// `fault PLACE`.
 pub fn status(alloc: Global, words: &str) -> Option<String> {
-    let (place, digits) = words.split_once(' ')?;
-    let place: u32 = place.parse().ok()?;
-    let octets = octets_of(alloc, digits)?;
-    if place as usize > MOST || octets.len() > MOST {
-        return None;
-    }
+    let (place, octets) = placed_value(alloc, words)?;
     match read_status(alloc, octets.as_slice(), place) {
         Ok(requests) => status_text(alloc, &requests),
         Err(refused) => refusal_text(alloc, refused),
@@ -29,10 +22,7 @@ pub fn status(alloc: Global, words: &str) -> Option<String> {
 
 /// `status_written HEX`: what is written of the subscriptions that are read.
 pub fn status_written(alloc: Global, words: &str) -> Option<String> {
-    let octets = octets_of(alloc, words)?;
-    if octets.len() > MOST {
-        return None;
-    }
+    let octets = value_of(alloc, words)?;
     match written_again(alloc, octets.as_slice()) {
         Ok(written) => digits_of(alloc, written.as_slice()),
         Err(refused) => refusal_text(alloc, refused),
@@ -50,10 +40,7 @@ fn written_again(alloc: Global, value: &[u8]) -> Result<Octets, FieldRefused>
 pub fn fits(alloc: Global, words: &str) -> Option<String> {
     let (most, digits) = words.split_once(' ')?;
     let most: u32 = most.parse().ok()?;
-    let octets = octets_of(alloc, digits)?;
-    if octets.len() > MOST {
-        return None;
-    }
+    let octets = value_of(alloc, digits)?;
     let requests = read_status(alloc, octets.as_slice(), 0).ok()?;
     let word = if status_fits(&requests, most) {
         "yes"
