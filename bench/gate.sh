@@ -11,7 +11,8 @@
 # Columns, in seconds:
 #   proof  the proof of the crate
 #   tests  the proof of its tests with their compilation
-#   edits  the checks of its must-fail edits, with the whole one that they begin with and one after them
+#   seed   the checks of the whole crate that its must-fail edits begin with, and one after them
+#   edits  the checks of its must-fail edits
 #   rest   compiling and linking the program, and running the program and the tests
 #   sum    the sum of these
 #
@@ -34,7 +35,7 @@ exec python3 - "$top" <<'END'
 import os, re, signal, subprocess, sys, tempfile, threading, time
 from collections import defaultdict
 
-KINDS = ("proof", "tests", "edits", "rest")
+KINDS = ("proof", "tests", "seed", "edits", "rest")
 TICKS = os.sysconf("SC_CLK_TCK")
 
 
@@ -79,7 +80,7 @@ def task(pid):
     if "--test" in words:
         return crate, "tests"
     if "--incremental" in words:
-        return crate, "edits"
+        return crate, "seed" if words[words.index("--incremental") + 1].endswith("/seed") else "edits"
     # (the proof of a program keeps what it checked, for the compilers)
     return crate, "edits" if verb == "check" and "-o" not in words else "proof"
 
@@ -135,7 +136,7 @@ def show(spent, whole):
     print(f"{'crate':<18}" + "".join(f"{it:>9}" for it in (*KINDS, "sum")))
     for name, row in rows:
         print(f"{name:<18}" + "".join(f"{it:9.1f}" for it in (*row, sum(row))))
-    print(f"{'rt':<18}{'':36}{whole - sum(rows[-1][1]):9.1f}")
+    print(f"{'rt':<18}{'':45}{whole - sum(rows[-1][1]):9.1f}")
 
 
 signal.signal(signal.SIGTERM, lambda *_: sys.exit(143))
