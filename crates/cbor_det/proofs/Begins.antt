@@ -27,18 +27,15 @@ use Rattle.cbor_det.specs.Held.{members_view, due_key}
 use Rattle.cbor_det.specs.Initial.{initial_of}
 use Rattle.cbor_det.specs.Faults.{Place, top, at_chunk, at_element, at_key, at_value, at_content, height}
 use Rattle.cbor_det.specs.Machine.{State, due, faulty, item_ended, begun, item_begun, opened, broken, string_head, string_ended}
-use Rattle.cbor_det.specs.Standing.{inside, map_place, within, place, BeginsHead, one_more, two_more, four_more, eight_more}
+use Rattle.cbor_det.specs.Standing.{inside, map_place, within, place}
 use Rattle.cbor_det.specs.Frames.{chunk_kind, low_kind, end_state, state_of, ArgumentFits, BeginFits, InitialFits}
-use Rattle.cbor_det.proofs.Told.{Tells, tells}
+use Rattle.cbor_det.proofs.Told.{IsLong, Tells, tells}
 use Rattle.cbor_det.proofs.Views.{view_array, view_map}
 use Rattle.cbor_det.proofs.Closing.{pushed_due}
 use Rattle.cbor_det.proofs.Strings.{pushed_place, no_chunk}
 
-long_fits : (m : Major) (left b : ℕ) → BeginsHead m left b → (1 ≤ left) × (left ≤ 8)
-long_fits m left b one_more = (omega arith, omega arith)
-long_fits m left b two_more = (omega arith, omega arith)
-long_fits m left b four_more = (omega arith, omega arith)
-long_fits m left b eight_more = (omega arith, omega arith)
+long_fits : (m : Major) (left b : ℕ) → IsLong m left b → (1 ≤ left) × (left ≤ 8)
+long_fits m left b is = (omega (arith, is), omega (arith, is))
 
 fits_of : (b : ℕ) (x : Initial) → Tells b x → InitialFits x
 fits_of b initial.Break t = tt
@@ -53,7 +50,7 @@ fits_of b (initial.Item beginning.Members) t = tt
 fits_of b (initial.Item (beginning.Bool v)) t = tt
 
 pub initial_fits : (b : ℕ) → InitialFits (initial_of b)
-initial_fits b = fits_of b (initial_of b) (tells b)
+initial_fits b = fits_of b (initial_of b) (tells b (initial_of b) refl)
 
 some_is : (f g : Frame) → Some g ≡ Some f → g ≡ f
 some_is f g e = cc
