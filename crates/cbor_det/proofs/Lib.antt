@@ -23,7 +23,6 @@ pub mod Runs
 pub mod Refusals
 pub mod Standing
 pub mod Fed
-pub mod Feeds
 pub mod Outcomes
 pub mod Adds
 pub mod Under
