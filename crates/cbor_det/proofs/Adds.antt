@@ -77,14 +77,6 @@ all_join : (xs ys : Pairs) (k : Term) → AreBelow xs k → AreBelow ys k → Ar
 all_join no_pairs ys k first second = second
 all_join (pair l w xs) ys k first second = (first.0, all_join xs ys k first.1 second)
 
--- The key is below that of the pair at this place.
-pub below_there : (k : Term) (xs : List Pair) (i : ℕ) (x : Pair) → i < length xs → x ≡ get_or xs i x → key_cmp k (key_of x) ≡ Less → IsBelow k (listed (drop i xs))
-below_there k xs i x lt at less =
-    let e : drop i xs ≡ x ∷ drop (i + 1) xs = drop_more xs i x lt ∙ ap (λ (y : Pair). y ∷ drop (i + 1) xs) (sym at) in
-    let P : List Pair → Type 0 = λ ys. IsBelow k (listed ys) in
-    let Q : Pairs → Type 0 = λ ps. IsBelow k ps in
-    subst P (sym e) (subst Q (sym (listed_cons x (drop (i + 1) xs))) less)
-
 -- It is held there.
 pub held_there : (k : Term) (xs : List Pair) (i : ℕ) (x : Pair) → i < length xs → x ≡ get_or xs i x → key_cmp k (key_of x) ≡ Equal → Contains (keys (listed xs)) (canon k)
 held_there k xs i x lt at same =

@@ -1,11 +1,10 @@
 -- What the code begins and ends at an initial byte, as the machine does.
-use Rattle.std.proofs.Common.{◌≡◌, ℕ, ◌+◌, ◌-◌, zero, suc, ◌<◌, ◌≤◌, List, [], ◌∷◌, ◌++◌, length, refl, sym, ap, ◌∙◌, arith, subst, Bool, true, false, Option, Some, None, map}
+use Rattle.std.proofs.Common.{◌≡◌, ℕ, ◌+◌, ◌-◌, zero, suc, ◌<◌, ◌≤◌, List, [], ◌∷◌, ◌++◌, length, refl, sym, ap, ◌∙◌, arith, subst, Bool, true, false, Option, Some, None}
 use Rattle.std.specs.Prelude.{slice_get}
 use Rattle.std.proofs.Math.Nat.{pow-suc}
 use Rattle.std.proofs.Common.{◌*◌, ◌^◌}
 use Rattle.std.proofs.lemmas.List.{nil_from_length}
-use Rattle.std.specs.Option.{is_some, is_none}
-use Rattle.std.proofs.lemmas.Bool.{cond-true, cond-false, lt-ltb, le-ltb, both_ways}
+use Rattle.std.proofs.lemmas.Bool.{cond-true, cond-false, lt-ltb, le-ltb}
 use Rattle.cbor_det.specs.declared.string_kind.StringKind.{StringKind}
 use Rattle.cbor_det.specs.declared.limits.Limits.{Limits}
 use Rattle.cbor_det.specs.declared.initial.Major.{Major}
@@ -13,32 +12,22 @@ use Rattle.cbor_det.specs.declared.initial.Beginning.{Beginning}
 use Rattle.cbor_det.specs.declared.initial.Beginning.TheVariants as beginning
 use Rattle.cbor_det.specs.declared.initial.Initial.{Initial}
 use Rattle.cbor_det.specs.declared.initial.Initial.TheVariants as initial
-use Rattle.cbor_det.specs.declared.item.Item.{Item}
-use Rattle.cbor_det.specs.declared.item.Item.TheVariants as code
-use Rattle.cbor_det.specs.declared.item.Pairs as pairs
 use Rattle.cbor_det.specs.declared.frame.Frame.{Frame}
 use Rattle.cbor_det.specs.declared.frame.Frame.TheVariants as frame
-use Rattle.cbor_det.specs.declared.members.Members.{Members}
 use Rattle.cbor_det.specs.declared.frame.StepOutcome.{StepOutcome}
 use Rattle.cbor_det.specs.declared.frame.StepOutcome.TheVariants as step_outcome
-use Rattle.cbor_det.specs.Term.{Term, Pairs, map as map_term, no_pairs}
-use Rattle.cbor_det.specs.View.{view, terms_of, pairs_view}
+use Rattle.cbor_det.specs.Term.{Term, Pairs}
 use Rattle.cbor_det.specs.Held.{members_view, due_key}
 use Rattle.cbor_det.specs.Initial.{initial_of}
 use Rattle.cbor_det.specs.Faults.{Place, top, at_chunk, at_element, at_key, at_value, at_content, height}
-use Rattle.cbor_det.specs.Machine.{State, due, faulty, item_ended, begun, item_begun, opened, broken, string_head, string_ended}
-use Rattle.cbor_det.specs.Standing.{inside, map_place, within, place, BeginsHead, one_more, two_more, four_more, eight_more}
+use Rattle.cbor_det.specs.Machine.{State, faulty, begun, item_begun, opened, broken, string_head}
+use Rattle.cbor_det.specs.Standing.{inside, map_place, within, place}
 use Rattle.cbor_det.specs.Frames.{chunk_kind, low_kind, end_state, state_of, ArgumentFits, BeginFits, InitialFits}
-use Rattle.cbor_det.proofs.Told.{Tells, tells}
-use Rattle.cbor_det.proofs.Views.{view_array, view_map}
-use Rattle.cbor_det.proofs.Closing.{pushed_due}
+use Rattle.cbor_det.proofs.Told.{IsLong, Tells, tells}
 use Rattle.cbor_det.proofs.Strings.{pushed_place, no_chunk}
 
-long_fits : (m : Major) (left b : ℕ) → BeginsHead m left b → (1 ≤ left) × (left ≤ 8)
-long_fits m left b one_more = (omega arith, omega arith)
-long_fits m left b two_more = (omega arith, omega arith)
-long_fits m left b four_more = (omega arith, omega arith)
-long_fits m left b eight_more = (omega arith, omega arith)
+long_fits : (m : Major) (left b : ℕ) → IsLong m left b → (1 ≤ left) × (left ≤ 8)
+long_fits m left b is = (omega (arith, is), omega (arith, is))
 
 fits_of : (b : ℕ) (x : Initial) → Tells b x → InitialFits x
 fits_of b initial.Break t = tt
@@ -53,7 +42,7 @@ fits_of b (initial.Item beginning.Members) t = tt
 fits_of b (initial.Item (beginning.Bool v)) t = tt
 
 pub initial_fits : (b : ℕ) → InitialFits (initial_of b)
-initial_fits b = fits_of b (initial_of b) (tells b)
+initial_fits b = fits_of b (initial_of b) (tells b (initial_of b) refl)
 
 some_is : (f g : Frame) → Some g ≡ Some f → g ≡ f
 some_is f g e = cc
@@ -71,56 +60,16 @@ last_split : (f : Frame) (fs : List Frame) → slice_get fs (length fs - 1) ≡ 
 last_split f [] e = absurd (none_some f e)
 last_split f (g ∷ fs) e = last_at f (g ∷ fs) (length (g ∷ fs) - 1) (omega arith) e
 
-found_at : (fs : List Frame) (n : ℕ) → n < length fs → slice_get fs n ≡ None → ⊥
-found_at [] n lt e = omega arith
-found_at (g ∷ fs) zero lt e = none_some g (sym e)
-found_at (g ∷ fs) (suc n) lt e = found_at fs n (omega arith) e
-
-none_last : (fs : List Frame) → slice_get fs (length fs - 1) ≡ None → fs ≡ []
-none_last [] e = refl
-none_last (g ∷ fs) e = absurd (found_at (g ∷ fs) (length (g ∷ fs) - 1) (omega arith) e)
-
-pub no_due : (fs : List Frame) → slice_get fs (length fs - 1) ≡ None → None ≡ chunk_kind (place fs)
-no_due fs e = ap (λ (gs : List Frame). chunk_kind (place gs)) (sym (none_last fs e))
-
 pub last_due : (fs : List Frame) (f : Frame) (k : Option StringKind) → slice_get fs (length fs - 1) ≡ Some f → ((p : Place) → k ≡ chunk_kind (inside p f)) → k ≡ chunk_kind (place fs)
 last_due fs f k e is =
     let w = last_split f fs e in
     is (place w.0) ∙ ap (λ (p : Place). chunk_kind p) (sym (pushed_place w.0 fs f w.1))
 
--- low octets
-
-pub low_item : (k : ℕ) (p : Place) (i : ℕ) → None ≡ chunk_kind p → faulty k i ≡ faulty (low_kind p k) i
-low_item k (at_chunk a kind s p) i none = absurd (no_chunk kind (sym none))
-low_item k top i none = refl
-low_item k (at_element a all ts p) i none = refl
-low_item k (at_key a all ps p) i none = refl
-low_item k (at_value a all ps t p) i none = refl
-low_item k (at_content a n p) i none = refl
-
-pub low_is : (k : ℕ) (p : Place) → None ≡ chunk_kind p → k ≡ low_kind p k
-low_is k (at_chunk a kind s p) none = absurd (no_chunk kind (sym none))
-low_is k top none = refl
-low_is k (at_element a all ts p) none = refl
-low_is k (at_key a all ps p) none = refl
-low_is k (at_value a all ps t p) none = refl
-low_is k (at_content a n p) none = refl
-
-pub low_two : (k : ℕ) (p : Place) (kind : StringKind) → Some kind ≡ chunk_kind p → 2 ≡ low_kind p k
-low_two k (at_chunk a other s p) kind some = refl
-low_two k top kind some = absurd (no_chunk kind some)
-low_two k (at_element a all ts p) kind some = absurd (no_chunk kind some)
-low_two k (at_key a all ps p) kind some = absurd (no_chunk kind some)
-low_two k (at_value a all ps t p) kind some = absurd (no_chunk kind some)
-low_two k (at_content a n p) kind some = absurd (no_chunk kind some)
+-- how many frames are open
 
 map_height : (a : ℕ) (all : Option ℕ) (ps : Pairs) (k : Option Term) (p : Place) → height (map_place a all ps k p) ≡ height p + 1
 map_height a all ps None p = refl
 map_height a all ps (Some k) p = refl
-
-pub map_no_chunk : (a : ℕ) (all : Option ℕ) (ps : Pairs) (k : Option Term) (p : Place) → None ≡ chunk_kind (map_place a all ps k p)
-map_no_chunk a all ps None p = refl
-map_no_chunk a all ps (Some k) p = refl
 
 height_within : (p : Place) (fs : List Frame) → height (within p fs) ≡ height p + length fs
 height_within p [] = omega arith
@@ -134,6 +83,8 @@ height_within p (frame.Content a n ∷ fs) = let e = height_within (inside p (fr
 
 pub height_place : (fs : List Frame) → height (place fs) ≡ length fs
 height_place fs = let e = height_within top fs in omega (arith, e)
+
+-- low octets
 
 module _ (limits : Limits) (i : ℕ) where
   pub float_low : (p : Place) → faulty (low_kind p 3) i ≡ begun limits i p initial.Float
@@ -228,51 +179,6 @@ top_ends i fs is = ap (λ (gs : List Frame). end_state i (place gs)) (sym is)
 pub frame_ends : (i : ℕ) (fs gs : List Frame) (f : Frame) (σ : State) → fs ≡ gs ++ f ∷ [] → σ ≡ end_state i (inside (place gs) f) → σ ≡ end_state i (place fs)
 frame_ends i fs gs f σ is ends = ends ∙ ap (λ (p : Place). end_state i p) (sym (pushed_place gs fs f is))
 
-pub chunks_end : (i a : ℕ) (k : StringKind) (t : List ℕ) (f : Frame) (p : Place) (σ : State) → f ≡ frame.Chunks a k t → σ ≡ string_ended p a k t → σ ≡ end_state i (inside p f)
-chunks_end i a k t f p σ is ends = ends ∙ ap (λ (g : Frame). end_state i (inside p g)) (sym is)
-
-pub array_ends : (i a : ℕ) (all : Option ℕ) (items : List Item) (f : Frame) (p : Place) (σ : State) → f ≡ frame.Elements a all items → is_some all ≡ false
-    → σ ≡ item_ended p a (view (code.Array items)) → σ ≡ end_state i (inside p f)
-unfolding broken
-array_ends i a None items f p σ is none given = given ∙ ap (λ (t : Term). item_ended p a t) (view_array items) ∙ ap (λ (g : Frame). end_state i (inside p g)) (sym is)
-array_ends i a (Some n) items f p σ is none given = absurd (both_ways true none refl)
-
-pub array_stays : (i a : ℕ) (all : Option ℕ) (items : List Item) (f : Frame) (p : Place) → f ≡ frame.Elements a all items → is_some all ≡ true → faulty 2 i ≡ end_state i (inside p f)
-unfolding broken
-array_stays i a (Some n) items f p is some = ap (λ (g : Frame). end_state i (inside p g)) (sym is)
-array_stays i a None items f p is some = absurd (both_ways false refl some)
-
-module _ (i a : ℕ) (ps : Pairs) (p : Place) where
-  ended_map : (all : Option ℕ) (k : Option Term) → is_some all ≡ false → is_none k ≡ true → item_ended p a (map_term ps) ≡ end_state i (map_place a all ps k p)
-  unfolding broken
-  ended_map None None endless none = refl
-  ended_map None (Some k) endless none = absurd (both_ways false refl none)
-  ended_map (Some n) k endless none = absurd (both_ways true endless refl)
-
-  counted_map : (all : Option ℕ) (k : Option Term) → is_some all ≡ true → faulty 2 i ≡ end_state i (map_place a all ps k p)
-  unfolding broken
-  counted_map None k some = absurd (both_ways false refl some)
-  counted_map (Some n) None some = refl
-  counted_map (Some n) (Some k) some = refl
-
-  due_map : (all : Option ℕ) (k : Option Term) → is_none k ≡ false → faulty 2 i ≡ end_state i (map_place a all ps k p)
-  unfolding broken
-  due_map all None some = absurd (both_ways true some refl)
-  due_map all (Some k) some = refl
-
-module _ (i a : ℕ) (all : Option ℕ) (members : Members) (f : Frame) (p : Place) (is : f ≡ frame.Map a all members) where
-  pub map_ends : (made : pairs.Pairs) (σ : State) (none : Bool) → is_some all ≡ false → none ≡ is_none (due_key members) → none ≡ true → pairs_view made ≡ members_view members
-      → σ ≡ item_ended p a (view (code.Map made)) → σ ≡ end_state i (inside p f)
-  map_ends made σ none endless test so same given =
-      given ∙ ap (λ (t : Term). item_ended p a t) (view_map made) ∙ ap (λ (ps : Pairs). item_ended p a (map_term ps)) same
-      ∙ ended_map i a (members_view members) p all (due_key members) endless (sym test ∙ so) ∙ ap (λ (g : Frame). end_state i (inside p g)) (sym is)
-
-  pub map_stays : is_some all ≡ true → faulty 2 i ≡ end_state i (inside p f)
-  map_stays some = counted_map i a (members_view members) p all (due_key members) some ∙ ap (λ (g : Frame). end_state i (inside p g)) (sym is)
-
-  pub value_stays : (none : Bool) → none ≡ is_none (due_key members) → none ≡ false → faulty 2 i ≡ end_state i (inside p f)
-  value_stays none test lie = due_map i a (members_view members) p all (due_key members) (sym test ∙ lie) ∙ ap (λ (g : Frame). end_state i (inside p g)) (sym is)
-
 -- constructs that open
 
 some_power : (k : ℕ) → 0 < 256 ^ k
@@ -284,27 +190,6 @@ head_fits x m left is fits =
     let P : Beginning → Type 0 = λ y. BeginFits y in
     let f = subst P is fits in
     record { some = f.0; most = f.1; fits = some_power (8 - left) }
-
-pub chunks_open : (limits : Limits) (i : ℕ) (gs hs : List Frame) (k : StringKind) (t : List ℕ) (x : Beginning) → hs ≡ gs ++ frame.Chunks i k t ∷ [] → t ≡ [] → x ≡ beginning.Chunks k
-    → due (place hs) ≡ opened limits i (place gs) x
-unfolding opened
-chunks_open limits i gs hs k t x is none which =
-    pushed_due gs hs (frame.Chunks i k t) is ∙ ap (λ (o : List ℕ). due (at_chunk i k o (place gs))) none ∙ ap (λ (y : Beginning). opened limits i (place gs) y) (sym which)
-
-pub array_opens : (limits : Limits) (i : ℕ) (gs hs : List Frame) (items : List Item) (x : Beginning) → hs ≡ gs ++ frame.Elements i None items ∷ [] → items ≡ [] → x ≡ beginning.Elements
-    → due (place hs) ≡ opened limits i (place gs) x
-unfolding opened
-array_opens limits i gs hs items x is none which =
-    pushed_due gs hs (frame.Elements i None items) is ∙ ap (λ (xs : List Item). due (at_element i None (terms_of (map view xs)) (place gs))) none
-    ∙ ap (λ (y : Beginning). opened limits i (place gs) y) (sym which)
-
-pub map_opens : (limits : Limits) (i : ℕ) (gs hs : List Frame) (members : Members) (x : Beginning) → hs ≡ gs ++ frame.Map i None members ∷ [] → members_view members ≡ no_pairs → due_key members ≡ None → x ≡ beginning.Members
-    → due (place hs) ≡ opened limits i (place gs) x
-unfolding opened
-map_opens limits i gs hs members x is none key which =
-    pushed_due gs hs (frame.Map i None members) is ∙ ap (λ (k : Option Term). due (map_place i None (members_view members) k (place gs))) key
-    ∙ ap (λ (ps : Pairs). due (at_key i None ps (place gs))) none
-    ∙ ap (λ (y : Beginning). opened limits i (place gs) y) (sym which)
 
 -- low octets, as the code refuses them
 

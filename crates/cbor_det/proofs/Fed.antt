@@ -1,6 +1,6 @@
 -- What came of a piece, from the run of the machine over it.
 use Rattle.std.proofs.Common.{◌≡◌, ℕ, zero, suc, ◌+◌, ◌-◌, ◌<◌, ◌≤◌, List, [], ◌∷◌, ◌++◌, length, take, drop, refl, sym, ap, ◌∙◌, arith, subst, false, append_assoc, length-append, length-take, length-drop, inl, inr}
-use Rattle.std.proofs.lemmas.List.{append-nil, take-append-drop, take_all, take-append-le}
+use Rattle.std.proofs.lemmas.List.{append-nil, take-append-drop, take_all}
 use Rattle.std.proofs.lemmas.Bool.{cond-true, cond-false, cases_Bool}
 use Rattle.wire_base.specs.Layout.{AreOctets}
 use Rattle.wire_base.proofs.Spelled.{AreOctets-take}
@@ -9,7 +9,7 @@ use Rattle.cbor_det.specs.declared.frame.Frame.{Frame}
 use Rattle.cbor_det.specs.declared.frame.Phase.{Phase}
 use Rattle.cbor_det.specs.declared.frame.Phase.TheVariants as phase
 use Rattle.cbor_det.specs.Term.{Term}
-use Rattle.cbor_det.specs.Faults.{Place, top, Begins, IsFault, IsCut, Shows, start}
+use Rattle.cbor_det.specs.Faults.{Place, top, Begins, IsFault, IsCut, start}
 use Rattle.cbor_det.specs.Machine.{State, due, whole, faulty, step, run, is_over}
 use Rattle.cbor_det.specs.Standing.{place, IsAt, Stands}
 use Rattle.cbor_det.specs.Frames.{phase_state}
@@ -160,17 +160,3 @@ module _ (limits : Limits) (fs : List Frame) (f : Phase) (taken : ℕ) (piece x 
       let same : n ≡ length (take (limits.octets - taken) piece) = len ∙ ap length is in
       let R : ℕ → Type 0 = λ k. Stands limits fs2 g (taken + k) (before ++ piece) × IsCut limits (before ++ piece) in
       subst R (sym same) (came_more limits fs f taken before piece stands octets fs2 g rest (subst Q is e) (λ full. short (ap (λ (k : ℕ). taken + k) same ∙ full)))
-
--- A fault stays, whatever follows.
-pub fault_stays : (limits : Limits) (before piece : List ℕ) (k a : ℕ) → IsFault limits before k a → IsFault limits (before ++ piece) k a
-fault_stays limits before piece k a fault =
-    let w = fault.within in
-    let P : List ℕ → Type 0 = λ x. Shows limits x k a in
-    record {
-      after = fault.after;
-      within = (let l = length-append before piece in omega (arith, l, w));
-      short = fault.short;
-      shows = subst P (sym (take-append-le fault.after before piece w)) fault.shows;
-      fewest = λ n j c lt shows. fault.fewest n j c lt (let Q : List ℕ → Type 0 = λ x. Shows limits x j c in subst Q (take-append-le n before piece (omega (arith, lt, w))) shows);
-      lowest = λ j c shows. fault.lowest j c (let Q : List ℕ → Type 0 = λ x. Shows limits x j c in subst Q (take-append-le fault.after before piece w) shows);
-    }

@@ -14,8 +14,8 @@ use Rattle.cbor_det.specs.Canonical.{Form, direct, one, two, four, eight, bound,
 use Rattle.cbor_det.specs.Spelling.{IsHead}
 use Rattle.cbor_det.specs.Faults.{Place}
 use Rattle.cbor_det.specs.Machine.{State, due, argument, argued, opened, begun, step, run}
-use Rattle.cbor_det.specs.Standing.{AdmitsHead}
-use Rattle.cbor_det.proofs.Initials.{head_opens, direct_initial, one_initial, two_initial, four_initial, eight_initial}
+use Rattle.cbor_det.specs.Standing.{AdmitsHead, one_more, two_more, four_more, eight_more}
+use Rattle.cbor_det.proofs.Initials.{head_opens, direct_initial, long_initial}
 
 abbrev pub joined : ℕ → List ℕ → ℕ
 joined acc bs = fold (λ number octet. 256 * number + octet) acc bs
@@ -50,10 +50,10 @@ module _ (limits : Limits) where
   unfolding step opened
   formed direct p m n i rest ready fits =
       ap (λ (s : State). run limits (i + 1) s rest) (ap (λ (x : Initial). begun limits i p x) (direct_initial m n fits) ∙ head_opens limits p i m (Argued m n) ready refl)
-  formed one p m n i rest ready fits = with_argument p m 0 n i (32 * number_of_major m + 24) rest ready (one_initial m) fits ∙ at_length p m n i rest 1
-  formed two p m n i rest ready fits = with_argument p m 1 n i (32 * number_of_major m + 25) rest ready (two_initial m) fits ∙ at_length p m n i rest 2
-  formed four p m n i rest ready fits = with_argument p m 3 n i (32 * number_of_major m + 26) rest ready (four_initial m) fits ∙ at_length p m n i rest 4
-  formed eight p m n i rest ready fits = with_argument p m 7 n i (32 * number_of_major m + 27) rest ready (eight_initial m) fits ∙ at_length p m n i rest 8
+  formed one p m n i rest ready fits = with_argument p m 0 n i (32 * number_of_major m + 24) rest ready (long_initial m _ _ one_more) fits ∙ at_length p m n i rest 1
+  formed two p m n i rest ready fits = with_argument p m 1 n i (32 * number_of_major m + 25) rest ready (long_initial m _ _ two_more) fits ∙ at_length p m n i rest 2
+  formed four p m n i rest ready fits = with_argument p m 3 n i (32 * number_of_major m + 26) rest ready (long_initial m _ _ four_more) fits ∙ at_length p m n i rest 4
+  formed eight p m n i rest ready fits = with_argument p m 7 n i (32 * number_of_major m + 27) rest ready (long_initial m _ _ eight_more) fits ∙ at_length p m n i rest 8
 
   pub head_reads : (p : Place) (m : Major) (n : ℕ) (h : List ℕ) (i : ℕ) (rest : List ℕ) → AdmitsHead limits p m → IsHead (number_of_major m) n h
       → run limits i (due p) (h ++ rest) ≡ run limits (i + length h) (argued limits (i + length h) p i m n) rest

@@ -10,71 +10,37 @@ use Rattle.cbor_det.specs.declared.initial.Beginning.{Beginning}
 use Rattle.cbor_det.specs.declared.initial.Beginning.TheVariants.{Argued, Argument, Chunks, Elements, Members, Bool as Boolean}
 use Rattle.cbor_det.specs.declared.initial.Initial.{Initial}
 use Rattle.cbor_det.specs.declared.initial.Initial.TheVariants.{Item}
-use Rattle.cbor_det.specs.Initial.{number_of_major, head_of, head_or_indefinite, of_type, initial_of}
+use Rattle.cbor_det.specs.Initial.{number_of_major, head_of, of_type, initial_of}
 use Rattle.cbor_det.specs.Faults.{Place, top, at_chunk, at_element, at_key, at_value, at_content, height, IsChunkPlace, Admits}
-use Rattle.cbor_det.specs.Standing.{AdmitsHead}
+use Rattle.cbor_det.specs.Standing.{AdmitsHead, BeginsHead, one_more, two_more, four_more, eight_more}
 use Rattle.cbor_det.specs.Machine.{begun, item_begun, opened, same_kind, string_head}
 
-pub head_of_direct : (m : Major) (n : ℕ) → n < 24 → head_of m n ≡ Item (Argued m n)
-head_of_direct m n lt = cond-true _ _ _ (lt-ltb n 24 lt)
+-- a head that is no indefinite length
+type_head : (m : Major) (n : ℕ) → n < 31 → of_type (number_of_major m) n ≡ head_of m n
+type_head Unsigned n lt = refl
+type_head Negative n lt = refl
+type_head (String ByteString) n lt = cond-false _ _ _ (ne_eqb n 31 (λ e. omega (arith, e)))
+type_head (String TextString) n lt = cond-false _ _ _ (ne_eqb n 31 (λ e. omega (arith, e)))
+type_head Array n lt = cond-false _ _ _ (ne_eqb n 31 (λ e. omega (arith, e)))
+type_head Map n lt = cond-false _ _ _ (ne_eqb n 31 (λ e. omega (arith, e)))
+type_head Tag n lt = refl
 
-head_or_indefinite_direct : (m : Major) (n : ℕ) (x : Beginning) → n < 24 → head_or_indefinite m n x ≡ Item (Argued m n)
-head_or_indefinite_direct m n x lt = cond-false _ _ _ (ne_eqb n 31 (λ e. omega arith)) ∙ head_of_direct m n lt
-
-at_type : (b k n : ℕ) → b / 32 ≡ k → b % 32 ≡ n → initial_of b ≡ of_type k n
+head_initial : (m : Major) (n : ℕ) → n < 31 → initial_of (32 * number_of_major m + n) ≡ head_of m n
 unfolding initial_of
-at_type b k n q r = ap (λ (t : ℕ). of_type t (b % 32)) q ∙ ap (λ (i : ℕ). of_type k i) r
+head_initial m n lt =
+    let t : (32 * number_of_major m + n) / 32 ≡ number_of_major m = omega arith in
+    let i : (32 * number_of_major m + n) % 32 ≡ n = omega arith in
+    ap (λ (k : ℕ). of_type k ((32 * number_of_major m + n) % 32)) t ∙ ap (λ (k : ℕ). of_type (number_of_major m) k) i ∙ type_head m n lt
 
--- the initial byte of a head with its argument
+-- the initial byte of a head with its argument, and those of heads whose argument comes after them
 pub direct_initial : (m : Major) (n : ℕ) → n < 24 → initial_of (32 * number_of_major m + n) ≡ Item (Argued m n)
-direct_initial Unsigned n lt = at_type (32 * 0 + n) 0 n (omega arith) (omega arith) ∙ head_of_direct Unsigned n lt
-direct_initial Negative n lt = at_type (32 * 1 + n) 1 n (omega arith) (omega arith) ∙ head_of_direct Negative n lt
-direct_initial (String ByteString) n lt = at_type (32 * 2 + n) 2 n (omega arith) (omega arith) ∙ head_or_indefinite_direct (String ByteString) n (Chunks ByteString) lt
-direct_initial (String TextString) n lt = at_type (32 * 3 + n) 3 n (omega arith) (omega arith) ∙ head_or_indefinite_direct (String TextString) n (Chunks TextString) lt
-direct_initial Array n lt = at_type (32 * 4 + n) 4 n (omega arith) (omega arith) ∙ head_or_indefinite_direct Array n Elements lt
-direct_initial Map n lt = at_type (32 * 5 + n) 5 n (omega arith) (omega arith) ∙ head_or_indefinite_direct Map n Members lt
-direct_initial Tag n lt = at_type (32 * 6 + n) 6 n (omega arith) (omega arith) ∙ head_of_direct Tag n lt
+direct_initial m n lt = head_initial m n (omega arith) ∙ cond-true _ _ _ (lt-ltb n 24 lt)
 
--- the initial bytes of heads whose argument comes after them
-pub one_initial : (m : Major) → initial_of (32 * number_of_major m + 24) ≡ Item (Argument m 1)
-unfolding initial_of
-one_initial Unsigned = refl
-one_initial Negative = refl
-one_initial (String ByteString) = refl
-one_initial (String TextString) = refl
-one_initial Array = refl
-one_initial Map = refl
-one_initial Tag = refl
-
-pub two_initial : (m : Major) → initial_of (32 * number_of_major m + 25) ≡ Item (Argument m 2)
-unfolding initial_of
-two_initial Unsigned = refl
-two_initial Negative = refl
-two_initial (String ByteString) = refl
-two_initial (String TextString) = refl
-two_initial Array = refl
-two_initial Map = refl
-two_initial Tag = refl
-
-pub four_initial : (m : Major) → initial_of (32 * number_of_major m + 26) ≡ Item (Argument m 4)
-unfolding initial_of
-four_initial Unsigned = refl
-four_initial Negative = refl
-four_initial (String ByteString) = refl
-four_initial (String TextString) = refl
-four_initial Array = refl
-four_initial Map = refl
-four_initial Tag = refl
-
-pub eight_initial : (m : Major) → initial_of (32 * number_of_major m + 27) ≡ Item (Argument m 8)
-unfolding initial_of
-eight_initial Unsigned = refl
-eight_initial Negative = refl
-eight_initial (String ByteString) = refl
-eight_initial (String TextString) = refl
-eight_initial Array = refl
-eight_initial Map = refl
-eight_initial Tag = refl
+pub long_initial : (m : Major) (size lead : ℕ) → BeginsHead m size lead → initial_of lead ≡ Item (Argument m size)
+long_initial m size lead one_more = head_initial m 24 (omega arith)
+long_initial m size lead two_more = head_initial m 25 (omega arith)
+long_initial m size lead four_more = head_initial m 26 (omega arith)
+long_initial m size lead eight_more = head_initial m 27 (omega arith)
 
 -- what begins with a head of this type
 abbrev pub IsHeadOf : Major → Beginning → Type 0

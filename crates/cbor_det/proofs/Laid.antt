@@ -144,14 +144,6 @@ one_there (z ∷ zs) zero x y lt at there = at ∙ sym there
 one_there (z ∷ zs) (suc i) x y lt at there = one_there zs i x y (omega (arith, lt)) at there
 
 module _ (xs : List Pair) (i : ℕ) (x : Pair) (lt : i < length xs) (at : x ≡ get_or xs i x) where
-  -- one pair more was put
-  pub put_first : (out more : List ℕ) → more ≡ out ++ (canon (key_of x) ++ canon (view (out-Pair x).value))
-      → more ++ canon_pairs (listed (drop (i + 1) xs)) ≡ out ++ canon_pairs (listed (drop i xs))
-  put_first out more e =
-      ap (λ (s : List ℕ). s ++ canon_pairs (listed (drop (i + 1) xs))) e
-      ∙ append_assoc out (canon (key_of x) ++ canon (view (out-Pair x).value)) (canon_pairs (listed (drop (i + 1) xs)))
-      ∙ ap (λ (ps : Pairs). out ++ canon_pairs ps) (sym (first xs i x lt at))
-
   module _ (n : ℕ) (is : is_above (number n) (key_of x) ≡ true) where
     pub below_first : (out more : List ℕ) → more ≡ out ++ (canon (key_of x) ++ canon (view (out-Pair x).value))
         → more ++ canon_pairs (below n (listed (drop (i + 1) xs))) ≡ out ++ canon_pairs (below n (listed (drop i xs)))

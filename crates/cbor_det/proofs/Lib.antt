@@ -1,10 +1,10 @@
+pub mod Tests
 pub mod Initials
 pub mod Heads
 pub mod Order
 pub mod Lengths
 pub mod Completes
 pub mod Told
-pub mod Classes
 pub mod Shown
 pub mod LongHeads
 pub mod Sound
@@ -23,7 +23,6 @@ pub mod Runs
 pub mod Refusals
 pub mod Standing
 pub mod Fed
-pub mod Feeds
 pub mod Outcomes
 pub mod Adds
 pub mod Under

@@ -1,19 +1,13 @@
 -- A head whose argument stands in the octets after its initial byte.
-use Rattle.std.proofs.Common.{◌≡◌, ◌≢◌, ℕ, zero, suc, ◌+◌, ◌*◌, ◌<◌, ◌≤◌, List, [], ◌∷◌, ◌++◌, length, sym, ap, arith, true, false}
+use Rattle.std.proofs.Common.{◌≡◌, ℕ, zero, suc, ◌+◌, ◌*◌, ◌<◌, ◌≤◌, List, [], ◌∷◌, ◌++◌, length, sym, ap, arith}
 use Rattle.wire_base.specs.Numbers.{number_of}
 use Rattle.wire_base.specs.Layout.{AreOctets}
 use Rattle.wire_base.proofs.Spelled.{octets_of-number_of, number_of-below}
-use Rattle.cbor_det.specs.declared.string_kind.StringKind.TheVariants.{ByteString, TextString}
 use Rattle.cbor_det.specs.declared.initial.Major.{Major}
-use Rattle.cbor_det.specs.declared.initial.Beginning.{Beginning}
-use Rattle.cbor_det.specs.declared.initial.Beginning.TheVariants as beginning
-use Rattle.cbor_det.specs.declared.initial.Initial.TheVariants.{Item}
 use Rattle.cbor_det.specs.Initial.{number_of_major}
 use Rattle.cbor_det.specs.Canonical.{one, two, four, eight}
-use Rattle.cbor_det.specs.Spelling.{IsHead, stop}
+use Rattle.cbor_det.specs.Spelling.{IsHead}
 use Rattle.cbor_det.specs.Standing.{BeginsHead, one_more, two_more, four_more, eight_more}
-use Rattle.cbor_det.proofs.Told.{Tells}
-use Rattle.cbor_det.proofs.Classes.{small_major, long_tells}
 
 -- a list of octets, and one more
 pub are_push : (xs : List ℕ) (b : ℕ) → AreOctets xs → b < 256 → AreOctets (xs ++ b ∷ [])
@@ -32,17 +26,6 @@ long_head m size lead bs four_more len are =
     record { form = four; fits = number_of-below 4 bs len are; is = ap (λ (o : List ℕ). (32 * number_of_major m + 26) ∷ o) (sym (octets_of-number_of 4 bs len are)) }
 long_head m size lead bs eight_more len are =
     record { form = eight; fits = number_of-below 8 bs len are; is = ap (λ (o : List ℕ). (32 * number_of_major m + 27) ∷ o) (sym (octets_of-number_of 8 bs len are)) }
-
--- A head is no break.
-pub no_stop : (b : ℕ) (x : Beginning) → Tells b (Item x) → b ≢ stop
-no_stop b (beginning.Argued m n) t e = let k = small_major m in let lt = t.1 in omega (arith, t.0, lt, e, k)
-no_stop b (beginning.Argument m left) t e = let k = small_major m in let w = long_tells m left b t in omega (arith, w.1, w.2, e, k)
-no_stop b (beginning.Chunks ByteString) t e = omega (arith, t, e)
-no_stop b (beginning.Chunks TextString) t e = omega (arith, t, e)
-no_stop b beginning.Elements t e = omega (arith, t, e)
-no_stop b beginning.Members t e = omega (arith, t, e)
-no_stop b (beginning.Bool false) t e = omega (arith, t, e)
-no_stop b (beginning.Bool true) t e = omega (arith, t, e)
 
 pub long_some : (m : Major) (left b : ℕ) → BeginsHead m left b → 1 ≤ left
 long_some m left b one_more = omega arith

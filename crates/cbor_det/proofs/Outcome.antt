@@ -143,9 +143,6 @@ module _ (limits : Limits) where
         shallow = w.holds.1;
       }
 
-  longer_rest : (u v rest : List ℕ) → v ++ rest ≡ rest → length v ≡ 0
-  longer_rest u v rest e = let l = length-append v rest in let m = ap length e in omega (arith, l, m)
-
   -- nothing shows before the machine stops
   early : (bs tail rest : List ℕ) (k a n j c : ℕ) → length bs ≤ limits.octets → length rest ≤ length bs → run limits 0 (due top) bs ≡ (faulty k a, rest) → n < length bs - length rest
       → Shows limits (take n (bs ++ tail)) j c → ⊥

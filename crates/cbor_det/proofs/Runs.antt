@@ -1,6 +1,6 @@
 -- Runs of the code over pieces, as the machine's.
-use Rattle.std.proofs.Common.{◌≡◌, ℕ, zero, suc, ◌+◌, ◌-◌, ◌*◌, ◌^◌, ◌<◌, ◌≤◌, List, [], ◌∷◌, ◌++◌, length, get_or, take, drop, refl, sym, ap, ◌∙◌, arith, subst, true, false, append_assoc}
-use Rattle.std.proofs.lemmas.List.{append-nil, take-append-drop, drop-drop, drop_all, length-take-le, length-drop}
+use Rattle.std.proofs.Common.{◌≡◌, ℕ, zero, suc, ◌+◌, ◌-◌, ◌*◌, ◌^◌, ◌<◌, ◌≤◌, List, [], ◌∷◌, ◌++◌, length, get_or, take, drop, refl, sym, ap, ◌∙◌, arith, true, false, append_assoc}
+use Rattle.std.proofs.lemmas.List.{append-nil, take-append-drop, drop-drop, length-take-le, length-drop}
 use Rattle.cbor_det.specs.declared.string_kind.StringKind.{StringKind}
 use Rattle.cbor_det.specs.declared.limits.Limits.{Limits}
 use Rattle.cbor_det.specs.declared.initial.Major.{Major}
@@ -11,7 +11,6 @@ use Rattle.cbor_det.specs.Machine.{State, due, argument, content, string_ended, 
 use Rattle.cbor_det.specs.Frames.{ArgumentFits}
 use Rattle.std.proofs.lemmas.Bool.{cond-true, cond-false}
 use Rattle.cbor_det.proofs.Completes.{content_reads}
-use Rattle.cbor_det.proofs.Outcome.{Same}
 
 -- One octet.
 pub one_step : (limits : Limits) (i : ℕ) (σ τ : State) (b : ℕ) (octets rest : List ℕ) → length octets ≡ 1 → b ≡ get_or octets 0 0 → is_over σ ≡ false → τ ≡ step limits i σ b
@@ -28,10 +27,6 @@ due_begins limits i p x y b is byte = ap (λ (z : Initial). begun limits i p z) 
 pub due_step : (limits : Limits) (i : ℕ) (p : Place) (τ : State) (b : ℕ) (octets rest : List ℕ) → length octets ≡ 1 → b ≡ get_or octets 0 0 → τ ≡ step limits i (due p) b
     → run limits i (due p) (octets ++ rest) ≡ run limits (i + length octets) τ rest
 due_step limits i p τ b octets rest one at is = one_step limits i (due p) τ b octets rest one at refl is
-
-pub head_step : (limits : Limits) (i : ℕ) (p : Place) (at : ℕ) (m : Major) (left n : ℕ) (τ : State) (b : ℕ) (octets rest : List ℕ) → length octets ≡ 1 → b ≡ get_or octets 0 0
-    → τ ≡ step limits i (argument p at m left n) b → run limits i (argument p at m left n) (octets ++ rest) ≡ run limits (i + length octets) τ rest
-head_step limits i p at m left n τ b octets rest one is stepped = one_step limits i (argument p at m left n) τ b octets rest one is refl stepped
 
 above_one : (left : ℕ) → 1 ≤ left → (left ≡ 1 → ⊥) → 1 ≤ left - 1
 above_one left some ne = omega (arith, ne)
@@ -130,7 +125,3 @@ run_goes limits taken used count start σ τ piece front is len was step =
 pub run_over : (limits : Limits) (i : ℕ) (σ : State) (rest : List ℕ) → is_over σ ≡ true → run limits i σ rest ≡ (σ, rest)
 run_over limits i σ [] over = refl
 run_over limits i σ (b ∷ bs) over = cond-true _ _ _ over
-
-pub run_all : (limits : Limits) (i used : ℕ) (σ : State) (piece : List ℕ) → length piece ≤ used → run limits i σ (drop used piece) ≡ (σ, drop used piece)
-run_all limits i used σ piece all =
-    ap (λ (x : List ℕ). run limits i σ x) (drop_all used piece all) ∙ let P : List ℕ → Type 0 = λ x. Same (σ, []) (σ, x) in subst P (sym (drop_all used piece all)) refl

@@ -1,10 +1,10 @@
 -- The machine comes to each place where an initial byte is due, and stops at each fault that shows,
 -- with that kind or a lower one.
-use Rattle.std.proofs.Common.{◌≡◌, ◌≢◌, ℕ, zero, suc, ◌+◌, ◌^◌, ◌<◌, ◌≤◌, ◌⊎◌, List, [], ◌∷◌, ◌++◌, length, refl, sym, ap, ◌∙◌, arith, subst, Option, Some, None, append_assoc, length-append, inl, inr}
+use Rattle.std.proofs.Common.{◌≡◌, ◌≢◌, ℕ, zero, suc, ◌+◌, ◌^◌, ◌<◌, ◌≤◌, ◌⊎◌, List, [], ◌∷◌, ◌++◌, length, true, false, refl, sym, ap, ◌∙◌, arith, Option, Some, None, append_assoc, length-append, inl, inr}
 use Rattle.std.specs.Str.{IsUtf8, is_utf8}
 use Rattle.std.proofs.lemmas.Str.{IsUtf8-from_is_utf8}
 use Rattle.std.specs.Option.{IfSome}
-use Rattle.std.proofs.lemmas.Bool.{lt-ltb, le-ltb, cond-true, cond-false, false_from_ne_true}
+use Rattle.std.proofs.lemmas.Bool.{lt-ltb, le-ltb, cond-true, cond-false, both_ways, false_from_ne_true}
 use Rattle.cbor_det.specs.declared.string_kind.StringKind.{StringKind}
 use Rattle.cbor_det.specs.declared.string_kind.StringKind.TheVariants.{ByteString, TextString}
 use Rattle.cbor_det.specs.declared.limits.Limits.{Limits}
@@ -17,16 +17,15 @@ use Rattle.cbor_det.specs.Initial.{initial_of, number_of_major}
 use Rattle.cbor_det.specs.Term.{Term, no_terms, no_pairs, count, pair_count, terms_depth, pairs_depth}
 use Rattle.cbor_det.specs.Canonical.{canon}
 use Rattle.cbor_det.specs.Spelling.{IsHead, stop, opening, major_of}
-use Rattle.cbor_det.specs.Faults.{Place, top, at_chunk, at_element, at_key, at_value, at_content, height, IsChunkPlace, Admits, AdmitsString, Opens, counted, until_break, MoreAreDue, Upto, start, chunk_due, element_due, key_due, value_due, content_due, IsReserved, IsNeverOpen, IsNoChunk, TakesBreak, IsMalformed, HasNoItem, Shows, malformed, float, simple, range, too_deep, not_utf8, doubled, long_string, past_limit}
+use Rattle.cbor_det.specs.Faults.{Place, top, at_chunk, at_element, at_key, at_value, at_content, height, IsChunkPlace, Admits, AdmitsString, Opens, counted, until_break, MoreAreDue, Upto, start, chunk_due, element_due, key_due, value_due, content_due, IsReserved, IsNeverOpen, TakesBreak, IsMalformed, HasNoItem, Shows, malformed, float, simple, range, too_deep, not_utf8, doubled, long_string, past_limit}
 use Rattle.cbor_det.specs.Machine.{State, due, whole, faulty, item_ended, filled_array, filled_map, string_ended, string_begun, argued, opened, broken, begun, item_begun, chunk_begun, run}
 use Rattle.cbor_det.specs.Standing.{AdmitsHead}
 use Rattle.cbor_det.proofs.Initials.{begun_item}
-use Rattle.cbor_det.proofs.Told.{Tells, tells}
+use Rattle.cbor_det.proofs.Told.{Tells, tells, IsLow, malformed_low, float_low, simple_low, is_in_string, chunk_told}
 use Rattle.cbor_det.proofs.Heads.{head_reads}
 use Rattle.cbor_det.proofs.Order.{is_held_of, free_of}
 use Rattle.cbor_det.proofs.Lengths.{not_full}
 use Rattle.cbor_det.proofs.Completes.{admits_head, reads, series_reads, pairs_read, chunks_read, opens_to, steps_to, begun_reads, opening_string, opening_array, opening_map}
-use Rattle.cbor_det.proofs.Classes.{IsLow, fault_kind, other_argued, other_argument, malformed_is, float_is, simple_is}
 
 module _ (limits : Limits) where
   -- a container that opens
@@ -135,48 +134,36 @@ module _ (limits : Limits) where
       }
 
   -- a chunk is due
-  no_chunk : (a i b : ℕ) (kind : StringKind) (s : List ℕ) (p : Place) (x : Initial) → Tells b x → IsNoChunk kind b → chunk_begun limits i a kind s p x ≡ faulty 2 i
-  no_chunk a i b kind s p Break t is = absurd (is.0 t)
-  no_chunk a i b kind s p Float t is = refl
-  no_chunk a i b kind s p Simple t is = refl
-  no_chunk a i b kind s p Malformed t is = refl
-  no_chunk a i b kind s p (Item (beginning.Chunks k)) t is = refl
-  no_chunk a i b kind s p (Item beginning.Elements) t is = refl
-  no_chunk a i b kind s p (Item beginning.Members) t is = refl
-  no_chunk a i b kind s p (Item (beginning.Bool v)) t is = refl
-  no_chunk a i b kind s p (Item (beginning.Argued m n)) t is = cond-false _ _ _ (other_argued m n b kind t is.1)
-  no_chunk a i b kind s p (Item (beginning.Argument m left)) t is = cond-false _ _ _ (other_argument m left b kind t is.1)
+  no_chunk : (a i : ℕ) (kind : StringKind) (s : List ℕ) (p : Place) (x : Initial) → is_in_string kind x ≡ false → chunk_begun limits i a kind s p x ≡ faulty 2 i
+  no_chunk a i kind s p Break lie = absurd (both_ways true lie refl)
+  no_chunk a i kind s p Float lie = refl
+  no_chunk a i kind s p Simple lie = refl
+  no_chunk a i kind s p Malformed lie = refl
+  no_chunk a i kind s p (Item x) lie = cond-false _ _ _ lie
 
   -- a float, a simple value or a malformed octet
-  low_chunk : (a i : ℕ) (kind : StringKind) (s : List ℕ) (p : Place) (x : Initial) → IsLow x → chunk_begun limits i a kind s p x ≡ faulty 2 i
-  low_chunk a i kind s p Float low = refl
-  low_chunk a i kind s p Simple low = refl
-  low_chunk a i kind s p Malformed low = refl
-  low_chunk a i kind s p Break low = absurd low
-  low_chunk a i kind s p (Item x) low = absurd low
+  low_chunk : (a i kind : ℕ) (k : StringKind) (s : List ℕ) (p : Place) (x : Initial) → IsLow kind x → FaultyBelow (chunk_begun limits i a k s p x) kind i
+  low_chunk a i kind k s p Malformed low = record { lower = 2; below = low; is = refl }
+  low_chunk a i kind k s p Float low = record { lower = 2; below = omega (arith, low); is = refl }
+  low_chunk a i kind k s p Simple low = record { lower = 2; below = omega (arith, low); is = refl }
+  low_chunk a i kind k s p Break low = absurd low
+  low_chunk a i kind k s p (Item x) low = absurd low
 
-  low_item : (i : ℕ) (p : Place) (x : Initial) → IsLow x → item_begun limits i p x ≡ faulty (fault_kind x) i
-  low_item i p Float low = refl
-  low_item i p Simple low = refl
-  low_item i p Malformed low = refl
-  low_item i p Break low = absurd low
-  low_item i p (Item x) low = absurd low
+  low_item : (i kind : ℕ) (p : Place) (x : Initial) → IsLow kind x → FaultyBelow (item_begun limits i p x) kind i
+  low_item i kind p Malformed low = record { lower = 2; below = low; is = refl }
+  low_item i kind p Float low = record { lower = 3; below = low; is = refl }
+  low_item i kind p Simple low = record { lower = 4; below = low; is = refl }
+  low_item i kind p Break low = absurd low
+  low_item i kind p (Item x) low = absurd low
 
-  low_two : (x : Initial) → IsLow x → 2 ≤ fault_kind x
-  low_two Float low = omega arith
-  low_two Simple low = omega arith
-  low_two Malformed low = omega arith
-  low_two Break low = omega arith
-  low_two (Item x) low = omega arith
-
-  low_stops : (p : Place) (i kind : ℕ) (x : Initial) → IsLow x → fault_kind x ≤ kind → FaultyBelow (begun limits i p x) kind i
+  low_stops : (p : Place) (i kind : ℕ) (x : Initial) → IsLow kind x → FaultyBelow (begun limits i p x) kind i
   unfolding begun
-  low_stops (at_chunk a k s p) i kind x low below = let two = low_two x low in record { lower = 2; below = omega (arith, two, below); is = low_chunk a i k s p x low }
-  low_stops top i kind x low below = record { lower = fault_kind x; below = below; is = low_item i top x low }
-  low_stops (at_element a all ts p) i kind x low below = record { lower = fault_kind x; below = below; is = low_item i (at_element a all ts p) x low }
-  low_stops (at_key a all ps p) i kind x low below = record { lower = fault_kind x; below = below; is = low_item i (at_key a all ps p) x low }
-  low_stops (at_value a all ps k p) i kind x low below = record { lower = fault_kind x; below = below; is = low_item i (at_value a all ps k p) x low }
-  low_stops (at_content a n p) i kind x low below = record { lower = fault_kind x; below = below; is = low_item i (at_content a n p) x low }
+  low_stops (at_chunk a k s p) i kind x low = low_chunk a i kind k s p x low
+  low_stops top i kind x low = low_item i kind top x low
+  low_stops (at_element a all ts p) i kind x low = low_item i kind (at_element a all ts p) x low
+  low_stops (at_key a all ps p) i kind x low = low_item i kind (at_key a all ps p) x low
+  low_stops (at_value a all ps k p) i kind x low = low_item i kind (at_value a all ps k p) x low
+  low_stops (at_content a n p) i kind x low = low_item i kind (at_content a n p) x low
 
   -- a break where it ends nothing
   no_break : (p : Place) (i : ℕ) → ¬ IsChunkPlace p → ¬ TakesBreak p → begun limits i p Break ≡ faulty 2 i
@@ -195,18 +182,14 @@ module _ (limits : Limits) where
   stop_is b e = ap (λ (x : ℕ). initial_of x) e
 
   malformed_item : (p : Place) (i b : ℕ) → ¬ IsChunkPlace p → IsReserved b ⊎ IsNeverOpen b ⊎ ((b ≡ stop) × ¬ TakesBreak p) → FaultyBelow (begun limits i p (initial_of b)) 2 i
-  malformed_item p i b not (inl r) =
-      let P : Initial → Type 0 = λ x. FaultyBelow (begun limits i p x) 2 i in
-      subst P (sym (malformed_is b (initial_of b) (tells b) (inl r))) (low_stops p i 2 Malformed tt (omega arith))
-  malformed_item p i b not (inr (inl r)) =
-      let P : Initial → Type 0 = λ x. FaultyBelow (begun limits i p x) 2 i in
-      subst P (sym (malformed_is b (initial_of b) (tells b) (inr r))) (low_stops p i 2 Malformed tt (omega arith))
+  malformed_item p i b not (inl r) = low_stops p i 2 (initial_of b) (malformed_low b (initial_of b) refl (inl r))
+  malformed_item p i b not (inr (inl r)) = low_stops p i 2 (initial_of b) (malformed_low b (initial_of b) refl (inr r))
   malformed_item p i b not (inr (inr r)) =
       record { lower = 2; below = omega arith; is = ap (λ (x : Initial). begun limits i p x) (stop_is b r.0) ∙ no_break p i not r.1 }
 
   malformed_stops : (p : Place) (i b : ℕ) → IsMalformed p b → FaultyBelow (begun limits i p (initial_of b)) 2 i
   unfolding begun
-  malformed_stops (at_chunk a k s p) i b is = record { lower = 2; below = omega arith; is = no_chunk a i b k s p (initial_of b) (tells b) is }
+  malformed_stops (at_chunk a k s p) i b is = record { lower = 2; below = omega arith; is = no_chunk a i k s p (initial_of b) ((chunk_told k b (initial_of b) refl).0 is) }
   malformed_stops top i b is = malformed_item top i b (λ e. e) is
   malformed_stops (at_element a all ts p) i b is = malformed_item (at_element a all ts p) i b (λ e. e) is
   malformed_stops (at_key a all ps p) i b is = malformed_item (at_key a all ps p) i b (λ e. e) is
@@ -214,9 +197,9 @@ module _ (limits : Limits) where
   malformed_stops (at_content a n p) i b is = malformed_item (at_content a n p) i b (λ e. e) is
 
   deep_by : (p : Place) (i b : ℕ) (x : Initial) → Tells b x → ¬ IsChunkPlace p → limits.depth < height p + 1 → b ≢ stop → FaultyBelow (begun limits i p x) 6 i
-  deep_by p i b Float t not deep ne = low_stops p i 6 Float tt (omega arith)
-  deep_by p i b Simple t not deep ne = low_stops p i 6 Simple tt (omega arith)
-  deep_by p i b Malformed t not deep ne = low_stops p i 6 Malformed tt (omega arith)
+  deep_by p i b Float t not deep ne = low_stops p i 6 Float (omega arith)
+  deep_by p i b Simple t not deep ne = low_stops p i 6 Simple (omega arith)
+  deep_by p i b Malformed t not deep ne = low_stops p i 6 Malformed (omega arith)
   deep_by p i b Break t not deep ne = absurd (ne t)
   deep_by p i b (Item x) t not deep ne =
       record { lower = 6; below = omega arith; is = begun_item limits p i (Item x) not ∙ cond-true _ _ _ (lt-ltb limits.depth (height p + 1) deep) }
@@ -270,14 +253,14 @@ module _ (limits : Limits) where
       → StopsAt o rest k a ⊎ ((k ≡ 9) × (a ≡ length o) × (length o ≡ limits.octets) × HasNoItem limits o)
   unfolding item_ended
   shows_runs o k a (malformed p u b upto is) room rest = inl (byte_stops p u b 2 rest upto room (malformed_stops p (length u) b is))
-  shows_runs o k a (float p u b upto is) room rest = let x = float_is b (initial_of b) (tells b) is in inl (byte_stops p u b 3 rest upto room (low_stops p (length u) 3 (initial_of b) x.0 x.1))
-  shows_runs o k a (simple p u b upto is) room rest = let x = simple_is b (initial_of b) (tells b) is in inl (byte_stops p u b 4 rest upto room (low_stops p (length u) 4 (initial_of b) x.0 x.1))
+  shows_runs o k a (float p u b upto is) room rest = inl (byte_stops p u b 3 rest upto room (low_stops p (length u) 3 (initial_of b) (float_low b (initial_of b) refl is)))
+  shows_runs o k a (simple p u b upto is) room rest = inl (byte_stops p u b 4 rest upto room (low_stops p (length u) 4 (initial_of b) (simple_low b (initial_of b) refl is)))
   shows_runs o k a (range p u n h zero upto ready small is big) room rest =
       inl (head_stops p u h Unsigned n 5 rest upto (admits_head limits p Unsigned ready) is room (too_big (length u + length h) (length u) n 0 p Unsigned small refl big))
   shows_runs o k a (range p u n h (suc zero) upto ready small is big) room rest =
       inl (head_stops p u h Negative n 5 rest upto (admits_head limits p Negative ready) is room (too_big (length u + length h) (length u) n 1 p Negative small refl big))
   shows_runs o k a (range p u n h (suc (suc m)) upto ready small is big) room rest = absurd (omega (arith, small))
-  shows_runs o k a (too_deep p u b upto is) room rest = inl (byte_stops p u b 6 rest upto room (deep_by p (length u) b (initial_of b) (tells b) is.0 is.1 is.2))
+  shows_runs o k a (too_deep p u b upto is) room rest = inl (byte_stops p u b 6 rest upto room (deep_by p (length u) b (initial_of b) (tells b (initial_of b) refl) is.0 is.1 is.2))
   shows_runs o k a (not_utf8 p u h s upto ready is not) room rest =
       let l1 = length-append u (h ++ s) in
       let l2 = length-append h s in

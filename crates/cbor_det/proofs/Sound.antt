@@ -14,18 +14,18 @@ use Rattle.cbor_det.specs.declared.initial.Beginning.{Beginning}
 use Rattle.cbor_det.specs.declared.initial.Beginning.TheVariants as beginning
 use Rattle.cbor_det.specs.declared.initial.Initial.{Initial}
 use Rattle.cbor_det.specs.declared.initial.Initial.TheVariants.{Item, Break, Float, Simple, Malformed}
-use Rattle.cbor_det.specs.Initial.{number_of_major}
+use Rattle.cbor_det.specs.Initial.{number_of_major, initial_of}
 use Rattle.cbor_det.specs.Term.{Term, Terms, Pairs, integer, array, map, tagged, boolean, no_terms, no_pairs, count, pair_count, plus, depth, terms_depth, pairs_depth}
 use Rattle.cbor_det.specs.Canonical.{canon, direct}
 use Rattle.cbor_det.specs.Spelling.{IsHead, stop, opening, major_of, IsPart, string, no_chunks, chunk, Rises, PutsIn, Spelling, Series, PairSeries, unsigned, negative, definite_string, definite_array, indefinite_array, definite_map, indefinite_map, under_tag, is_false, is_true, no_items, item, no_members, member}
 use Rattle.cbor_det.specs.Faults.{Place, top, at_chunk, at_element, at_key, at_value, at_content, height, IsChunkPlace, Admits, AdmitsString, Opens, counted, until_break, MoreAreDue, Upto, start, chunk_due, element_due, key_due, value_due, content_due, IsReserved, IsNeverOpen, TakesBreak, IsMalformed, Shows, malformed, float, simple, range, too_deep, not_utf8, doubled, long_string}
 use Rattle.cbor_det.specs.Machine.{State, due, argument, content, whole, faulty, item_ended, is_full, is_held, insert, filled_array, filled_map, is_part, string_given, string_ended, string_begun, argued, opened, broken, item_begun}
 use Rattle.cbor_det.specs.Standing.{AdmitsHead, InArgument, InContent, BeginsHead}
-use Rattle.cbor_det.proofs.Told.{Tells}
+use Rattle.cbor_det.proofs.Told.{Tells, tells, no_stop, long_begins}
 use Rattle.cbor_det.proofs.Order.{insert_puts, rises_insert, count_puts, depth_puts, held_is, held_not, free_of}
 use Rattle.cbor_det.proofs.Lengths.{count_plus, depth_plus}
 use Rattle.cbor_det.proofs.Completes.{string_depth, string_item, admits_head}
-use Rattle.cbor_det.proofs.LongHeads.{no_stop, long_some}
+use Rattle.cbor_det.proofs.LongHeads.{long_some}
 
 module _ (limits : Limits) where
   abbrev pub Holds : List ℕ → State → Type 0
@@ -246,7 +246,7 @@ module _ (limits : Limits) where
   opened_holds : (p : Place) (q : List ℕ) (b : ℕ) (x : Beginning) → Upto limits p q → Admits limits p 1 → Tells b (Item x) → Holds (q ++ b ∷ []) (opened limits (length q) p x)
   unfolding opened
   opened_holds p q b (beginning.Argued m n) upto ready t = argued_holds p q (b ∷ []) m n upto (admits_head limits p m ready) (direct_head m n b t)
-  opened_holds p q b (beginning.Argument m left) upto ready t = starts_argument p q b m left upto (admits_head limits p m ready) t
+  opened_holds p q b (beginning.Argument m left) upto ready t = starts_argument p q b m left upto (admits_head limits p m ready) (long_begins m left b t)
   opened_holds p q b (beginning.Chunks kind) upto ready t =
       moved (due (at_chunk (length q) kind [] p)) (q ++ b ∷ []) (q ++ opening (major_of kind) ∷ []) (ap (λ (x : ℕ). q ++ x ∷ []) t) (chunk_due p kind q [] [] upto ready no_chunks)
   opened_holds p q b beginning.Elements upto ready t =
@@ -301,12 +301,12 @@ module _ (limits : Limits) where
   broken_holds (at_value a all ps k p) q b upto not is = break_shows (at_value a all ps k p) q b upto not is (λ e. e)
   broken_holds (at_content a n p) q b upto not is = break_shows (at_content a n p) q b upto not is (λ e. e)
 
-  pub item_holds : (p : Place) (q : List ℕ) (b : ℕ) (x : Initial) → Upto limits p q → ¬ IsChunkPlace p → b < 256 → Tells b x → Holds (q ++ b ∷ []) (item_begun limits (length q) p x)
-  item_holds p q b Malformed upto not small t = malformed p q b upto (told_malformed p b not small t)
-  item_holds p q b Break upto not small t = broken_holds p q b upto not t
-  item_holds p q b Float upto not small t = float p q b upto t
-  item_holds p q b Simple upto not small t = simple p q b upto t.0
-  item_holds p q b (Item x) upto not small t =
+  pub item_holds : (p : Place) (q : List ℕ) (b : ℕ) (x : Initial) → Upto limits p q → ¬ IsChunkPlace p → b < 256 → initial_of b ≡ x → Holds (q ++ b ∷ []) (item_begun limits (length q) p x)
+  item_holds p q b Malformed upto not small is = malformed p q b upto (told_malformed p b not small (tells b Malformed is))
+  item_holds p q b Break upto not small is = broken_holds p q b upto not (tells b Break is)
+  item_holds p q b Float upto not small is = float p q b upto (tells b Float is)
+  item_holds p q b Simple upto not small is = simple p q b upto (tells b Simple is)
+  item_holds p q b (Item x) upto not small is =
       cond_both (nat_lt limits.depth (height p + 1)) _ _ (Holds (q ++ b ∷ []))
-      (λ e. too_deep p q b upto (not, ltb-true limits.depth (height p + 1) e, no_stop b x t))
-      (λ e. opened_holds p q b x upto (not, ltb-false limits.depth (height p + 1) e) t)
+      (λ e. too_deep p q b upto (not, ltb-true limits.depth (height p + 1) e, no_stop b x is))
+      (λ e. opened_holds p q b x upto (not, ltb-false limits.depth (height p + 1) e) (tells b (Item x) is))

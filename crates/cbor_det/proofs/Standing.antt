@@ -6,18 +6,16 @@ use Rattle.cbor_det.specs.declared.frame.Phase.{Phase}
 use Rattle.cbor_det.specs.declared.frame.Phase.TheVariants as phase
 use Rattle.cbor_det.specs.declared.initial.Beginning.TheVariants.{Argument}
 use Rattle.cbor_det.specs.declared.initial.Initial.{Initial}
-use Rattle.cbor_det.specs.declared.initial.Initial.TheVariants.{Item}
 use Rattle.cbor_det.specs.declared.initial.Major.{Major}
 use Rattle.cbor_det.specs.declared.initial.Major.TheVariants.{String}
 use Rattle.cbor_det.specs.declared.string_kind.StringKind.{StringKind}
 use Rattle.cbor_det.specs.declared.limits.Limits.{Limits}
-use Rattle.cbor_det.specs.Initial.{initial_of}
 use Rattle.cbor_det.specs.Faults.{Place, top, start}
-use Rattle.cbor_det.specs.Standing.{place, AdmitsHead, BeginsHead, one_more, two_more, four_more, eight_more, InArgument, InContent, IsAt, Stands}
+use Rattle.cbor_det.specs.Standing.{place, AdmitsHead, BeginsHead, InArgument, InContent, IsAt, Stands}
 use Rattle.cbor_det.specs.Machine.{State, due, argument, content, begun, opened, string_begun, step, run}
 use Rattle.cbor_det.specs.Frames.{phase_state}
 use Rattle.cbor_det.proofs.Heads.{joined, head_reads}
-use Rattle.cbor_det.proofs.Initials.{head_opens, one_initial, two_initial, four_initial, eight_initial}
+use Rattle.cbor_det.proofs.Initials.{head_opens, long_initial}
 use Rattle.cbor_det.proofs.Outcome.{Same}
 use Rattle.cbor_det.proofs.Runs.{content_part}
 use Rattle.cbor_det.proofs.Shown.{upto_runs, not_long}
@@ -25,17 +23,11 @@ use Rattle.cbor_det.proofs.Sound.{Holds}
 
 module _ (limits : Limits) where
   -- a head that begins with this octet, and the octets of its argument that came
-  initial_is : (m : Major) (size lead : ℕ) → BeginsHead m size lead → initial_of lead ≡ Item (Argument m size)
-  initial_is m size lead one_more = one_initial m
-  initial_is m size lead two_more = two_initial m
-  initial_is m size lead four_more = four_initial m
-  initial_is m size lead eight_more = eight_initial m
-
   argument_begins : (p : Place) (m : Major) (size lead i : ℕ) (rest : List ℕ) → AdmitsHead limits p m → BeginsHead m size lead
       → run limits i (due p) (lead ∷ rest) ≡ run limits (i + 1) (argument p i m size 0) rest
   unfolding step opened
   argument_begins p m size lead i rest ready begins =
-      ap (λ (s : State). run limits (i + 1) s rest) (ap (λ (x : Initial). begun limits i p x) (initial_is m size lead begins) ∙ head_opens limits p i m (Argument m size) ready refl)
+      ap (λ (s : State). run limits (i + 1) s rest) (ap (λ (x : Initial). begun limits i p x) (long_initial m size lead begins) ∙ head_opens limits p i m (Argument m size) ready refl)
 
   argument_part : (p : Place) (at : ℕ) (m : Major) (left i number : ℕ) (came : List ℕ) → length came < left
       → run limits i (argument p at m left number) came ≡ (argument p at m (left - length came) (joined number came), [])

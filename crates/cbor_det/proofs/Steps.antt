@@ -1,5 +1,5 @@
 -- What the machine says after one octet more, and after a whole run.
-use Rattle.std.proofs.Common.{◌≡◌, ◌≢◌, ℕ, zero, suc, ◌+◌, ◌*◌, ◌/◌, ◌<◌, ◌≤◌, ◌⊎◌, List, [], ◌∷◌, ◌++◌, length, refl, sym, ap, ◌∙◌, arith, subst, true, false, append_assoc, length-append, inl, inr}
+use Rattle.std.proofs.Common.{◌≡◌, ℕ, zero, suc, ◌+◌, ◌*◌, ◌<◌, List, [], ◌∷◌, ◌++◌, length, refl, sym, ap, ◌∙◌, arith, subst, true, false, append_assoc, length-append}
 use Rattle.std.proofs.lemmas.List.{append-nil}
 use Rattle.std.proofs.lemmas.List.Sums.{fold_push}
 use Rattle.std.proofs.lemmas.Bool.{cond_both, both_ways}
@@ -10,18 +10,18 @@ use Rattle.cbor_det.specs.declared.string_kind.StringKind.TheVariants.{ByteStrin
 use Rattle.cbor_det.specs.declared.limits.Limits.{Limits}
 use Rattle.cbor_det.specs.declared.initial.Major.{Major}
 use Rattle.cbor_det.specs.declared.initial.Major.TheVariants.{Unsigned, Negative, String, Array, Map, Tag}
+use Rattle.cbor_det.specs.declared.initial.Beginning.{Beginning}
 use Rattle.cbor_det.specs.declared.initial.Beginning.TheVariants as beginning
 use Rattle.cbor_det.specs.declared.initial.Initial.{Initial}
 use Rattle.cbor_det.specs.declared.initial.Initial.TheVariants.{Item, Break, Float, Simple, Malformed}
-use Rattle.cbor_det.specs.Initial.{initial_of, number_of_major}
+use Rattle.cbor_det.specs.Initial.{initial_of}
 use Rattle.cbor_det.specs.Spelling.{IsHead, stop, opening, major_of, string, indefinite_string}
-use Rattle.cbor_det.specs.Faults.{Place, top, at_chunk, at_element, at_key, at_value, at_content, IsNoChunk, Upto, chunk_due, Shows, malformed, IsReserved, IsNeverOpen, major}
-use Rattle.cbor_det.specs.Machine.{State, due, argument, content, whole, faulty, item_ended, string_ended, argued, opened, begun, chunk_begun, string_head, same_kind, step, run, is_over}
-use Rattle.cbor_det.proofs.Told.{Tells, tells}
-use Rattle.cbor_det.proofs.Classes.{long_tells}
+use Rattle.cbor_det.specs.Faults.{Place, top, at_chunk, at_element, at_key, at_value, at_content, IsNoChunk, Upto, chunk_due, Shows, malformed}
+use Rattle.cbor_det.specs.Machine.{State, due, argument, content, whole, faulty, item_ended, string_ended, argued, opened, begun, chunk_begun, is_string, string_head, same_kind, step, run, is_over}
+use Rattle.cbor_det.proofs.Told.{Tells, tells, chunk_told, long_begins}
 use Rattle.cbor_det.proofs.Completes.{string_depth, chunks_part, string_item, string_ends}
 use Rattle.cbor_det.specs.Standing.{InArgument, InContent}
-use Rattle.cbor_det.proofs.LongHeads.{are_push, long_head, no_stop}
+use Rattle.cbor_det.proofs.LongHeads.{are_push, long_head}
 use Rattle.cbor_det.proofs.Sound.{Holds, moved, item_ended_holds, argued_holds, ended_holds, direct_head, starts_argument, item_holds}
 
 same_is : (kind other : StringKind) → same_kind kind other ≡ true → other ≡ kind
@@ -30,63 +30,13 @@ same_is ByteString TextString e = absurd (both_ways false refl e)
 same_is TextString ByteString e = absurd (both_ways false refl e)
 same_is TextString TextString e = refl
 
-same_not : (kind other : StringKind) → same_kind kind other ≡ false → major_of other ≢ major_of kind
-same_not ByteString ByteString e f = both_ways true e refl
-same_not ByteString TextString e f = omega (arith, f)
-same_not TextString ByteString e f = omega (arith, f)
-same_not TextString TextString e f = both_ways true e refl
-
-argued_is : (kind : StringKind) (m : Major) (n : ℕ) → string_head kind (Item (beginning.Argued m n)) ≡ true → m ≡ String kind
-argued_is kind Unsigned n e = absurd (both_ways false refl e)
-argued_is kind Negative n e = absurd (both_ways false refl e)
-argued_is kind Array n e = absurd (both_ways false refl e)
-argued_is kind Map n e = absurd (both_ways false refl e)
-argued_is kind Tag n e = absurd (both_ways false refl e)
-argued_is kind (String other) n e = ap (λ (k : StringKind). String k) (same_is kind other e)
-
-argument_is : (kind : StringKind) (m : Major) (n : ℕ) → string_head kind (Item (beginning.Argument m n)) ≡ true → m ≡ String kind
-argument_is kind Unsigned n e = absurd (both_ways false refl e)
-argument_is kind Negative n e = absurd (both_ways false refl e)
-argument_is kind Array n e = absurd (both_ways false refl e)
-argument_is kind Map n e = absurd (both_ways false refl e)
-argument_is kind Tag n e = absurd (both_ways false refl e)
-argument_is kind (String other) n e = ap (λ (k : StringKind). String k) (same_is kind other e)
-
-string_major : (kind : StringKind) → (2 ≤ major_of kind) × (major_of kind ≤ 3)
-string_major ByteString = (omega arith, omega arith)
-string_major TextString = (omega arith, omega arith)
-
-argued_not : (kind : StringKind) (m : Major) (n : ℕ) → string_head kind (Item (beginning.Argued m n)) ≡ false → number_of_major m ≢ major_of kind
-argued_not kind Unsigned n e f = let k = string_major kind in omega (arith, f, k)
-argued_not kind Negative n e f = let k = string_major kind in omega (arith, f, k)
-argued_not kind Array n e f = let k = string_major kind in omega (arith, f, k)
-argued_not kind Map n e f = let k = string_major kind in omega (arith, f, k)
-argued_not kind Tag n e f = let k = string_major kind in omega (arith, f, k)
-argued_not kind (String other) n e f = same_not kind other e f
-
-argument_not : (kind : StringKind) (m : Major) (n : ℕ) → string_head kind (Item (beginning.Argument m n)) ≡ false → number_of_major m ≢ major_of kind
-argument_not kind Unsigned n e f = let k = string_major kind in omega (arith, f, k)
-argument_not kind Negative n e f = let k = string_major kind in omega (arith, f, k)
-argument_not kind Array n e f = let k = string_major kind in omega (arith, f, k)
-argument_not kind Map n e f = let k = string_major kind in omega (arith, f, k)
-argument_not kind Tag n e f = let k = string_major kind in omega (arith, f, k)
-argument_not kind (String other) n e f = same_not kind other e f
-
-type_is : (b k n : ℕ) → b ≡ 32 * k + n → n < 32 → b / 32 ≡ k
-type_is b k n e small = omega arith
-
-never_stop : (b : ℕ) → b ≡ stop → (major b ≡ 0) ⊎ (major b ≡ 1) ⊎ (major b ≡ 6) → ⊥
-never_stop b e (inl m) = omega (arith, e, m)
-never_stop b e (inr (inl m)) = omega (arith, e, m)
-never_stop b e (inr (inr m)) = omega (arith, e, m)
-
-reserved_no : (b : ℕ) (kind : StringKind) → b < 256 → IsReserved b ⊎ IsNeverOpen b ⊎ (256 ≤ b) → IsNoChunk kind b
-reserved_no b kind small (inl r) = ((λ e. omega (arith, e, r.1)), inr r.0)
-reserved_no b kind small (inr (inl r)) = ((λ e. never_stop b e r.1), inr (let e = r.0 in omega (arith, e)))
-reserved_no b kind small (inr (inr r)) = absurd (omega arith)
-
-seven_no : (b : ℕ) (kind : StringKind) → b ≢ stop → b / 32 ≡ 7 → IsNoChunk kind b
-seven_no b kind ne seven = let k = string_major kind in (ne, inl (λ e. omega (arith, e, seven, k)))
+string_is : (kind : StringKind) (m : Major) → is_string kind m ≡ true → m ≡ String kind
+string_is kind Unsigned e = absurd (both_ways false refl e)
+string_is kind Negative e = absurd (both_ways false refl e)
+string_is kind Array e = absurd (both_ways false refl e)
+string_is kind Map e = absurd (both_ways false refl e)
+string_is kind Tag e = absurd (both_ways false refl e)
+string_is kind (String other) e = ap (λ (k : StringKind). String k) (same_is kind other e)
 
 module _ (limits : Limits) where
   -- a break after chunks
@@ -103,37 +53,36 @@ module _ (limits : Limits) where
   chunk_fault : (a : ℕ) (kind : StringKind) (s : List ℕ) (p : Place) (q : List ℕ) (b : ℕ) → Upto limits (at_chunk a kind s p) q → IsNoChunk kind b → Shows limits (q ++ b ∷ []) 2 (length q)
   chunk_fault a kind s p q b upto is = malformed (at_chunk a kind s p) q b upto is
 
-  chunk_begun_holds : (a : ℕ) (kind : StringKind) (s : List ℕ) (p : Place) (q : List ℕ) (b : ℕ) (x : Initial) → Upto limits (at_chunk a kind s p) q → b < 256 → Tells b x
+  chunk_opened_holds : (a : ℕ) (kind : StringKind) (s : List ℕ) (p : Place) (q : List ℕ) (b : ℕ) (x : Beginning) → Upto limits (at_chunk a kind s p) q → string_head kind (Item x) ≡ true → Tells b (Item x)
+      → Holds limits (q ++ b ∷ []) (opened limits (length q) (at_chunk a kind s p) x)
+  unfolding opened
+  chunk_opened_holds a kind s p q b (beginning.Argued m n) upto e t = argued_holds limits (at_chunk a kind s p) q (b ∷ []) m n upto (string_is kind m e) (direct_head limits m n b t)
+  chunk_opened_holds a kind s p q b (beginning.Argument m left) upto e t = starts_argument limits (at_chunk a kind s p) q b m left upto (string_is kind m e) (long_begins m left b t)
+  chunk_opened_holds a kind s p q b (beginning.Chunks k) upto e t = absurd (both_ways false refl e)
+  chunk_opened_holds a kind s p q b beginning.Elements upto e t = absurd (both_ways false refl e)
+  chunk_opened_holds a kind s p q b beginning.Members upto e t = absurd (both_ways false refl e)
+  chunk_opened_holds a kind s p q b (beginning.Bool v) upto e t = absurd (both_ways false refl e)
+
+  chunk_begun_holds : (a : ℕ) (kind : StringKind) (s : List ℕ) (p : Place) (q : List ℕ) (b : ℕ) (x : Initial) → Upto limits (at_chunk a kind s p) q → initial_of b ≡ x
       → Holds limits (q ++ b ∷ []) (chunk_begun limits (length q) a kind s p x)
   unfolding opened
-  chunk_begun_holds a kind s p q b Break upto small t = chunks_end a kind s p q b upto t
-  chunk_begun_holds a kind s p q b Malformed upto small t = chunk_fault a kind s p q b upto (reserved_no b kind small t)
-  chunk_begun_holds a kind s p q b Float upto small t = chunk_fault a kind s p q b upto (seven_no b kind (λ e. omega (arith, e, t.1)) (omega (arith, t.0, t.1)))
-  chunk_begun_holds a kind s p q b Simple upto small t = chunk_fault a kind s p q b upto (seven_no b kind t.0.3 t.0.0)
-  chunk_begun_holds a kind s p q b (Item (beginning.Chunks k)) upto small t = chunk_fault a kind s p q b upto (no_stop b (beginning.Chunks k) t, inr (omega (arith, t)))
-  chunk_begun_holds a kind s p q b (Item beginning.Elements) upto small t = chunk_fault a kind s p q b upto (no_stop b beginning.Elements t, inr (omega (arith, t)))
-  chunk_begun_holds a kind s p q b (Item beginning.Members) upto small t = chunk_fault a kind s p q b upto (no_stop b beginning.Members t, inr (omega (arith, t)))
-  chunk_begun_holds a kind s p q b (Item (beginning.Bool false)) upto small t = chunk_fault a kind s p q b upto (seven_no b kind (no_stop b (beginning.Bool false) t) (omega (arith, t)))
-  chunk_begun_holds a kind s p q b (Item (beginning.Bool true)) upto small t = chunk_fault a kind s p q b upto (seven_no b kind (no_stop b (beginning.Bool true) t) (omega (arith, t)))
-  chunk_begun_holds a kind s p q b (Item (beginning.Argued m n)) upto small t =
-      cond_both (string_head kind (Item (beginning.Argued m n))) _ _ (Holds limits (q ++ b ∷ []))
-      (λ e. argued_holds limits (at_chunk a kind s p) q (b ∷ []) m n upto (argued_is kind m n e) (direct_head limits m n b t))
-      (λ e. chunk_fault a kind s p q b upto
-      (no_stop b (beginning.Argued m n) t, inl (λ f. argued_not kind m n e (sym (type_is b (number_of_major m) n t.0 (let lt = t.1 in omega (arith, lt))) ∙ f))))
-  chunk_begun_holds a kind s p q b (Item (beginning.Argument m left)) upto small t =
-      cond_both (string_head kind (Item (beginning.Argument m left))) _ _ (Holds limits (q ++ b ∷ []))
-      (λ e. starts_argument limits (at_chunk a kind s p) q b m left upto (argument_is kind m left e) t)
-      (λ e. let w = long_tells m left b t in chunk_fault a kind s p q b upto
-      (no_stop b (beginning.Argument m left) t, inl (λ f. argument_not kind m left e (sym (type_is b (number_of_major m) w.0 w.1 (let lt = w.2 in omega (arith, lt))) ∙ f))))
+  chunk_begun_holds a kind s p q b Break upto is = chunks_end a kind s p q b upto (tells b Break is)
+  chunk_begun_holds a kind s p q b Malformed upto is = chunk_fault a kind s p q b upto ((chunk_told kind b Malformed is).1 refl)
+  chunk_begun_holds a kind s p q b Float upto is = chunk_fault a kind s p q b upto ((chunk_told kind b Float is).1 refl)
+  chunk_begun_holds a kind s p q b Simple upto is = chunk_fault a kind s p q b upto ((chunk_told kind b Simple is).1 refl)
+  chunk_begun_holds a kind s p q b (Item x) upto is =
+      cond_both (string_head kind (Item x)) _ _ (Holds limits (q ++ b ∷ []))
+      (λ e. chunk_opened_holds a kind s p q b x upto e (tells b (Item x) is))
+      (λ e. chunk_fault a kind s p q b upto ((chunk_told kind b (Item x) is).1 e))
 
-  begun_holds : (p : Place) (q : List ℕ) (b : ℕ) (x : Initial) → Upto limits p q → b < 256 → Tells b x → Holds limits (q ++ b ∷ []) (begun limits (length q) p x)
+  begun_holds : (p : Place) (q : List ℕ) (b : ℕ) (x : Initial) → Upto limits p q → b < 256 → initial_of b ≡ x → Holds limits (q ++ b ∷ []) (begun limits (length q) p x)
   unfolding begun
-  begun_holds top q b x upto small t = item_holds limits top q b x upto (λ e. e) small t
-  begun_holds (at_chunk a k s p) q b x upto small t = chunk_begun_holds a k s p q b x upto small t
-  begun_holds (at_element a all ts p) q b x upto small t = item_holds limits (at_element a all ts p) q b x upto (λ e. e) small t
-  begun_holds (at_key a all ps p) q b x upto small t = item_holds limits (at_key a all ps p) q b x upto (λ e. e) small t
-  begun_holds (at_value a all ps k p) q b x upto small t = item_holds limits (at_value a all ps k p) q b x upto (λ e. e) small t
-  begun_holds (at_content a n p) q b x upto small t = item_holds limits (at_content a n p) q b x upto (λ e. e) small t
+  begun_holds top q b x upto small is = item_holds limits top q b x upto (λ e. e) small is
+  begun_holds (at_chunk a k s p) q b x upto small is = chunk_begun_holds a k s p q b x upto is
+  begun_holds (at_element a all ts p) q b x upto small is = item_holds limits (at_element a all ts p) q b x upto (λ e. e) small is
+  begun_holds (at_key a all ps p) q b x upto small is = item_holds limits (at_key a all ps p) q b x upto (λ e. e) small is
+  begun_holds (at_value a all ps k p) q b x upto small is = item_holds limits (at_value a all ps k p) q b x upto (λ e. e) small is
+  begun_holds (at_content a n p) q b x upto small is = item_holds limits (at_content a n p) q b x upto (λ e. e) small is
 
   number_more : (came : List ℕ) (b n : ℕ) → n ≡ number_of came → 256 * n + b ≡ number_of (came ++ b ∷ [])
   number_more came b n e = ap (λ (k : ℕ). 256 * k + b) e ∙ sym (fold_push (λ (number : ℕ) (o : ℕ). 256 * number + o) 0 came b)
@@ -202,7 +151,7 @@ module _ (limits : Limits) where
 
   pub step_holds : (σ : State) (o : List ℕ) (b : ℕ) → b < 256 → is_over σ ≡ false → Holds limits o σ → Holds limits (o ++ b ∷ []) (step limits (length o) σ b)
   unfolding step
-  step_holds (due p) o b small going h = begun_holds p o b (initial_of b) h small (tells b)
+  step_holds (due p) o b small going h = begun_holds p o b (initial_of b) h small refl
   step_holds (argument p at m zero n) o b small going h = absurd (let some = h.some in omega (arith, some))
   step_holds (argument p at m (suc zero) n) o b small going h = argument_ends o b p at m n small h
   step_holds (argument p at m (suc (suc left)) n) o b small going h = argument_goes o b p at m left n small h

@@ -1,5 +1,5 @@
 -- Strings and heads as the code takes them, as the machine does.
-use Rattle.std.proofs.Common.{◌≡◌, ℕ, ◌-◌, ◌<◌, length, get_or, set, List, [], ◌∷◌, ◌++◌, refl, sym, ap, ◌∙◌, subst, Bool, true, false, Option, Some, None, map}
+use Rattle.std.proofs.Common.{◌≡◌, ℕ, ◌-◌, ◌<◌, length, get_or, set, List, [], ◌∷◌, ◌++◌, refl, sym, ap, ◌∙◌, subst, Bool, true, false, Some, None}
 use Rattle.std.specs.Prelude.{◌≢◌, Result, Ok, Err}
 use Rattle.std.specs.Result.{OnOk}
 use Rattle.std.specs.Str.{IsUtf8, is_utf8}
@@ -9,26 +9,20 @@ use Rattle.std.specs.declared.vec.Vec.{Vec}
 use Rattle.std.specs.declared.alloc.Global.{Global}
 use Rattle.std.proofs.Common.{rules}
 use Rattle.std.proofs.lemmas.Str.{IsUtf8-from_is_utf8, is_utf8-from_IsUtf8, IsUtf8-string_bytes}
-use Rattle.std.proofs.lemmas.Bool.{cond-true, cond-false, ne_eqb, false_from_ne_true, false≢true}
+use Rattle.std.proofs.lemmas.Bool.{cond-true, cond-false, false_from_ne_true, false≢true}
 use Rattle.cbor_det.specs.declared.string_kind.StringKind.{StringKind}
 use Rattle.cbor_det.specs.declared.string_kind.StringKind.TheVariants.{ByteString, TextString}
-use Rattle.cbor_det.specs.declared.limits.Limits.{Limits}
-use Rattle.cbor_det.specs.declared.initial.Major.{Major}
-use Rattle.cbor_det.specs.declared.initial.Major.TheVariants as major
-use Rattle.cbor_det.specs.declared.item.Item.{Item, the_lemmas}
+use Rattle.cbor_det.specs.declared.item.Item.{the_lemmas}
 use Rattle.cbor_det.specs.declared.item.Item.TheVariants as code
 use Rattle.cbor_det.specs.declared.frame.Frame.{Frame}
-use Rattle.cbor_det.specs.declared.frame.Frame.TheVariants as frame
-use Rattle.cbor_det.specs.declared.members.Members.{Members}
-use Rattle.cbor_det.specs.Term.{Term, Pairs, octets, text, no_terms, no_pairs}
-use Rattle.cbor_det.specs.View.{view, terms_of}
+use Rattle.cbor_det.specs.Term.{Term, octets, text}
+use Rattle.cbor_det.specs.View.{view}
 use Rattle.cbor_det.specs.Spelling.{string}
-use Rattle.cbor_det.specs.Held.{members_view, due_key}
 use Rattle.cbor_det.specs.Faults.{Place, top, at_chunk, at_element, at_key, at_value, at_content}
-use Rattle.cbor_det.specs.Machine.{State, due, faulty, item_ended, is_part, string_given, string_ended, argued, filled_array, filled_map}
-use Rattle.cbor_det.specs.Standing.{inside, map_place, place}
+use Rattle.cbor_det.specs.Machine.{State, due, faulty, item_ended, is_part, string_given, string_ended}
+use Rattle.cbor_det.specs.Standing.{inside, place}
 use Rattle.cbor_det.specs.Frames.{chunk_kind, chunk_joined}
-use Rattle.cbor_det.proofs.Closing.{within_last, pushed_due, round, last_there, last_put}
+use Rattle.cbor_det.proofs.Closing.{within_last, round, last_there, last_put}
 
 view_bytes : (s : List ℕ) → view (code.Bytes s) ≡ octets s
 view_bytes s = search (rules, the_lemmas)
@@ -106,24 +100,3 @@ chunk_put (at_element a all ts p) q at kind x y s r chunk is same part here so =
 chunk_put (at_key a all ps p) q at kind x y s r chunk is same part here so = absurd (chunk refl)
 chunk_put (at_value a all ps k p) q at kind x y s r chunk is same part here so = absurd (chunk refl)
 chunk_put (at_content a n p) q at kind x y s r chunk is same part here so = absurd (chunk refl)
-
-pub array_begun : (gs hs : List Frame) (at n : ℕ) (items : List Item) → hs ≡ gs ++ frame.Elements at (Some n) items ∷ [] → items ≡ [] → (n ≡ 0 → ⊥)
-    → due (place hs) ≡ filled_array (place gs) at (Some n) no_terms
-array_begun gs hs at n items is none some =
-    pushed_due gs hs (frame.Elements at (Some n) items) is
-    ∙ ap (λ (xs : List Item). due (at_element at (Some n) (terms_of (map view xs)) (place gs))) none
-    ∙ sym (cond-false _ _ _ (ne_eqb 0 n (λ e. some (sym e))))
-
-pub map_begun : (gs hs : List Frame) (at n : ℕ) (members : Members) → hs ≡ gs ++ frame.Map at (Some n) members ∷ [] → members_view members ≡ no_pairs → due_key members ≡ None → (n ≡ 0 → ⊥)
-    → due (place hs) ≡ filled_map (place gs) at (Some n) no_pairs
-map_begun gs hs at n members is none key some =
-    pushed_due gs hs (frame.Map at (Some n) members) is
-    ∙ ap (λ (k : Option Term). due (map_place at (Some n) (members_view members) k (place gs))) key
-    ∙ ap (λ (ps : Pairs). due (at_key at (Some n) ps (place gs))) none
-    ∙ sym (cond-false _ _ _ (ne_eqb 0 n (λ e. some (sym e))))
-
-pub tag_begun : (limits : Limits) (i : ℕ) (gs hs : List Frame) (at n : ℕ) (m : Major) → hs ≡ gs ++ frame.Content at n ∷ [] → m ≡ major.Tag
-    → due (place hs) ≡ argued limits i (place gs) at m n
-unfolding argued
-tag_begun limits i gs hs at n m is which =
-    pushed_due gs hs (frame.Content at n) is ∙ ap (λ (x : Major). argued limits i (place gs) at x n) (sym which)

@@ -1,6 +1,6 @@
 -- The value under a key, looked for from the start.
-use Rattle.std.proofs.Common.{◌≡◌, ℕ, ◌+◌, ◌<◌, ◌≤◌, List, ◌∷◌, length, get_or, drop, sym, ap, ◌∙◌, true, false, Some, None}
-use Rattle.std.proofs.lemmas.Bool.{cond-true, cond-false}
+use Rattle.std.proofs.Common.{◌≡◌, ℕ, ◌+◌, ◌<◌, ◌≤◌, List, ◌∷◌, length, get_or, drop, sym, ap, ◌∙◌, true, Some, None}
+use Rattle.std.proofs.lemmas.Bool.{cond-true}
 use Rattle.std.proofs.lemmas.List.{drop_more, drop_all}
 use Rattle.cbor_det.specs.declared.item.Pair.{Pair, out-Pair}
 use Rattle.cbor_det.specs.Lookup.{is_unsigned, value_under}
@@ -14,9 +14,6 @@ first xs i x lt at =
 
 pub under_here : (n : ℕ) (xs : List Pair) (i : ℕ) (x : Pair) → i < length xs → x ≡ get_or xs i x → is_unsigned n (key_of x) ≡ true → value_under n (listed (drop i xs)) ≡ Some (view (out-Pair x).value)
 under_here n xs i x lt at is = ap (λ (ps : Pairs). value_under n ps) (first xs i x lt at) ∙ cond-true _ _ _ is
-
-pub under_later : (n : ℕ) (xs : List Pair) (i : ℕ) (x : Pair) → i < length xs → x ≡ get_or xs i x → is_unsigned n (key_of x) ≡ false → value_under n (listed (drop i xs)) ≡ value_under n (listed (drop (i + 1) xs))
-under_later n xs i x lt at is = ap (λ (ps : Pairs). value_under n ps) (first xs i x lt at) ∙ cond-false _ _ _ is
 
 pub under_none : (n : ℕ) (xs : List Pair) (i : ℕ) → length xs ≤ i → value_under n (listed (drop i xs)) ≡ None
 under_none n xs i le = ap (λ (ys : List Pair). value_under n (listed ys)) (drop_all i xs le)

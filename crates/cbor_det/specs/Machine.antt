@@ -119,10 +119,14 @@ same_kind ByteString TextString = false
 same_kind TextString ByteString = false
 same_kind TextString TextString = true
 
--- the string that a head begins, if it does
+-- whether a head of this type is one of a string of the kind
+abbrev pub is_string : StringKind → Major → Bool
+is_string kind (String other) = same_kind kind other
+is_string kind m = false
+
 abbrev pub string_head : StringKind → Initial → Bool
-string_head kind (Item (Argued (String other) n)) = same_kind kind other
-string_head kind (Item (Argument (String other) left)) = same_kind kind other
+string_head kind (Item (Argued m n)) = is_string kind m
+string_head kind (Item (Argument m left)) = is_string kind m
 string_head kind x = false
 
 abbrev pub chunk_opened : Limits → ℕ → Place → Initial → State

@@ -1,14 +1,12 @@
 //! What begins or ends at an initial byte.
 
-ghost use Rattle.std.specs.Prelude.{◌≡◌, ◌<◌, ℕ, IfOk};
+ghost use Rattle.std.specs.Prelude.{◌≡◌, ◌<◌, IfOk};
 ghost use Rattle.cbor_det.specs.FaultKinds.{fault_number};
 ghost use Rattle.cbor_det.specs.Faults.{Place};
 ghost use Rattle.cbor_det.specs.Standing.{inside, place};
 ghost use Rattle.cbor_det.specs.Frames.{state_of, StepFits, chunk_kind, low_kind, end_state, BeginFits};
-ghost use Rattle.cbor_det.specs.Machine.{begun, due, opened, step, string_head};
+ghost use Rattle.cbor_det.specs.Machine.{begun, due, opened, step, is_string, string_head};
 ghost use Rattle.cbor_det.specs.declared.initial.Initial.TheVariants as initial;
-ghost use Rattle.cbor_det.specs.declared.initial.Beginning.TheVariants as beginning;
-ghost use Rattle.cbor_det.specs.declared.initial.Major.TheVariants as major;
 ghost use Rattle.cbor_det.specs.declared.frame.StepOutcome.TheVariants as step_outcome;
 
 use crate::fault::{CborFault, CborFaultKind};
@@ -135,8 +133,7 @@ fn is_chunk(kind: StringKind, beginning: Beginning) -> bool
 
 /// Whether the major type is that of strings of the kind.
 fn is_string(kind: StringKind, major: Major) -> bool
-    ensures argued { (n : ℕ) → result ≡ string_head kind (initial.Item (beginning.Argued major n)) }
-    ensures argument { (left : ℕ) → result ≡ string_head kind (initial.Item (beginning.Argument major left)) }
+    ensures string { result ≡ is_string kind major }
 {
     match major {
         Major::String(of) => kind == of,
