@@ -16,7 +16,8 @@ const CONFIG: FollowConfig = FollowConfig {
     octets: 4_294_967_295,
 };
 
-/// A gate that counts the sessions of worker 3 which it let in, and those that it let out.
+/// A gate that counts the sessions of worker 3 which it let in, and those
+/// that it let out closed.
 #[derive(Drop)]
 struct Counting {
     entered: AtomicU64,
@@ -30,8 +31,8 @@ impl Gate for Counting {
         }
     }
 
-    fn leave(&self, worker: u32, _session: u32) {
-        if worker == 3 {
+    fn leave(&self, worker: u32, _session: u32, end: SessionEnd) {
+        if (worker == 3) & (end == SessionEnd::Closed) {
             self.left.fetch_add(1, Ordering::SeqCst);
         }
     }

@@ -5,7 +5,7 @@ ghost use Rattle.std.specs.Prelude.{◌≡◌, ◌≤◌, IfOk, IfSome, length, 
 ghost use Rattle.session_pool.specs.Stands.{AreReady, IsReady};
 ghost use Rattle.swid_run.specs.Words.{AreLent, IsFresh};
 
-use session_pool::Stand;
+use session_pool::{OpenGate, Stand};
 use source_lines::LineSource;
 use source_set::{SourceSet, Sources, TagSource};
 use std::alloc::Global;
@@ -138,7 +138,7 @@ fn status_over<R: Threads + Wait + Sync>(
     let mut input = NoFaultSource::new(List::new(alloc));
     let mut files = MemFiles::empty(alloc);
     run(
-        alloc, rt, words, &mut input, output, &mut files, doors, clock, sources,
+        alloc, rt, words, &mut input, output, &mut files, doors, clock, sources, &OpenGate,
     )
 }
 
