@@ -27,23 +27,35 @@ pub(crate) const COLLECTOR: &[u8] = &[
     0x00, 0x00, 0x00, 0x01, 0x00, 0x00, 0x00, 0x07, 0x00, 0x00, 0x00, 0x00,
 ];
 
-/// A link that gives octets, and then that the other end has closed.
-fn link(alloc: Global, octets: &[u8]) -> Result<MemLink, Memory>
+/// A link that gives octets, and then that the other end has closed. It fails at the calls numbered
+/// in `failing`.
+fn link(alloc: Global, octets: &[u8], failing: &[u64]) -> Result<MemLink, Memory>
     ensures fresh { IfOk result (λ link. link.faults ≡ 0) }
 {
     let mut turns = List::new(alloc);
     for octet in octets {
         turns.push(LinkTurn::Octet(*octet))?;
     }
-    MemLink::new(alloc, turns, 16, 4096, &[])
+    MemLink::new(alloc, turns, 16, 4096, failing)
 }
 
 /// A stand at a door of one link, which gives these octets.
 pub(crate) fn stand(alloc: Global, octets: &[u8]) -> Result<Stand<MemDoor>, Memory>
     ensures ready { IfOk result (λ stand. IsReady (λ door. door.out) stand) }
 {
+    failing_stand(alloc, octets, &[])
+}
+
+/// The same, where the link fails at the calls numbered in `failing`.
+pub(crate) fn failing_stand(
+    alloc: Global,
+    octets: &[u8],
+    failing: &[u64],
+) -> Result<Stand<MemDoor>, Memory>
+    ensures ready { IfOk result (λ stand. IsReady (λ door. door.out) stand) }
+{
     let mut links = List::new(alloc);
-    links.push(link(alloc, octets)?)?;
+    links.push(link(alloc, octets, failing)?)?;
     stand_of(alloc, links)
 }
 
@@ -88,4 +100,12 @@ pub(crate) fn two(
     stands.push(first)?;
     stands.push(second)?;
     Ok(stands)
+}
+
+/// Whether the door at a stand gave one link, and took it back given these octets.
+pub(crate) fn was_given(stand: &Stand<MemDoor>, octets: &[u8]) -> bool {
+    match stand.door.returned() {
+        [link] => link.given() == octets,
+        _ => false,
+    }
 }
