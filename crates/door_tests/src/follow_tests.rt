@@ -1,11 +1,12 @@
 //! A worker that follows the links of its door.
 
-use crate::talks::{COLLECTOR, VALIDATOR, door, was_given};
+use crate::talks::{door, was_given};
 use session_core::{FollowConfig, SessionEnd, SessionRecord};
 use session_door::{Gate, Stop, follow_door};
 use std::alloc::Global;
 use std::sync::atomic::{AtomicU64, Ordering};
 use swima_model::{Kind, Point};
+use test_talks::{COLLECTOR, VALIDATOR};
 use validator_core::Mirror;
 
 /// How sessions are followed in these tests.

@@ -12,9 +12,10 @@ use std::alloc::Global;
 use std::sync::Wait;
 use std::thread::Threads;
 use swid_run::{Plan, plan, run};
+use test_talks::link;
 use wire_base::{
-    Failed, LinkTurn, List, MemClock, MemDoor, MemFiles, MemLink, MemSink, MemSource, Memory,
-    NoFaultSource, Octets, Source,
+    Failed, List, MemClock, MemDoor, MemFiles, MemLink, MemSink, MemSource, Memory, NoFaultSource,
+    Octets, Source,
 };
 
 /// What each file of sources has: a source adds a tag, is quiet once, and then ends.
@@ -179,7 +180,7 @@ fn stand(alloc: Global, octets: &[u8], no_link: &[u64]) -> Result<Stand<MemDoor>
     ensures ready { IfOk result (λ stand. IsReady (λ door. door.out) stand) }
 {
     let mut links = List::new(alloc);
-    links.push(link(alloc, octets)?)?;
+    links.push(link(alloc, octets, &[])?)?;
     stand_of(alloc, links, no_link)
 }
 
@@ -189,17 +190,6 @@ fn stand_of(alloc: Global, links: List<MemLink>, no_link: &[u64]) -> Result<Stan
     ensures ready { IfOk result (λ stand. IsReady (λ door. door.out) stand) }
 {
     Ok(Stand::new(MemDoor::new(alloc, links, no_link)?))
-}
-
-/// A link that gives octets, and then that the other end has closed.
-fn link(alloc: Global, octets: &[u8]) -> Result<MemLink, Memory>
-    ensures fresh { IfOk result (λ link. link.faults ≡ 0) }
-{
-    let mut turns = List::new(alloc);
-    for octet in octets {
-        turns.push(LinkTurn::Octet(*octet))?;
-    }
-    MemLink::new(alloc, turns, 16, 4096, &[])
 }
 
 /// A source that gives an octet at each call.

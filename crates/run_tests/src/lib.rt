@@ -6,6 +6,4 @@ mod lent;
 #[cfg(test)]
 mod pool_tests;
 #[cfg(test)]
-mod talks;
-#[cfg(test)]
 mod words_tests;

@@ -1,11 +1,11 @@
 //! `collect` and `follow`: what they print, what they write, and their status.
 
 use crate::lent::{fails, prints, prints_of_no_link, try_run};
-use crate::talks::{COLLECTOR, COLLECTOR_OF_ONE, VALIDATOR};
 use std::alloc::Global;
 use std::sync::Wait;
 use std::test::Fail;
 use std::thread::Threads;
+use test_talks::{COLLECTOR, COLLECTOR_OF_ONE, VALIDATOR};
 use wire_base::Memory;
 
 /// Whether a command line ends with a status, prints a text, and writes octets at its one door.

@@ -4,13 +4,14 @@ ghost use Rattle.std.specs.Prelude.{◌≡◌, ◌<◌, ◌^◌, IfOk, length};
 ghost use Rattle.session_pool.specs.Stands.{AreReady};
 
 use crate::gates::{AfterTheOther, Shared};
-use crate::talks::{COLLECTOR, VALIDATOR, empty_stand, failing_stand, stand, two, was_given};
+use crate::talks::{empty_stand, failing_stand, stand, two, was_given};
 use session_core::{FollowConfig, SessionEnd};
 use session_pool::{Ends, Followed, Gate, OpenGate, Stand, follow_all};
 use std::alloc::Global;
 use std::sync::Wait;
 use std::thread::Threads;
 use swima_model::{Kind, Point};
+use test_talks::{COLLECTOR, VALIDATOR};
 use validator_core::Mirror;
 use wire_base::{MemDoor, Memory};
 

@@ -5,7 +5,7 @@ ghost use Rattle.session_door.specs.Serving.{IsWithin};
 ghost use Rattle.session_pool.specs.Stands.{AreReady};
 
 use crate::gates::{AfterSweeps, AfterTheOther, Counting, Resting, Shared};
-use crate::talks::{COLLECTOR, VALIDATOR, failing_stand, one, stand, two, was_given};
+use crate::talks::{failing_stand, one, stand, two, was_given};
 use book_lock::Shelf;
 use collector_core::Book;
 use session_core::{ServeConfig, SessionEnd};
@@ -16,6 +16,7 @@ use std::alloc::Global;
 use std::sync::Wait;
 use std::thread::Threads;
 use swima_model::Point;
+use test_talks::{COLLECTOR, VALIDATOR};
 use wire_base::{Clock, List, MemClock, MemDoor, MemSource, Octets};
 
 /// How sessions are served in these tests.
