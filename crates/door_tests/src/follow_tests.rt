@@ -1,6 +1,6 @@
 //! A worker that follows the links of its door.
 
-use crate::talks::{door, was_given};
+use crate::doors::{door, was_given};
 use session_core::{FollowConfig, SessionEnd, SessionRecord};
 use session_door::{Gate, Stop, follow_door};
 use std::alloc::Global;

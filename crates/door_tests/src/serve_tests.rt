@@ -2,7 +2,7 @@
 
 ghost use Rattle.std.specs.Prelude.{◌≡◌, ◌<◌, false};
 
-use crate::talks::{door, was_given};
+use crate::doors::{door, was_given};
 use book_lock::Shelf;
 use collector_core::Book;
 use session_core::{ServeConfig, SessionEnd, SessionRecord};

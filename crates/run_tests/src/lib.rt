@@ -6,4 +6,6 @@ mod lent;
 #[cfg(test)]
 mod pool_tests;
 #[cfg(test)]
+mod watch_tests;
+#[cfg(test)]
 mod words_tests;

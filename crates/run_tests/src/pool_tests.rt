@@ -1,6 +1,7 @@
 //! `collect` and `follow`: what they print, what they write, and their status.
 
 use crate::lent::{fails, prints, prints_of_no_link, try_run};
+use session_pool::OpenGate;
 use std::alloc::Global;
 use std::sync::Wait;
 use std::test::Fail;
@@ -29,7 +30,17 @@ fn stops_with<R: Threads + Wait + Sync>(
     moments: &[u64],
     expected: (u8, &str, &[u8]),
 ) -> Result<bool, Memory> {
-    let ran = try_run(alloc, rt, words, octets, &[], &[], no_octet, moments)?;
+    let ran = try_run(
+        alloc,
+        rt,
+        words,
+        octets,
+        &[],
+        &[],
+        no_octet,
+        moments,
+        &OpenGate,
+    )?;
     let given = match ran.doors.as_slice() {
         [stand] => match stand.door.returned() {
             [link] => link.given() == expected.2,

@@ -4,7 +4,7 @@ ghost use Rattle.std.specs.Prelude.{◌≡◌, ◌<◌, ◌^◌, IfOk, length};
 ghost use Rattle.session_pool.specs.Stands.{AreReady};
 
 use crate::gates::{AfterTheOther, Shared};
-use crate::talks::{empty_stand, failing_stand, stand, two, was_given};
+use crate::stands::{empty_stand, failing_stand, stand, two, was_given};
 use session_core::{FollowConfig, SessionEnd};
 use session_pool::{Ends, Followed, Gate, OpenGate, Stand, follow_all};
 use std::alloc::Global;

@@ -5,7 +5,7 @@ ghost use Rattle.session_door.specs.Serving.{IsWithin};
 ghost use Rattle.session_pool.specs.Stands.{AreReady};
 
 use crate::gates::{AfterSweeps, AfterTheOther, Counting, Resting, Shared};
-use crate::talks::{failing_stand, one, stand, two, was_given};
+use crate::stands::{failing_stand, one, stand, two, was_given};
 use book_lock::Shelf;
 use collector_core::Book;
 use session_core::{ServeConfig, SessionEnd};
