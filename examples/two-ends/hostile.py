@@ -25,7 +25,7 @@ client reads no more, some 3 MB are under way.
    deaf, and keep a worker busy for a second or more. Three followers come beside them. Standard
    output, standard error and exit status of each are to the octet those of the one that was alone.
    None of these has a time or a port, and the inventory does not change: so nothing may differ.
-   Each of 208 sessions has its end.
+   Each of 208 sessions has its end, and standard error says why it ended if it was not closed.
 3. A listener that can't be opened, an address that nobody listens on, a file that is missing, a
    source with a bad line, and a follower of two collectors.
 
@@ -116,6 +116,30 @@ def sessions(said):
     return [line.split(" ", 4)[4] for line in said.split("\n") if line.startswith("session ")]
 
 
+# What standard error says of sessions that ended so.
+REASONS = {
+    "refused 4 0": "a batch of the peer was refused: Version Not Supported at octet 0",
+    "ended": "the connection ended without a CLOSE",
+    "link-fault": "the connection failed",
+}
+
+
+def reason(end):
+    """What standard error says of a session with this end."""
+    if end.startswith("torn "):
+        return f"the connection ended after {end[5:]} octets of a batch"
+    return REASONS[end]
+
+
+def says_ends(said, errors):
+    """Whether standard error says why each session ended that was not closed, and of no other."""
+    lines = [line.split(" ", 4) for line in said.split("\n") if line.startswith("session ")]
+    wanted = [f"swid: session {words[1]} ended: {reason(words[4])}"
+              for words in lines if words[4] != "peer-closed"]
+    heard = [line for line in errors.split("\n") if line.startswith("swid: session ")]
+    return sorted(heard) == sorted(wanted)
+
+
 # What is tried.
 
 # Kinds with the ends of their sessions, and the exit status of a collector that has these alone.
@@ -137,6 +161,7 @@ def one_by_one(swid, port, lines):
         names = ", ".join(kind.__name__ for kind in ends)
         good = sessions(said) == list(ends.values()) and ran.returncode == status
         say(f"{names}: their ends, and status {status}", good, f"{ran.returncode} {said} {errors}")
+        say(f"{names}: standard error says why", says_ends(said, errors), errors)
 
 
 def besiege(swid, port, lines):
@@ -189,12 +214,15 @@ def judge(said, errors, left, served):
     good = quiet >= COUNTS[silent] and sum(whole.values()) + quiet + failures == total
     say("those of silent clients ended, and the links of all others failed", good, ends)
     say("the inventory stands", f"\nbook 7 {RECORDS} {RECORDS}\n" in said, said[-200:])
+    say("standard error says why each session ended that was not closed",
+        says_ends(said, errors), errors)
     named = {"read from": [], "write to": []}
     for line in errors.split("\n"):
         for verb, peers in named.items():
             if line.startswith(f"swid: cannot {verb} "):
                 peers.append(line.split(" ")[4].rstrip(":"))
-    good = sum(len(peers) for peers in named.values()) == failures == errors.count("\n")
+    named_once = sum(len(peers) for peers in named.values()) == failures
+    good = named_once and errors.count("\n") == failures + total - served
     say("each connection that failed is named once, and nothing else is said", good, errors)
     middle = sum(COUNTS[kind] for kind in MIDDLE)
     good = sorted(named["write to"]) == sorted(left) and len(left) == middle
@@ -214,14 +242,17 @@ def refusals(swid, port, folder):
     bad = os.path.join(folder, "bad.lines")
     with open(bad, "w", encoding="ascii") as out:
         out.write("xml 1 a \\e 00\nxml 2 b \\e 00\nxml 03 c \\e 00\n")
-    for name, stopped, status, words, records in (
-        (os.path.join(folder, "missing.lines"), "source-failed", 3, "swid: cannot read ", 0),
-        (bad, "bad-line", 1, "bad.lines:3: ", 2),
+    for name, stopped, status, words, why, records in (
+        (os.path.join(folder, "missing.lines"), "source-failed", 3, "swid: cannot read ",
+         "a call of the outside failed", 0),
+        (bad, "bad-line", 1, "bad.lines:3: ", "line 3 is no item", 2),
     ):
         ran = collect(swid, port, "--workers", "1", name)
         follow(swid, port)
         said, errors = finish(ran)
-        good = ran.returncode == status and words in errors and said == (
+        good = ran.returncode == status and words in errors
+        good = good and errors.endswith(f"\nswid: sweeping stopped: source 0: {why}\n")
+        good = good and said == (
             f"session 1.1 reports 1 peer-closed\nswept {records} 0 0 0\n"
             f"stopped {stopped}\nbook 7 {records} {records}\n")
         say(f"{stopped} ends the sweeping alone, and status {status}", good, said + errors)

@@ -1,11 +1,12 @@
 //! A worker that follows the links of its door.
 
-use crate::talks::{COLLECTOR, VALIDATOR, door, was_given};
+use crate::doors::{door, was_given};
 use session_core::{FollowConfig, SessionEnd, SessionRecord};
 use session_door::{Gate, Stop, follow_door};
 use std::alloc::Global;
 use std::sync::atomic::{AtomicU64, Ordering};
 use swima_model::{Kind, Point};
+use test_talks::{COLLECTOR, VALIDATOR};
 use validator_core::Mirror;
 
 /// How sessions are followed in these tests.
@@ -16,7 +17,8 @@ const CONFIG: FollowConfig = FollowConfig {
     octets: 4_294_967_295,
 };
 
-/// A gate that counts the sessions of worker 3 which it let in, and those that it let out.
+/// A gate that counts the sessions of worker 3 which it let in, and those
+/// that it let out closed.
 #[derive(Drop)]
 struct Counting {
     entered: AtomicU64,
@@ -30,8 +32,8 @@ impl Gate for Counting {
         }
     }
 
-    fn leave(&self, worker: u32, _session: u32) {
-        if worker == 3 {
+    fn leave(&self, worker: u32, _session: u32, end: SessionEnd) {
+        if (worker == 3) & (end == SessionEnd::Closed) {
             self.left.fetch_add(1, Ordering::SeqCst);
         }
     }

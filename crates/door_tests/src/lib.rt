@@ -2,10 +2,10 @@
 #![tactic(auto)]
 
 #[cfg(test)]
+mod doors;
+#[cfg(test)]
 mod follow_tests;
 #[cfg(test)]
 mod serve_tests;
-#[cfg(test)]
-mod talks;
 #[cfg(test)]
 mod text_tests;

@@ -2,7 +2,7 @@
 
 ghost use Rattle.std.specs.Prelude.{◌≡◌, ◌<◌, false};
 
-use crate::talks::{COLLECTOR, VALIDATOR, door, was_given};
+use crate::doors::{door, was_given};
 use book_lock::Shelf;
 use collector_core::Book;
 use session_core::{ServeConfig, SessionEnd, SessionRecord};
@@ -10,6 +10,7 @@ use session_door::{OpenGate, Stop, Work, serve_door};
 use std::alloc::Global;
 use std::sync::Wait;
 use swima_model::Point;
+use test_talks::{COLLECTOR, VALIDATOR};
 use wire_base::MemDoor;
 
 /// How sessions are served in these tests.

@@ -5,16 +5,17 @@ ghost use Rattle.std.specs.Prelude.{◌≡◌, ◌≤◌, IfOk, IfSome, length, 
 ghost use Rattle.session_pool.specs.Stands.{AreReady, IsReady};
 ghost use Rattle.swid_run.specs.Words.{AreLent, IsFresh};
 
-use session_pool::Stand;
+use session_pool::{OpenGate, Stand, Watch};
 use source_lines::LineSource;
 use source_set::{SourceSet, Sources, TagSource};
 use std::alloc::Global;
 use std::sync::Wait;
 use std::thread::Threads;
 use swid_run::{Plan, plan, run};
+use test_talks::link;
 use wire_base::{
-    Failed, LinkTurn, List, MemClock, MemDoor, MemFiles, MemLink, MemSink, MemSource, Memory,
-    NoFaultSource, Octets, Source,
+    Failed, List, MemClock, MemDoor, MemFiles, MemLink, MemSink, MemSource, Memory, NoFaultSource,
+    Octets, Source,
 };
 
 /// What each file of sources has: a source adds a tag, is quiet once, and then ends.
@@ -33,8 +34,9 @@ pub(crate) struct Ran {
 
 /// Runs a command line over an empty input, and doors of one link each, on which these octets come.
 /// The calls of the output whose numbers are in `failing` fail, of each door those in `no_link`, and
-/// of each source those in `no_octet`. The clock gives these moments first.
-pub(crate) fn try_run<R: Threads + Wait + Sync>(
+/// of each source those in `no_octet`. The clock gives these moments first. `watch` is told of
+/// sessions and sweeps.
+pub(crate) fn try_run<W: Watch + Sync, R: Threads + Wait + Sync>(
     alloc: Global,
     rt: &R,
     words: &[&str],
@@ -43,6 +45,7 @@ pub(crate) fn try_run<R: Threads + Wait + Sync>(
     no_link: &[u64],
     no_octet: &[u64],
     moments: &[u64],
+    watch: &W,
 ) -> Result<Ran, Memory> {
     let (doors, sources) = counts_of(alloc, words)?;
     let mut doors = stands(alloc, doors, octets, no_link)?;
@@ -56,6 +59,7 @@ pub(crate) fn try_run<R: Threads + Wait + Sync>(
         sources,
         no_octet,
         moments,
+        watch,
     )?;
     Ok(Ran {
         status,
@@ -72,7 +76,7 @@ pub(crate) fn prints<R: Threads + Wait + Sync>(
     octets: &[u8],
     expected: (u8, &str),
 ) -> Result<bool, Memory> {
-    let ran = try_run(alloc, rt, words, octets, &[], &[], &[], &[])?;
+    let ran = try_run(alloc, rt, words, octets, &[], &[], &[], &[], &OpenGate)?;
     Ok((ran.status == expected.0) & (ran.output.written() == expected.1.as_bytes()))
 }
 
@@ -85,7 +89,7 @@ pub(crate) fn fails<R: Threads + Wait + Sync>(
     octets: &[u8],
     status: u8,
 ) -> Result<bool, Memory> {
-    let ran = try_run(alloc, rt, words, octets, &[1], &[], &[], &[])?;
+    let ran = try_run(alloc, rt, words, octets, &[1], &[], &[], &[], &OpenGate)?;
     Ok((ran.status == status) & ran.output.written().is_empty())
 }
 
@@ -96,13 +100,13 @@ pub(crate) fn prints_of_no_link<R: Threads + Wait + Sync>(
     words: &[&str],
     expected: (u8, &str),
 ) -> Result<bool, Memory> {
-    let ran = try_run(alloc, rt, words, &[], &[], &[1], &[], &[])?;
+    let ran = try_run(alloc, rt, words, &[], &[], &[1], &[], &[], &OpenGate)?;
     Ok((ran.status == expected.0) & (ran.output.written() == expected.1.as_bytes()))
 }
 
 /// The status of a command line over these doors, and that many sources. The calls of each source
 /// whose numbers are in `no_octet` fail, and the clock gives these moments first.
-fn status_at<R: Threads + Wait + Sync>(
+fn status_at<W: Watch + Sync, R: Threads + Wait + Sync>(
     alloc: Global,
     rt: &R,
     words: &[&str],
@@ -111,6 +115,7 @@ fn status_at<R: Threads + Wait + Sync>(
     sources: usize,
     no_octet: &[u64],
     moments: &[u64],
+    watch: &W,
 ) -> Result<u8, Memory>
     requires lent { AreLent (map (λ word. word.now) words.now) (length doors.old) sources }
     requires few { sources ≤ 255 }
@@ -118,11 +123,20 @@ fn status_at<R: Threads + Wait + Sync>(
 {
     let mut clock = MemClock::new(List::from_slice(alloc, moments)?, 0);
     let mut sources = all_sources(alloc, sources, no_octet)?;
-    Ok(status_over(alloc, rt, words, output, doors, &mut clock, &mut sources))
+    Ok(status_over(
+        alloc,
+        rt,
+        words,
+        output,
+        doors,
+        &mut clock,
+        &mut sources,
+        watch,
+    ))
 }
 
 /// The status of a command line over these doors, this clock and these sources.
-fn status_over<R: Threads + Wait + Sync>(
+fn status_over<W: Watch + Sync, R: Threads + Wait + Sync>(
     alloc: Global,
     rt: &R,
     words: &[&str],
@@ -130,6 +144,7 @@ fn status_over<R: Threads + Wait + Sync>(
     doors: &mut [Stand<MemDoor>],
     clock: &mut MemClock,
     sources: &mut SourceSet,
+    watch: &W,
 ) -> u8
     requires lent { AreLent (map (λ word. word.now) words.now) (length doors.old) (length sources.old.seats) }
     requires fresh { IsFresh sources.old }
@@ -138,7 +153,7 @@ fn status_over<R: Threads + Wait + Sync>(
     let mut input = NoFaultSource::new(List::new(alloc));
     let mut files = MemFiles::empty(alloc);
     run(
-        alloc, rt, words, &mut input, output, &mut files, doors, clock, sources,
+        alloc, rt, words, &mut input, output, &mut files, doors, clock, sources, watch,
     )
 }
 
@@ -179,7 +194,7 @@ fn stand(alloc: Global, octets: &[u8], no_link: &[u64]) -> Result<Stand<MemDoor>
     ensures ready { IfOk result (λ stand. IsReady (λ door. door.out) stand) }
 {
     let mut links = List::new(alloc);
-    links.push(link(alloc, octets)?)?;
+    links.push(link(alloc, octets, &[])?)?;
     stand_of(alloc, links, no_link)
 }
 
@@ -189,17 +204,6 @@ fn stand_of(alloc: Global, links: List<MemLink>, no_link: &[u64]) -> Result<Stan
     ensures ready { IfOk result (λ stand. IsReady (λ door. door.out) stand) }
 {
     Ok(Stand::new(MemDoor::new(alloc, links, no_link)?))
-}
-
-/// A link that gives octets, and then that the other end has closed.
-fn link(alloc: Global, octets: &[u8]) -> Result<MemLink, Memory>
-    ensures fresh { IfOk result (λ link. link.faults ≡ 0) }
-{
-    let mut turns = List::new(alloc);
-    for octet in octets {
-        turns.push(LinkTurn::Octet(*octet))?;
-    }
-    MemLink::new(alloc, turns, 16, 4096, &[])
 }
 
 /// A source that gives an octet at each call.

@@ -6,6 +6,6 @@ mod lent;
 #[cfg(test)]
 mod pool_tests;
 #[cfg(test)]
-mod talks;
+mod watch_tests;
 #[cfg(test)]
 mod words_tests;

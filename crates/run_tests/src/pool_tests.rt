@@ -1,11 +1,12 @@
 //! `collect` and `follow`: what they print, what they write, and their status.
 
 use crate::lent::{fails, prints, prints_of_no_link, try_run};
-use crate::talks::{COLLECTOR, COLLECTOR_OF_ONE, VALIDATOR};
+use session_pool::OpenGate;
 use std::alloc::Global;
 use std::sync::Wait;
 use std::test::Fail;
 use std::thread::Threads;
+use test_talks::{COLLECTOR, COLLECTOR_OF_ONE, VALIDATOR};
 use wire_base::Memory;
 
 /// Whether a command line ends with a status, prints a text, and writes octets at its one door.
@@ -29,7 +30,17 @@ fn stops_with<R: Threads + Wait + Sync>(
     moments: &[u64],
     expected: (u8, &str, &[u8]),
 ) -> Result<bool, Memory> {
-    let ran = try_run(alloc, rt, words, octets, &[], &[], no_octet, moments)?;
+    let ran = try_run(
+        alloc,
+        rt,
+        words,
+        octets,
+        &[],
+        &[],
+        no_octet,
+        moments,
+        &OpenGate,
+    )?;
     let given = match ran.doors.as_slice() {
         [stand] => match stand.door.returned() {
             [link] => link.given() == expected.2,

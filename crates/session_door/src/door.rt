@@ -90,7 +90,7 @@ fn visit_next<O, D: Door, S: Session<O, D::L>, G: Gate>(
         Came::Link(mut link) => {
             gate.enter(worker, number);
             let noted = session.hold(alloc, beside, &mut link);
-            gate.leave(worker, number);
+            gate.leave(worker, number, noted.1);
             door.back(link);
             Ok(noted)
         }

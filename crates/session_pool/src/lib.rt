@@ -12,6 +12,7 @@
 //! | `stand.rt` | a door, and room for what its worker works with |
 //! | `outcome.rt` | what came of all workers |
 //! | `config.rt` | how a pool is configured |
+//! | `watch.rt` | who is told of sessions and sweeps meanwhile |
 //!
 //! | file of `specs/` | what it says |
 //! |---|---|
@@ -27,11 +28,14 @@ mod follow_pool;
 mod outcome;
 mod pool;
 mod stand;
+mod watch;
 
 pub use config::PoolConfig;
 pub use follow_pool::{Followed, follow_all};
 pub use outcome::{Bools, DoorEnds};
 pub use pool::{Served, serve_all};
+pub use session_core::SessionEnd;
 pub use session_door::{Ends, Gate, OpenGate};
 pub use source_sweeps::SweepStop;
 pub use stand::Stand;
+pub use watch::Watch;

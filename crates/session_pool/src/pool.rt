@@ -15,6 +15,7 @@ use crate::at_stand::serve_stand;
 use crate::config::PoolConfig;
 use crate::outcome::{Bools, DoorEnds, Outcome};
 use crate::stand::Stand;
+use crate::watch::{Watch, tell_stop};
 use book_lock::{Clerk, Pass, Shelf};
 use session_door::{Gate, Work};
 use source_set::{Sources, Swept, TagSource};
@@ -47,7 +48,7 @@ pub struct Served {
 pub fn serve_all<
     D: Door + Send,
     C: Clock + Send,
-    G: Gate + Sync,
+    W: Watch + Sync,
     S: TagSource + Send,
     R: Threads + Wait + Sync,
 >(
@@ -58,7 +59,7 @@ pub fn serve_all<
     doors: &mut [Stand<D>],
     sources: &mut Sources<S>,
     clock: &mut C,
-    gate: &G,
+    watch: &W,
     config: &PoolConfig,
 ) -> Result<Served, Memory>
 where
@@ -84,7 +85,7 @@ where
     seat(shelf, &mut first, doors);
     let mut clerk = shelf.clerk(rt, first);
     work_beside(
-        alloc, rt, shelf, doors, gate, config, &mut clerk, sources, clock, &mut tally,
+        alloc, rt, shelf, doors, watch, config, &mut clerk, sources, clock, &mut tally,
     );
     let mut last = clerk.done();
     clear(doors, &mut passes, &mut outcome);
@@ -144,7 +145,7 @@ fn seat_one<D>(shelf: &Shelf, pass: &mut Pass, stand: &mut Stand<D>)
 fn work_beside<
     D: Door + Send,
     C: Clock + Send,
-    G: Gate + Sync,
+    W: Watch + Sync,
     S: TagSource + Send,
     R: Threads + Wait + Sync,
 >(
@@ -152,7 +153,7 @@ fn work_beside<
     rt: &R,
     shelf: &Shelf,
     doors: &mut [Stand<D>],
-    gate: &G,
+    watch: &W,
     config: &PoolConfig,
     clerk: &mut Clerk<'_, R>,
     sources: &mut Sources<S>,
@@ -177,13 +178,34 @@ where
 {
     join_mut(
         rt,
-        &mut || sweep_beside(clerk, sources, clock, config.sweeps, tally),
+        &mut || sweep_on(clerk, sources, clock, config.sweeps, tally, watch),
         &mut ||
             requires { IsWithin config.now.serve × (0 < config.now.sessions) × (length doors.now < 2 ^ 32) × All (λ stand. D.out stand.door ≡ false) doors.now
                 × All (λ stand. IsSome stand.pass) doors.now × All (λ stand. IfSome stand.pass (λ pass. pass.shelf ≡ shelf.now)) doors.now }
             ensures { AtEach (ServesAt D.L.taken D.L.given D.L.faults (door_state D.left D.returned D.last D.faults) D.out config.entry.now.serve config.entry.now.sessions) doors.entry.now doors.exit.now }
-        { serve_stands(alloc, rt, shelf, doors, gate, config) },
+        { serve_stands(alloc, rt, shelf, doors, watch, config) },
     );
+}
+
+/// Makes the sweeps after the first, unless that one stopped the sweeping. Then tells why it stopped,
+/// if it did.
+fn sweep_on<C: Clock, W: Watch, S: TagSource, R: Wait>(
+    clerk: &mut Clerk<'_, R>,
+    sources: &mut Sources<S>,
+    clock: &mut C,
+    sweeps: u32,
+    tally: &mut Tally,
+    watch: &W,
+)
+    requires some { 0 < sweeps }
+    requires may { clerk.old.may_change ≡ true }
+    ensures on { GoesOn S.reports S.faults PassStands PassWent sweeps (sweeping sources.old clerk.old (C.moments clock.old)) tally.old.swept tally.old.stopped
+        (sweeping sources.new clerk.new (C.moments clock.new)) tally.new.swept tally.new.stopped }
+    ensures cause { tally.old.stopped ≡ None → HasCause sources.old.faults sources.new.faults (stopped_failed tally.new.stopped) }
+    ensures may { clerk.new.may_change ≡ true }
+{
+    sweep_beside(clerk, sources, clock, sweeps, tally);
+    tell_stop(watch, tally.stopped);
 }
 
 /// Serves at each stand, in a thread each where one can be made.

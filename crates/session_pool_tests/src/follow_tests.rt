@@ -4,13 +4,14 @@ ghost use Rattle.std.specs.Prelude.{◌≡◌, ◌<◌, ◌^◌, IfOk, length};
 ghost use Rattle.session_pool.specs.Stands.{AreReady};
 
 use crate::gates::{AfterTheOther, Shared};
-use crate::talks::{COLLECTOR, VALIDATOR, empty_stand, stand, two};
+use crate::stands::{empty_stand, failing_stand, stand, two, was_given};
 use session_core::{FollowConfig, SessionEnd};
 use session_pool::{Ends, Followed, Gate, OpenGate, Stand, follow_all};
 use std::alloc::Global;
 use std::sync::Wait;
 use std::thread::Threads;
 use swima_model::{Kind, Point};
+use test_talks::{COLLECTOR, VALIDATOR};
 use validator_core::Mirror;
 use wire_base::{MemDoor, Memory};
 
@@ -57,11 +58,8 @@ fn is_one(ends: &Ends) -> bool {
 
 /// Whether the first door gave one link, which was given what a validator writes.
 fn is_given(doors: &[Stand<MemDoor>]) -> bool {
-    let [first, _] = doors else {
-        return false;
-    };
-    match first.door.returned() {
-        [link] => link.given() == VALIDATOR,
+    match doors {
+        [first, _] => was_given(first, VALIDATOR),
         _ => false,
     }
 }
@@ -124,4 +122,31 @@ fn follows_both_at_once<R: Threads + Wait + Sync>(alloc: Global, rt: &R) -> Opti
 #[test]
 fn two_sessions_are_followed_at_the_same_time(rt: HostRuntime) {
     assert!(rt; follows_both_at_once(rt.alloc(), &rt) == Some(true));
+}
+
+/// Whether one session came of each door, and that of the second failed.
+fn is_beside(all: &Followed) -> bool {
+    match all.ends.as_slice() {
+        [first, second] => match second.as_slice() {
+            [noted] => is_one(first) & (noted.1 == SessionEnd::LinkFault),
+            _ => false,
+        },
+        _ => false,
+    }
+}
+
+/// Whether a mirror follows as if it were alone, beside one whose link fails at its second call.
+fn follows_beside<R: Threads + Wait + Sync>(alloc: Global, rt: &R) -> Option<bool> {
+    let first = stand(alloc, COLLECTOR).ok()?;
+    let second = failing_stand(alloc, COLLECTOR, &[2]).ok()?;
+    let mut doors = two(alloc, first, second).ok()?;
+    let mut mirrors = two_mirrors(alloc).ok()?;
+    let (held, at) = (mirrors.as_mut_slice(), doors.as_mut_slice());
+    let all = followed(alloc, rt, held, at, &OpenGate)?;
+    Some(is_beside(&all) & is_given(doors.as_slice()) & are_held(mirrors.as_slice()))
+}
+
+#[test]
+fn a_session_beside_one_that_fails_is_followed_as_alone(rt: HostRuntime) {
+    assert!(rt; follows_beside(rt.alloc(), &rt) == Some(true));
 }

@@ -1,6 +1,6 @@
 //! Gates and clocks that wait for one another, for a bounded number of turns.
 
-use session_pool::Gate;
+use session_pool::{Gate, SessionEnd, SweepStop, Watch};
 use std::sync::atomic::{AtomicU64, Ordering};
 use std::thread;
 use wire_base::Clock;
@@ -65,7 +65,11 @@ impl<'a> Gate for AfterSweeps<'a> {
         }
     }
 
-    fn leave(&self, _worker: u32, _session: u32) {}
+    fn leave(&self, _worker: u32, _session: u32, _end: SessionEnd) {}
+}
+
+impl<'a> Watch for AfterSweeps<'a> {
+    fn stopped(&self, _why: SweepStop) {}
 }
 
 /// A gate that lets the first session of the first worker begin once that of the second is over.
@@ -80,9 +84,60 @@ impl<'a> Gate for AfterTheOther<'a> {
         }
     }
 
-    fn leave(&self, worker: u32, session: u32) {
+    fn leave(&self, worker: u32, session: u32, _end: SessionEnd) {
         if (worker, session) == (2, 1) {
             self.0.left.store(1, Ordering::SeqCst);
+        }
+    }
+}
+
+impl<'a> Watch for AfterTheOther<'a> {
+    fn stopped(&self, _why: SweepStop) {}
+}
+
+/// Counts the sessions that ended in one way, and how often sweeping stopped for one reason.
+#[derive(Drop)]
+pub(crate) struct Counting {
+    end: SessionEnd,
+    why: SweepStop,
+    ended: AtomicU64,
+    stopped: AtomicU64,
+}
+
+impl Counting {
+    /// Before the first of either.
+    pub(crate) fn new(end: SessionEnd, why: SweepStop) -> Self {
+        Counting {
+            end,
+            why,
+            ended: AtomicU64::new(0),
+            stopped: AtomicU64::new(0),
+        }
+    }
+
+    /// How many sessions ended so, and how often sweeping stopped so.
+    pub(crate) fn counts(&self) -> (u64, u64) {
+        (
+            self.ended.load(Ordering::SeqCst),
+            self.stopped.load(Ordering::SeqCst),
+        )
+    }
+}
+
+impl Gate for Counting {
+    fn enter(&self, _worker: u32, _session: u32) {}
+
+    fn leave(&self, _worker: u32, _session: u32, end: SessionEnd) {
+        if end == self.end {
+            self.ended.fetch_add(1, Ordering::SeqCst);
+        }
+    }
+}
+
+impl Watch for Counting {
+    fn stopped(&self, why: SweepStop) {
+        if why == self.why {
+            self.stopped.fetch_add(1, Ordering::SeqCst);
         }
     }
 }

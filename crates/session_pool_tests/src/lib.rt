@@ -8,4 +8,4 @@ mod gates;
 #[cfg(test)]
 mod serve_tests;
 #[cfg(test)]
-mod talks;
+mod stands;

@@ -4,18 +4,19 @@ ghost use Rattle.std.specs.Prelude.{◌≡◌, ◌<◌, ◌^◌, length};
 ghost use Rattle.session_door.specs.Serving.{IsWithin};
 ghost use Rattle.session_pool.specs.Stands.{AreReady};
 
-use crate::gates::{AfterSweeps, AfterTheOther, Resting, Shared};
-use crate::talks::{COLLECTOR, VALIDATOR, one, stand, two};
+use crate::gates::{AfterSweeps, AfterTheOther, Counting, Resting, Shared};
+use crate::stands::{failing_stand, one, stand, two, was_given};
 use book_lock::Shelf;
 use collector_core::Book;
 use session_core::{ServeConfig, SessionEnd};
-use session_pool::{Ends, Gate, OpenGate, PoolConfig, Served, Stand, serve_all};
+use session_pool::{Ends, OpenGate, PoolConfig, Served, Stand, SweepStop, Watch, serve_all};
 use source_lines::LineSource;
 use source_set::{SourceSet, Sources, TagSource};
 use std::alloc::Global;
 use std::sync::Wait;
 use std::thread::Threads;
 use swima_model::Point;
+use test_talks::{COLLECTOR, VALIDATOR};
 use wire_base::{Clock, List, MemClock, MemDoor, MemSource, Octets};
 
 /// How sessions are served in these tests.
@@ -48,13 +49,13 @@ fn source(alloc: Global, lines: &[u8]) -> Option<SourceSet> {
 }
 
 /// What came of a pool over an empty book of epoch 7, and the book's last point and records.
-fn served<C: Clock + Send, G: Gate + Sync, R: Threads + Wait + Sync>(
+fn served<C: Clock + Send, W: Watch + Sync, R: Threads + Wait + Sync>(
     alloc: Global,
     rt: &R,
     doors: &mut [Stand<MemDoor>],
     sources: &mut SourceSet,
     clock: &mut C,
-    gate: &G,
+    watch: &W,
     config: &PoolConfig,
 ) -> Option<(Served, Point, u32)>
     requires within { IsWithin config.now.serve }
@@ -68,7 +69,7 @@ fn served<C: Clock + Send, G: Gate + Sync, R: Threads + Wait + Sync>(
         return None;
     };
     let all = serve_all(
-        alloc, rt, &shelf, &mut pass, doors, sources, clock, gate, config,
+        alloc, rt, &shelf, &mut pass, doors, sources, clock, watch, config,
     )
     .ok()?;
     let closed = shelf.close(rt, pass);
@@ -103,13 +104,10 @@ fn is_whole(all: &Served, point: Point, count: u32) -> bool {
     }
 }
 
-/// Whether the door gave one link, which was given what a collector writes.
+/// Whether the last door gave one link, which was given what a collector writes.
 fn is_given(doors: &[Stand<MemDoor>]) -> bool {
-    let [stand] = doors else {
-        return false;
-    };
-    match stand.door.returned() {
-        [link] => link.given() == COLLECTOR,
+    match doors {
+        [.., last] => was_given(last, COLLECTOR),
         _ => false,
     }
 }
@@ -188,4 +186,79 @@ fn serves_both_at_once<R: Threads + Wait + Sync>(alloc: Global, rt: &R) -> Optio
 #[test]
 fn two_sessions_run_at_the_same_time(rt: HostRuntime) {
     assert!(rt; serves_both_at_once(rt.alloc(), &rt) == Some(true));
+}
+
+/// Whether one session came of each door: that of the first ended so, and that of the second is as
+/// if it had been alone.
+fn is_beside(all: &Served, end: SessionEnd) -> bool {
+    let point = Point { epoch: 7, eid: 0 };
+    match all.ends.as_slice() {
+        [first, second] => ended(first, end) & is_one(second, point),
+        _ => false,
+    }
+}
+
+/// Whether there was one session, which ended so.
+fn ended(ends: &Ends, end: SessionEnd) -> bool {
+    match ends.as_slice() {
+        [noted] => noted.1 == end,
+        _ => false,
+    }
+}
+
+/// Whether a session is served as if it were alone, beside one that ends so: its link gives these
+/// octets, and fails at the calls numbered in `failing`.
+fn serves_beside<R: Threads + Wait + Sync>(
+    alloc: Global,
+    rt: &R,
+    octets: &[u8],
+    failing: &[u64],
+    end: SessionEnd,
+) -> Option<bool> {
+    let first = failing_stand(alloc, octets, failing).ok()?;
+    let mut doors = two(alloc, first, stand(alloc, VALIDATOR).ok()?).ok()?;
+    let mut sources = no_source(alloc)?;
+    let mut clock = MemClock::new(List::new(alloc), 0);
+    let at = doors.as_mut_slice();
+    let (all, _, _) = served(alloc, rt, at, &mut sources, &mut clock, &OpenGate, &CONFIG)?;
+    Some(is_beside(&all, end) & is_given(doors.as_slice()))
+}
+
+#[test]
+fn a_session_beside_one_that_fails_is_as_alone(rt: HostRuntime) {
+    let end = SessionEnd::LinkFault;
+    assert!(rt; serves_beside(rt.alloc(), &rt, VALIDATOR, &[2], end) == Some(true));
+}
+
+#[test]
+fn a_session_beside_one_that_is_torn_is_as_alone(rt: HostRuntime) {
+    let end = SessionEnd::Torn { have: 3 };
+    assert!(rt; serves_beside(rt.alloc(), &rt, &[0x02, 0x80, 0x00], &[], end) == Some(true));
+}
+
+/// How often a watch is told that a session was torn after three octets, and that sweeping stopped
+/// at the moment 4294967296, where the clock gives these moments first.
+fn told<R: Threads + Wait + Sync>(alloc: Global, rt: &R, moments: &[u64]) -> Option<(u64, u64)> {
+    let torn = stand(alloc, &[0x02, 0x80, 0x00]).ok()?;
+    let mut doors = two(alloc, torn, stand(alloc, VALIDATOR).ok()?).ok()?;
+    let mut sources = no_source(alloc)?;
+    let mut clock = MemClock::new(List::from_slice(alloc, moments).ok()?, 0);
+    let config = PoolConfig {
+        sweeps: 3,
+        ..CONFIG
+    };
+    let late = SweepStop::ClockRange {
+        secs: 4_294_967_296,
+    };
+    let watch = Counting::new(SessionEnd::Torn { have: 3 }, late);
+    let at = doors.as_mut_slice();
+    served(alloc, rt, at, &mut sources, &mut clock, &watch, &config)?;
+    Some(watch.counts())
+}
+
+#[test]
+fn a_watch_is_told_once_why_a_session_or_the_sweeping_ended(rt: HostRuntime) {
+    assert!(rt; told(rt.alloc(), &rt, &[4_294_967_296]) == Some((1, 1)));
+    assert!(rt; told(rt.alloc(), &rt, &[0, 4_294_967_296]) == Some((1, 1)));
+    assert!(rt; told(rt.alloc(), &rt, &[0, 0, 0, 4_294_967_296]) == Some((1, 0)));
 }

@@ -1,8 +1,8 @@
 //! The program `swid`: it makes the real objects and calls `run`, and says on standard error what a
 //! person wants to know of a status of 2 or more, and of what the system refuses meanwhile.
 //!
-//! It stands on `swid_run`, and for the objects on `session_pool`, `source_lines`, `source_set` and
-//! `wire_base`.
+//! It stands on `swid_run`, and for the objects on `session_pool`, `source_lines`, `source_set`,
+//! `pb_batch` and `wire_base`.
 //!
 //! | file | what it holds |
 //! |---|---|
@@ -10,9 +10,11 @@
 //! | `reporting_net.rt` | the network, which says where it listens and what it refuses |
 //! | `reporting_listener.rt`, `reporting_stream.rt` | listeners and connections, which say what failed |
 //! | `reporting_lines.rt` | the lines of files, which say what is no item |
+//! | `reporting_gate.rt` | sessions and sweeps, which say why they ended |
 #![tactic(auto)]
 
 mod outside;
+mod reporting_gate;
 mod reporting_lines;
 mod reporting_listener;
 mod reporting_net;
@@ -23,6 +25,7 @@ ghost use Rattle.session_pool.specs.Stands.{AreReady};
 ghost use Rattle.swid_run.specs.Words.{AreLent, IsFresh};
 
 use crate::outside::{dialling, line_sources, listening, say_no_address};
+use crate::reporting_gate::ReportingGate;
 use crate::reporting_net::ReportingNet;
 use session_pool::Stand;
 use source_set::{Sources, TagSource};
@@ -150,6 +153,7 @@ where
     let mut output = StdoutSink::new(host.stdout());
     let mut files = FolderFiles::new(alloc, host);
     let mut clock = SystemClock::new(host);
+    let watch = ReportingGate::new(host);
     let status = run(
         alloc,
         rt,
@@ -160,6 +164,7 @@ where
         doors,
         &mut clock,
         sources,
+        &watch,
     );
     if status == 3 {
         let _ = say_fault(host, "read", "standard input", input.last_error());

@@ -15,13 +15,12 @@ use std::fs;
 use std::io::{Eprint, ErrorKind};
 use std::net::{Net, OpenListener, ToSocketAddrs};
 use std::num::NonZeroU32;
+use swid_run::IDLE_TURNS;
 use wire_base::{DialDoor, FileSource, ListenDoor, Memory, Text};
 
 /// How many seconds a write to a connection waits for the other end: as long as a session waits.
-const WRITE_SECONDS: u32 = 600;
-
 fn write_seconds() -> NonZeroU32 {
-    NonZeroU32::new(WRITE_SECONDS).unwrap_or(NonZeroU32::MIN)
+    NonZeroU32::new(IDLE_TURNS).unwrap()
 }
 
 /// Says on standard error that a text is no address, where it is none: the network is not asked then.

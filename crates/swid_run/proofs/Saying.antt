@@ -1,5 +1,5 @@
 -- What words say: one command, with one value of its options.
-use Rattle.std.proofs.Common.{◌≡◌, ◌≤◌, ◌-◌, ◌∙◌, inl, inr, ℕ, List, [], ◌∷◌, Result, Ok, Err, Bor, drop, get_or, length, map, take, refl, sym, ap, ap₂, subst, take_all, arith}
+use Rattle.std.proofs.Common.{◌≡◌, ◌<◌, ◌≤◌, ◌-◌, ◌∙◌, inl, inr, ℕ, List, [], ◌∷◌, Result, Ok, Err, Bor, drop, get_or, length, map, take, refl, sym, ap, ap₂, subst, take_all, arith}
 use Rattle.std.specs.Prelude.{codes}
 use Rattle.clap.specs.Words.{Text}
 use Rattle.wire_base.specs.declared.values.memory.Memory.{Memory}
@@ -55,35 +55,27 @@ waits_not word rest words other is waits = elim waits.1 [
   | inr follow ↦ other.1 (ap first_word (sym is ∙ follow))
 ]
 
-mirror_other : IsOther (codes "mirror")
-mirror_other = (
-  λ e. let octets : 109 ≡ 99 = ap first_octet e in absurd (omega (arith, octets)),
-  λ e. let octets : 109 ≡ 102 = ap first_octet e in absurd (omega (arith, octets)),
+-- So is a word whose first octet is above those of both.
+is_above : (word : Text) → 102 < first_octet word → IsOther word
+is_above word above = (
+  λ e. let octets : first_octet word ≡ 99 = ap first_octet e in absurd (omega (arith, octets, above)),
+  λ e. let octets : first_octet word ≡ 102 = ap first_octet e in absurd (omega (arith, octets, above)),
 )
+
+mirror_other : IsOther (codes "mirror")
+mirror_other = let above : 102 < 109 = omega arith in is_above (codes "mirror") above
 
 tag_other : IsOther (codes "tag")
-tag_other = (
-  λ e. let octets : 116 ≡ 99 = ap first_octet e in absurd (omega (arith, octets)),
-  λ e. let octets : 116 ≡ 102 = ap first_octet e in absurd (omega (arith, octets)),
-)
+tag_other = let above : 102 < 116 = omega arith in is_above (codes "tag") above
 
 links_other : IsOther (codes "links")
-links_other = (
-  λ e. let octets : 108 ≡ 99 = ap first_octet e in absurd (omega (arith, octets)),
-  λ e. let octets : 108 ≡ 102 = ap first_octet e in absurd (omega (arith, octets)),
-)
+links_other = let above : 102 < 108 = omega arith in is_above (codes "links") above
 
 replay_other : IsOther (codes "replay")
-replay_other = (
-  λ e. let octets : 114 ≡ 99 = ap first_octet e in absurd (omega (arith, octets)),
-  λ e. let octets : 114 ≡ 102 = ap first_octet e in absurd (omega (arith, octets)),
-)
+replay_other = let above : 102 < 114 = omega arith in is_above (codes "replay") above
 
 make_other : IsOther (codes "make")
-make_other = (
-  λ e. let octets : 109 ≡ 99 = ap first_octet e in absurd (omega (arith, octets)),
-  λ e. let octets : 109 ≡ 102 = ap first_octet e in absurd (omega (arith, octets)),
-)
+make_other = let above : 102 < 109 = omega arith in is_above (codes "make") above
 
 -- A command line of the others waits for nobody.
 pub plain_waits_not : (words : List Text) → IsCommandLine words → Waits words → ⊥

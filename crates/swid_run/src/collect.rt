@@ -18,7 +18,7 @@ use command_options::CollectOptions;
 use command_text::Ending;
 use pool_text::{collect_ending, collect_text};
 use session_core::ServeConfig;
-use session_pool::{OpenGate, PoolConfig, Served, Stand, serve_all};
+use session_pool::{PoolConfig, Served, Stand, Watch, serve_all};
 use source_set::{Sources, TagSource};
 use std::alloc::Global;
 use std::sync::Wait;
@@ -26,12 +26,13 @@ use std::thread::Threads;
 use wire_base::{Clock, Door, Memory, Sink, Stopped};
 
 /// Serves an inventory that begins without a record at each door, while the sources change it, and
-/// prints what came of it.
+/// prints what came of it. Meanwhile `watch` is told of sessions and sweeps.
 pub(crate) fn collect<
     K: Sink,
     D: Door + Send,
     C: Clock + Send,
     B: TagSource + Send,
+    W: Watch + Sync,
     R: Threads + Wait + Sync,
 >(
     alloc: Global,
@@ -41,6 +42,7 @@ pub(crate) fn collect<
     doors: &mut [Stand<D>],
     clock: &mut C,
     sources: &mut Sources<B>,
+    watch: &W,
 ) -> Result<Ending, Stopped>
 where
     D::L: Send,
@@ -57,7 +59,7 @@ where
     let (shelf, mut pass) = opened(alloc, options)?;
     let config = pool_config(options);
     let served = serve_all(
-        alloc, rt, &shelf, &mut pass, doors, sources, clock, &OpenGate, &config,
+        alloc, rt, &shelf, &mut pass, doors, sources, clock, watch, &config,
     );
     let closed = shelf.close(rt, pass);
     print_served(alloc, &served?, &closed.book, output)

@@ -14,19 +14,21 @@ use command_options::FollowOptions;
 use command_text::Ending;
 use pool_text::{follow_ending, follow_text};
 use session_core::FollowConfig;
-use session_pool::{Followed, OpenGate, Stand, follow_all};
+use session_pool::{Followed, Gate, Stand, follow_all};
 use std::alloc::Global;
 use std::thread::Threads;
 use validator_core::Mirror;
 use wire_base::{Door, Memory, Sink, Stopped};
 
-/// Follows the collector at each door with a mirror of its own, and prints what came of it.
-pub(crate) fn follow<K: Sink, D: Door + Send, R: Threads + Sync>(
+/// Follows the collector at each door with a mirror of its own, and prints what came of it. Meanwhile
+/// `gate` is told of sessions.
+pub(crate) fn follow<K: Sink, D: Door + Send, G: Gate + Sync, R: Threads + Sync>(
     alloc: Global,
     rt: &R,
     options: &FollowOptions,
     output: &mut K,
     doors: &mut [Stand<D>],
+    gate: &G,
 ) -> Result<Ending, Stopped>
 where
     D::L: Send,
@@ -42,7 +44,7 @@ where
     let mut mirrors = new_mirrors(alloc, options)?;
     let config = follow_config(options);
     let all = mirrors.as_mut_slice();
-    let followed = follow_all(alloc, rt, all, doors, options.sessions, &config, &OpenGate)?;
+    let followed = follow_all(alloc, rt, all, doors, options.sessions, &config, gate)?;
     print_followed(alloc, &followed, mirrors.as_slice(), output)
 }
 

@@ -40,6 +40,7 @@ mod planning;
 mod plans;
 mod top_call;
 
+pub use limits::IDLE_TURNS;
 pub use planning::plan;
 pub use plans::Plan;
 pub use top_call::run;

@@ -17,7 +17,7 @@ use crate::collect::collect;
 use crate::ending::status;
 use crate::follow::follow;
 use crate::order::{Order, order_of};
-use session_pool::Stand;
+use session_pool::{Stand, Watch};
 use source_set::{Sources, TagSource};
 use std::alloc::Global;
 use std::sync::Wait;
@@ -38,6 +38,7 @@ use wire_base::{Clock, Door, Files, Memory, Sink, Source};
 ///
 /// For `collect` it is lent as many doors as there are workers, and a source for each file; for
 /// `follow` a door for each address; for other words neither. No other words than these two wait.
+/// While they do, `watch` is told of sessions as they begin and end, and why sweeping stopped.
 pub fn run<
     S: Source,
     K: Sink,
@@ -45,6 +46,7 @@ pub fn run<
     D: Door + Send,
     C: Clock + Send,
     B: TagSource + Send,
+    W: Watch + Sync,
     R: Threads + Wait + Sync,
 >(
     alloc: Global,
@@ -56,6 +58,7 @@ pub fn run<
     doors: &mut [Stand<D>],
     clock: &mut C,
     sources: &mut Sources<B>,
+    watch: &W,
 ) -> u8
 where
     D::L: Send,
@@ -109,9 +112,9 @@ where
     match order_of(alloc, words) {
         Ok(Order::Other) => run_plain(alloc, words, input, output, files),
         Ok(Order::Collect(options)) => {
-            status(collect(alloc, rt, &options, output, doors, clock, sources))
+            status(collect(alloc, rt, &options, output, doors, clock, sources, watch))
         }
-        Ok(Order::Follow(options)) => status(follow(alloc, rt, &options, output, doors)),
+        Ok(Order::Follow(options)) => status(follow(alloc, rt, &options, output, doors, watch)),
         Err(Memory) => 4,
     }
 }

@@ -1,0 +1,81 @@
+//! A gate, which says on standard error why a session ended and why sweeping stopped.
+
+use pb_batch::PbFault;
+use session_pool::{Gate, SessionEnd, SweepStop, Watch};
+use std::fmt;
+use std::io::Eprint;
+use wire_base::ClockRange;
+
+/// A gate that says on standard error why a session ended, where no end closed it, and why sweeping
+/// stopped.
+#[derive(Drop)]
+pub(crate) struct ReportingGate<'a, R> {
+    system: &'a R,
+}
+
+impl<'a, R> ReportingGate<'a, R> {
+    /// A gate with the standard error of `system`.
+    pub(crate) fn new(system: &'a R) -> Self {
+        ReportingGate { system }
+    }
+}
+
+// What a message says is not checked further: nobody is left to inform where standard error fails.
+impl<'a, R: Eprint> Gate for ReportingGate<'a, R> {
+    fn enter(&self, _worker: u32, _session: u32) {}
+
+    fn leave(&self, worker: u32, session: u32, end: SessionEnd) {
+        if !matches!(end, SessionEnd::Closed | SessionEnd::PeerClosed) {
+            let why = Why(end);
+            let _ = eprintln!(self.system; "swid: session {worker}.{session} ended: {why}");
+        }
+    }
+}
+
+impl<'a, R: Eprint> Watch for ReportingGate<'a, R> {
+    fn stopped(&self, why: SweepStop) {
+        let _ = match why {
+            SweepStop::Sweep(error) => eprintln!(self.system; "swid: sweeping stopped: {error}"),
+            SweepStop::ClockRange { secs } => {
+                let range = ClockRange { secs };
+                eprintln!(self.system; "swid: sweeping stopped: {range}")
+            }
+        };
+    }
+}
+
+/// Why a session ended, for people.
+#[derive(Clone, Copy, Drop)]
+struct Why(SessionEnd);
+
+impl fmt::Display for Why {
+    fn fmt<W: fmt::Write>(&self, f: &mut fmt::Formatter<W>) -> fmt::Result {
+        match self.0 {
+            SessionEnd::Closed => f.write_str("it was closed here"),
+            SessionEnd::PeerClosed => f.write_str("the peer closed it"),
+            SessionEnd::PeerError { vendor, code } => {
+                write!(
+                    f,
+                    "the peer reported the error {code} of the vendor {vendor}"
+                )
+            }
+            SessionEnd::Refused { code, offset } => {
+                let version = 0;
+                let fault = PbFault {
+                    code,
+                    offset,
+                    version,
+                };
+                write!(f, "a batch of the peer was refused: {fault}")
+            }
+            SessionEnd::Ended => f.write_str("the connection ended without a CLOSE"),
+            SessionEnd::Torn { have } => {
+                write!(f, "the connection ended after {have} octets of a batch")
+            }
+            SessionEnd::LinkFault => f.write_str("the connection failed"),
+            SessionEnd::IdleOut { turns } => write!(f, "nothing came for {turns} seconds"),
+            SessionEnd::Enough => f.write_str("more octets came than a session may have"),
+            SessionEnd::Memory => f.write_str("out of memory"),
+        }
+    }
+}

@@ -1,0 +1,1 @@
+"$swid" collect --listen nowhere --epoch 7 unknown.lines
