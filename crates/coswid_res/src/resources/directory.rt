@@ -122,7 +122,7 @@ impl Mapped for DirectoryTable {
 
     ghost written = { directory_pairs };
 
-    fn read(alloc: Global, pairs: &Pairs) -> Result<DirEntry, FormRefused> {
+    fn read(alloc: Global, pairs: Pairs) -> Result<DirEntry, FormRefused> {
         read_directory(alloc, pairs)
     }
 

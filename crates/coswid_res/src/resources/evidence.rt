@@ -78,15 +78,16 @@ impl Mapped for EvidenceTable {
 
     ghost written = { evidence_pairs };
 
-    fn read(alloc: Global, pairs: &Pairs) -> Result<Evidence, FormRefused> {
-        let directory = table::Directory::optional_row(alloc, pairs)?;
-        let file = table::File::optional_row(alloc, pairs)?;
-        let process = table::Process::optional_row(alloc, pairs)?;
-        let resource = table::Resource::optional_row(alloc, pairs)?;
-        let location = table::Location::optional(alloc, pairs)?;
-        let date = table::Date::optional(alloc, pairs)?;
-        let device_id = table::DeviceId::optional(alloc, pairs)?;
-        let extras = pairs.without_keys(&table::evidence_keys())?;
+    #[tactic(auto, using(crate::proofs::Takes::still, crate::proofs::Takes::others_of))]
+    fn read(alloc: Global, pairs: Pairs) -> Result<Evidence, FormRefused> {
+        let mut pairs = pairs;
+        let directory = table::Directory::optional_row(alloc, &mut pairs)?;
+        let file = table::File::optional_row(alloc, &mut pairs)?;
+        let process = table::Process::optional_row(alloc, &mut pairs)?;
+        let resource = table::Resource::optional_row(alloc, &mut pairs)?;
+        let location = table::Location::optional(alloc, &mut pairs)?;
+        let date = table::Date::optional(alloc, &mut pairs)?;
+        let device_id = table::DeviceId::optional(alloc, &mut pairs)?;
         Ok(Evidence {
             directory,
             file,
@@ -95,7 +96,7 @@ impl Mapped for EvidenceTable {
             location,
             date,
             device_id,
-            extras,
+            extras: pairs,
         })
     }
 
@@ -141,7 +142,7 @@ impl ItemMapped for EvidenceTable {
 pub fn evidence_of(alloc: Global, item: &Item) -> Result<Evidence, FormRefused>
     ensures told { Gives (λ e. EvidenceMap e (view item.now)) (field_fault (schema.one (schema.a_map schema.evidence)) (view item.now)) result }
 {
-    MapForm::<EvidenceTable>::read(alloc, item)
+    MapForm::<EvidenceTable>::read(alloc, item.copy()?)
 }
 
 /// The item that the evidence is written as; `Memory` where there is no room. A value made by hand

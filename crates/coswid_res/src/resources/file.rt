@@ -70,16 +70,17 @@ impl Mapped for FileTable {
 
     ghost written = { file_pairs };
 
-    fn read(alloc: Global, pairs: &Pairs) -> Result<FileEntry, FormRefused> {
-        table::FsName::expect(alloc, pairs)?;
-        let hash = table::Hash::optional(alloc, pairs)?;
-        let size = table::Size::optional(alloc, pairs)?;
-        let file_version = table::FileVersion::optional(alloc, pairs)?;
-        let key = table::IsKey::optional(alloc, pairs)?;
-        let location = table::Location::optional(alloc, pairs)?;
-        let fs_name = table::FsName::required(alloc, pairs)?;
-        let root = table::Root::optional(alloc, pairs)?;
-        let extras = pairs.without_keys(&table::file_keys())?;
+    #[tactic(auto, using(crate::proofs::Takes::still, crate::proofs::Takes::others_of))]
+    fn read(alloc: Global, pairs: Pairs) -> Result<FileEntry, FormRefused> {
+        table::FsName::expect(alloc, &pairs)?;
+        let mut pairs = pairs;
+        let hash = table::Hash::optional(alloc, &mut pairs)?;
+        let size = table::Size::optional(alloc, &mut pairs)?;
+        let file_version = table::FileVersion::optional(alloc, &mut pairs)?;
+        let key = table::IsKey::optional(alloc, &mut pairs)?;
+        let location = table::Location::optional(alloc, &mut pairs)?;
+        let fs_name = table::FsName::required(alloc, &mut pairs)?;
+        let root = table::Root::optional(alloc, &mut pairs)?;
         Ok(FileEntry {
             hash,
             size,
@@ -88,7 +89,7 @@ impl Mapped for FileTable {
             location,
             fs_name,
             root,
-            extras,
+            extras: pairs,
         })
     }
 
