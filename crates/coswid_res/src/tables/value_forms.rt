@@ -165,7 +165,7 @@ impl Form for UriForm {
 
     fn read(alloc: Global, item: Item) -> Result<Text, FormRefused> {
         match item {
-            Item::Text(text) => Ok(text),
+            Item::Text(bare) => Ok(bare),
             Item::Tag(URI_TAG, content) => TextForm::read(alloc, content.into_inner()),
             _ => Err(FormRefused::new(alloc, WRONG_FORM)),
         }
