@@ -8,7 +8,6 @@ pub mod Extras
 pub mod Facts
 pub mod Fields
 pub mod Files
-pub mod Groups
 pub mod Lawful
 pub mod Lengths
 pub mod Lines
