@@ -38,7 +38,6 @@ mod verification;
 
 pub use fault::{BOTH, DEEP, FormFault, FormRefused, MISSING_KEY, Path, WRONG_FORM};
 pub use fault_kind::FormFaultKind;
-pub use resources::copy_option::copy_option;
 pub use resources::directory::{DirEntries, DirEntry, PathElements};
 pub use resources::evidence::{Evidence, EvidenceTable, evidence_item, evidence_of};
 pub use resources::file::{FileEntries, FileEntry};

@@ -7,7 +7,7 @@ use coswid_res::{
 };
 use std::alloc::Global;
 use std::test::Fail;
-use wire_base::{List, Text, TryCopy};
+use wire_base::{List, Text};
 
 /// Keys of no table of a tag.
 type Name = Key<131, TextForm>;
@@ -94,14 +94,14 @@ fn with_hash(alloc: Global, hash: &HashEntry) -> Result<Pairs, Fail> {
     Ok(pairs)
 }
 
-/// Whether the copy of a hash is read as it was put.
+/// Whether a hash is read as it was put.
 fn puts_a_hash(alloc: Global) -> Result<bool, Fail> {
     let value = List::from_slice(alloc, &[7])?;
     let hash = HashEntry {
         algorithm: 1,
         value,
     };
-    let mut pairs = with_hash(alloc, &hash.copy()?)?;
+    let mut pairs = with_hash(alloc, &hash)?;
     let read = Print::required(alloc, &mut pairs)?;
     Ok(read.algorithm == 1 && read.value.as_slice() == [7].as_slice())
 }

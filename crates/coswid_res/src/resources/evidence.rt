@@ -10,7 +10,6 @@ ghost use Rattle.coswid_res.specs.Sizes.{EvidenceSizesFit};
 ghost use Rattle.coswid_res.specs.Schema as schema;
 
 use crate::fault::FormRefused;
-use crate::resources::copy_option::copy_option;
 use crate::resources::directory::DirEntries;
 use crate::resources::file::FileEntries;
 use crate::resources::process::ProcessEntries;
@@ -42,28 +41,6 @@ pub struct Evidence {
     pub device_id: Option<Text>,
     /// The pairs under all other keys.
     pub extras: Pairs,
-}
-
-impl TryCopy for Evidence {
-    fn copy(&self) -> Result<Self, Memory> {
-        let mut made = Evidence {
-            directory: None,
-            file: None,
-            process: None,
-            resource: None,
-            location: None,
-            date: self.date,
-            device_id: None,
-            extras: self.extras.copy()?,
-        };
-        made.directory = copy_option(&self.directory)?;
-        made.file = copy_option(&self.file)?;
-        made.process = copy_option(&self.process)?;
-        made.resource = copy_option(&self.resource)?;
-        made.location = copy_option(&self.location)?;
-        made.device_id = copy_option(&self.device_id)?;
-        Ok(made)
-    }
 }
 
 /// The table of evidence.

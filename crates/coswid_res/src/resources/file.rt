@@ -5,7 +5,6 @@ ghost use Rattle.coswid_res.specs.Sizes.{SizeFits};
 ghost use Rattle.coswid_res.specs.Schema as schema;
 
 use crate::fault::FormRefused;
-use crate::resources::copy_option::copy_option;
 use crate::resources::hash::HashEntry;
 use crate::resources::table;
 use crate::tables::key::count;
@@ -36,26 +35,6 @@ pub struct FileEntry {
     pub root: Option<Text>,
     /// The pairs under all other keys.
     pub extras: Pairs,
-}
-
-impl TryCopy for FileEntry {
-    fn copy(&self) -> Result<Self, Memory> {
-        let mut made = FileEntry {
-            hash: None,
-            size: self.size,
-            file_version: None,
-            key: self.key,
-            location: None,
-            fs_name: self.fs_name.copy()?,
-            root: None,
-            extras: self.extras.copy()?,
-        };
-        made.hash = copy_option(&self.hash)?;
-        made.file_version = copy_option(&self.file_version)?;
-        made.location = copy_option(&self.location)?;
-        made.root = copy_option(&self.root)?;
-        Ok(made)
-    }
 }
 
 /// The table of files.

@@ -10,7 +10,6 @@ ghost use Rattle.coswid_res.specs.Sizes.{PayloadSizesFit};
 ghost use Rattle.coswid_res.specs.Schema as schema;
 
 use crate::fault::FormRefused;
-use crate::resources::copy_option::copy_option;
 use crate::resources::directory::DirEntries;
 use crate::resources::file::FileEntries;
 use crate::resources::process::ProcessEntries;
@@ -36,23 +35,6 @@ pub struct Payload {
     pub resource: Option<ResourceEntries>,
     /// The pairs under all other keys.
     pub extras: Pairs,
-}
-
-impl TryCopy for Payload {
-    fn copy(&self) -> Result<Self, Memory> {
-        let mut made = Payload {
-            directory: None,
-            file: None,
-            process: None,
-            resource: None,
-            extras: self.extras.copy()?,
-        };
-        made.directory = copy_option(&self.directory)?;
-        made.file = copy_option(&self.file)?;
-        made.process = copy_option(&self.process)?;
-        made.resource = copy_option(&self.resource)?;
-        Ok(made)
-    }
 }
 
 /// The table of payloads.

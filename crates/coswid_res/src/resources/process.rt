@@ -26,16 +26,6 @@ pub struct ProcessEntry {
     pub extras: Pairs,
 }
 
-impl TryCopy for ProcessEntry {
-    fn copy(&self) -> Result<Self, Memory> {
-        Ok(ProcessEntry {
-            process_name: self.process_name.copy()?,
-            pid: self.pid,
-            extras: self.extras.copy()?,
-        })
-    }
-}
-
 /// The table of processes.
 pub(crate) struct ProcessTable;
 

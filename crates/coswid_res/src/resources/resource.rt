@@ -24,15 +24,6 @@ pub struct ResourceEntry {
     pub extras: Pairs,
 }
 
-impl TryCopy for ResourceEntry {
-    fn copy(&self) -> Result<Self, Memory> {
-        Ok(ResourceEntry {
-            resource_type: self.resource_type.copy()?,
-            extras: self.extras.copy()?,
-        })
-    }
-}
-
 /// The table of resources.
 pub(crate) struct ResourceTable;
 
