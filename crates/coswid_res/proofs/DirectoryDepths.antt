@@ -1,5 +1,5 @@
 -- What stands under a key of a map, and an element of an array, are less deep.
-use Rattle.std.proofs.Common.{◌≡◌, ◌≤◌, ◌<◌, ◌⊎◌, inl, inr, ℕ, ◌+◌, Bool, true, false, List, ◌∷◌, map as map_list, Option, Some, if◌then◌else◌, refl, ap, ◌∙◌, arith}
+use Rattle.std.proofs.Common.{◌≡◌, ◌≤◌, ◌<◌, ◌⊎◌, inl, inr, ℕ, ◌+◌, Bool, true, false, List, ◌∷◌, map as map_list, Option, Some, if◌then◌else◌, ap, ◌∙◌, arith}
 use Rattle.cbor_det.specs.Lookup.{is_unsigned, is_one_of, value_under, other_than}
 use Rattle.cbor_det.specs.Term.{Term, Pairs, no_pairs, pair, depth, terms_depth, pairs_depth}
 use Rattle.cbor_det.specs.View.{view, terms_of, pairs_view}
@@ -24,7 +24,7 @@ kept_deep true k v ps qs deep = omega (arith, deep)
 kept_deep false k v ps qs deep = omega (arith, deep)
 
 others_deep : (ns : List ℕ) (ps : Pairs) → pairs_depth (other_than ns ps) ≤ pairs_depth ps
-others_deep ns no_pairs = refl
+others_deep ns no_pairs = omega (arith)
 others_deep ns (pair k v ps) = kept_deep (is_one_of ns k) k v ps (other_than ns ps) (others_deep ns ps)
 
 -- What is left of pairs is no deeper.

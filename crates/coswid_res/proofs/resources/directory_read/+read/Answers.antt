@@ -1,16 +1,27 @@
 -- A fault is reported from one level further up; a map is read by its pairs, and an array by its
 -- elements, one after another.
-use Rattle.std.proofs.Common.{◌≡◌, [], arith, rules}
+use Rattle.std.proofs.Common.{◌≡◌, ◌<◌, ◌+◌, ◌*◌, [], arith, rules}
 use Rattle.std.proofs.lemmas.List.{nil_from_length}
 use Rattle.std.specs.Vec.Iter.{into_iter_items}
-use Rattle.cbor_det.specs.View.{view}
+use Rattle.cbor_det.specs.Term.{pairs_depth}
+use Rattle.cbor_det.specs.View.{view, pairs_view}
 use Rattle.coswid_res.specs.Directories.{DirectoryPairs, PathPairs, DirectoryMap}
 use Rattle.coswid_res.specs.Fault.{field_fault}
 use Rattle.coswid_res.specs.Schema as schema
 use Rattle.coswid_res.specs.Schema.{one, one_or_more, a_map}
+use Rattle.coswid_res.proofs.DirectoryDepths.{left_deep}
 use Rattle.coswid_res.proofs.Elements.{all_read, row_of_array}
 use Rattle.coswid_res.proofs.MapRead.{map_read}
 use Rattle.coswid_res.proofs.resources.directory_read.+read.Goals as goal
+
+pub read_directory-path_under-requires : goal.read_directory-path_under-requires
+read_directory-path_under-requires t c =
+    let one = left_deep _ _ _ c.in_ok-key.ensures.left in
+    let two = left_deep _ _ _ c.in_ok-location.ensures.left in
+    let three = left_deep _ _ _ c.in_ok-fs_name.ensures.left in
+    let four = left_deep _ _ _ c.in_ok-root.ensures.left in
+    let falls : 8 * pairs_depth (pairs_view c.optional-3.new.pairs) + 2 < 8 * pairs_depth (pairs_view c.args.pairs) + 3 = omega (arith, one, two, three, four) in
+    (falls, tt {0})
 
 pub path_at-returns-in-Err : goal.path_at-returns-in-Err
 path_at-returns-in-Err t c = record { told = c.under.ensures.told (field_fault (one (a_map schema.path_elements)) (view c.args.item)) c.in-Err.ensures.told }

@@ -14,7 +14,7 @@ abbrev pub decreases-read_directory : goal.decreases-read_directory
 decreases-read_directory l = 8 * pairs_depth (pairs_view l.pairs) + 3
 
 abbrev pub decreases-path_under : goal.decreases-path_under
-decreases-path_under l = 8 * pairs_depth (pairs_view l.pairs.old) + 2
+decreases-path_under l = 8 * pairs_depth (pairs_view l.pairs.now) + 2
 
 abbrev pub decreases-path_at : goal.decreases-path_at
 decreases-path_at l = 8 * depth (view l.item) + 1
@@ -26,7 +26,7 @@ abbrev pub decreases-read_path : goal.decreases-read_path
 decreases-read_path l = 8 * pairs_depth (pairs_view l.pairs) + 4
 
 abbrev pub decreases-directories_under : goal.decreases-directories_under
-decreases-directories_under l = 8 * pairs_depth (pairs_view l.pairs.old) + 3
+decreases-directories_under l = 8 * pairs_depth (pairs_view l.pairs.now) + 3
 
 abbrev pub decreases-directories_at : goal.decreases-directories_at
 decreases-directories_at l = 8 * depth (view l.item) + 2
