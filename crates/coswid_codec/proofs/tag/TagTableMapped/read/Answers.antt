@@ -1,6 +1,7 @@
 -- The groups of keys, one after another.
 use Rattle.std.proofs.Common.{◌++◌, ◌∙◌, Option, refl, ap}
 use Rattle.std.proofs.lemmas.Result.{err_from_is_err_and}
+use Rattle.cbor_det.specs.View.{pairs_view}
 use Rattle.coswid_res.specs.declared.fault.FormFault.{FormFault}
 use Rattle.coswid_res.specs.Fault.{or_else}
 use Rattle.coswid_res.specs.Resources.{PayloadMap}
@@ -14,25 +15,25 @@ use Rattle.coswid_codec.proofs.tag.TagTableMapped.read.Goals as goal
 pub returns-in_err-first : goal.returns-in_err-first
 returns-in_err-first c =
     let p = err_from_is_err_and c.from_residual-in_err-first.result c.from_residual-in_err-first.ensures.1 in
-    record { told = rw (p.1, p.2) (after_none _ _ _ c.in_ok-expect_required.ensures.told.0 (earlier (first_lines tag) (second_lines tag ++ third_lines tag) _ _ c.in_err-first.ensures.told)) }
+    record { told = rw (p.1, p.2) (after_none _ _ _ c.in_ok-expect_required.ensures.told.0 (earlier (first_lines tag) (second_lines tag ++ third_lines tag) (pairs_view c.args.pairs) _ c.in_err-first.ensures.told)) }
 
 pub returns-in_err-second : goal.returns-in_err-second
 returns-in_err-second c =
     let p = err_from_is_err_and c.from_residual-in_err-second.result c.from_residual-in_err-second.ensures.1 in
-    let one : Taken (first_lines tag) _ _ = record { none = c.in_ok-first.ensures.told.0; left = c.in_ok-first.ensures.left } in
+    let one : Taken (first_lines tag) (pairs_view c.args.pairs) _ = record { none = c.in_ok-first.ensures.told.0; left = c.in_ok-first.ensures.left } in
     let early = told (first_lines tag) (second_lines tag) _ _ refl one _ c.in_err-second.ensures.told in
-    record { told = rw (p.1, p.2) (after_none _ _ _ c.in_ok-expect_required.ensures.told.0 (earlier (first_lines tag ++ second_lines tag) (third_lines tag) _ _ early)) }
+    record { told = rw (p.1, p.2) (after_none _ _ _ c.in_ok-expect_required.ensures.told.0 (earlier (first_lines tag ++ second_lines tag) (third_lines tag) (pairs_view c.args.pairs) _ early)) }
 
 pub returns-in_err-third : goal.returns-in_err-third
 returns-in_err-third c =
     let p = err_from_is_err_and c.from_residual-in_err-third.result c.from_residual-in_err-third.ensures.1 in
-    let one : Taken (first_lines tag) _ _ = record { none = c.in_ok-first.ensures.told.0; left = c.in_ok-first.ensures.left } in
+    let one : Taken (first_lines tag) (pairs_view c.args.pairs) _ = record { none = c.in_ok-first.ensures.told.0; left = c.in_ok-first.ensures.left } in
     let two = more (first_lines tag) (second_lines tag) _ _ refl one _ c.in_ok-second.ensures.told.0 c.in_ok-second.ensures.left in
     record { told = rw (p.1, p.2) (after_none _ _ _ c.in_ok-expect_required.ensures.told.0 (told _ (third_lines tag) _ _ refl two _ c.in_err-third.ensures.told)) }
 
 pub returns : goal.returns
 returns c =
-    let one : Taken (first_lines tag) _ _ = record { none = c.in_ok-first.ensures.told.0; left = c.in_ok-first.ensures.left } in
+    let one : Taken (first_lines tag) (pairs_view c.args.pairs) _ = record { none = c.in_ok-first.ensures.told.0; left = c.in_ok-first.ensures.left } in
     let two = more (first_lines tag) (second_lines tag) _ _ refl one _ c.in_ok-second.ensures.told.0 c.in_ok-second.ensures.left in
     let all = more _ (third_lines tag) _ _ refl two _ c.in_ok-third.ensures.told.0 c.in_ok-third.ensures.left in
     record {

@@ -1,6 +1,6 @@
 -- A fault is reported from one level further up; a map is read by its pairs, and an array by its
 -- elements, one after another.
-use Rattle.std.proofs.Common.{◌≡◌, ◌<◌, ◌+◌, ◌*◌, [], arith, rules}
+use Rattle.std.proofs.Common.{◌≡◌, ◌<◌, ◌+◌, ◌*◌, [], ◌∷◌, arith, rules}
 use Rattle.std.proofs.lemmas.List.{nil_from_length}
 use Rattle.std.specs.Vec.Iter.{into_iter_items}
 use Rattle.cbor_det.specs.Term.{pairs_depth}
@@ -16,11 +16,11 @@ use Rattle.coswid_res.proofs.resources.directory_read.+read.Goals as goal
 
 pub read_directory-path_under-requires : goal.read_directory-path_under-requires
 read_directory-path_under-requires t c =
-    let one = left_deep _ _ _ c.in_ok-key.ensures.left in
-    let two = left_deep _ _ _ c.in_ok-location.ensures.left in
-    let three = left_deep _ _ _ c.in_ok-fs_name.ensures.left in
-    let four = left_deep _ _ _ c.in_ok-root.ensures.left in
-    let falls : 8 * pairs_depth (pairs_view c.optional-3.new.pairs) + 2 < 8 * pairs_depth (pairs_view c.args.pairs) + 3 = omega (arith, one, two, three, four) in
+    let one = left_deep (22 ∷ []) (pairs_view c.args.pairs) _ c.in_ok-key.ensures.left in
+    let two = left_deep (23 ∷ []) (pairs_view c.optional.new.pairs) _ c.in_ok-location.ensures.left in
+    let three = left_deep (24 ∷ []) (pairs_view c.optional-2.new.pairs) _ c.in_ok-fs_name.ensures.left in
+    let four = left_deep (25 ∷ []) (pairs_view c.required.new.pairs) _ c.in_ok-root.ensures.left in
+    let falls : 8 * pairs_depth (pairs_view c.optional-3.new.pairs) + 2 < t = omega (arith, c.decreases, one, two, three, four) in
     (falls, tt {0})
 
 pub path_at-returns-in-Err : goal.path_at-returns-in-Err
