@@ -37,11 +37,6 @@ terms_reach xs i levels x lt at reached =
     let m : levels ≤ depth (view x) = leb-true levels (depth (view x)) reached in
     sym (le-leb levels (terms_depth (terms_of (map view xs))) (omega (arith, l, m)))
 
-pub terms_end : (xs : List Item) (i levels : ℕ) → length xs ≤ i → terms_depth (terms_of (map view (take i xs))) < levels → false ≡ nat_le levels (terms_depth (terms_of (map view xs)))
-terms_end xs i levels all front =
-    let P : List Item → Type 0 = λ ys. terms_depth (terms_of (map view ys)) < levels in
-    sym (lt-leb levels (terms_depth (terms_of (map view xs))) (subst P (take_all i xs all) front))
-
 -- pairs
 
 abbrev pub front_depth : ℕ → Pairs → ℕ

@@ -8,7 +8,6 @@ pub mod Extras
 pub mod Facts
 pub mod Fields
 pub mod Files
-pub mod Later
 pub mod Lawful
 pub mod Lengths
 pub mod Lines
@@ -24,4 +23,5 @@ pub mod Several
 pub mod Sizes
 pub mod Tables
 pub mod Tags
+pub mod Takes
 pub mod Whole

@@ -7,4 +7,4 @@ pub mod HasItem
 pub mod SizesFit
 pub mod Laws
 pub mod TagText
-pub mod LastKeys
+pub mod Groups

@@ -23,20 +23,21 @@ impl Mapped for EntityTable {
 
     ghost written = { entity_pairs };
 
-    fn read(alloc: Global, pairs: &Pairs) -> Result<Entity, FormRefused> {
-        key::EntityName::expect(alloc, pairs)?;
-        key::Role::expect(alloc, pairs)?;
-        let entity_name = key::EntityName::required(alloc, pairs)?;
-        let reg_id = key::RegId::optional(alloc, pairs)?;
-        let role = key::Role::required_row(alloc, pairs)?;
-        let thumbprint = key::Thumbprint::optional(alloc, pairs)?;
-        let extras = pairs.without_keys(&key::entity_keys())?;
+    #[tactic(auto, using(crate::proofs::Takes::still, crate::proofs::Takes::others_of))]
+    fn read(alloc: Global, pairs: Pairs) -> Result<Entity, FormRefused> {
+        key::EntityName::expect(alloc, &pairs)?;
+        key::Role::expect(alloc, &pairs)?;
+        let mut pairs = pairs;
+        let entity_name = key::EntityName::required(alloc, &mut pairs)?;
+        let reg_id = key::RegId::optional(alloc, &mut pairs)?;
+        let role = key::Role::required_row(alloc, &mut pairs)?;
+        let thumbprint = key::Thumbprint::optional(alloc, &mut pairs)?;
         Ok(Entity {
             entity_name,
             reg_id,
             role,
             thumbprint,
-            extras,
+            extras: pairs,
         })
     }
 

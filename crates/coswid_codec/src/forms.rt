@@ -26,10 +26,10 @@ impl Form for IdentifierForm {
 
     ghost written = { identifier_item };
 
-    fn read(alloc: Global, item: &Item) -> Result<TagId, FormRefused> {
+    fn read(alloc: Global, item: Item) -> Result<TagId, FormRefused> {
         match item {
-            Item::Text(text) => Ok(TagId::Text(text.copy()?)),
-            Item::Bytes(octets) => read_uuid(alloc, octets),
+            Item::Text(text) => Ok(TagId::Text(text)),
+            Item::Bytes(octets) => read_uuid(alloc, &octets),
             _ => Err(FormRefused::new(alloc, WRONG_FORM)),
         }
     }
@@ -63,10 +63,10 @@ impl Form for CodeForm {
 
     ghost written = { code_item };
 
-    fn read(alloc: Global, item: &Item) -> Result<CodeValue, FormRefused> {
+    fn read(alloc: Global, item: Item) -> Result<CodeValue, FormRefused> {
         match item {
-            Item::Int(number) => Ok(CodeValue::Int(*number)),
-            Item::Text(text) => Ok(CodeValue::Text(text.copy()?)),
+            Item::Int(number) => Ok(CodeValue::Int(number)),
+            Item::Text(text) => Ok(CodeValue::Text(text)),
             _ => Err(FormRefused::new(alloc, WRONG_FORM)),
         }
     }

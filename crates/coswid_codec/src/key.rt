@@ -1,9 +1,5 @@
 //! The keys of tags, each with its number and the form of what stands under it (RFC 9393,
-//! section 2). After them stand all keys that each table lists.
-
-ghost use Rattle.std.specs.Prelude.{◌≡◌};
-ghost use Rattle.coswid_res.specs.Schema as schema;
-ghost use Rattle.coswid_res.specs.Schema.{keys_of};
+//! section 2).
 
 use crate::entity::EntityTable;
 use crate::forms::{CodeForm, IdentifierForm};
@@ -60,29 +56,6 @@ pub(crate) type VersionScheme = Key<14, CodeForm>;
 /// `lang`.
 pub(crate) type Lang = Key<15, TextForm>;
 
-/// The keys that the table of tags lists.
-pub(crate) fn tag_keys() -> [u32; 15]
-    ensures keys { result ≡ keys_of (schema.table schema.tag) }
-{
-    [
-        TagId::number(),
-        SoftwareName::number(),
-        Entity::number(),
-        Evidence::number(),
-        Link::number(),
-        SoftwareMeta::number(),
-        Payload::number(),
-        Corpus::number(),
-        Patch::number(),
-        Media::number(),
-        Supplemental::number(),
-        TagVersion::number(),
-        SoftwareVersion::number(),
-        VersionScheme::number(),
-        Lang::number(),
-    ]
-}
-
 // Entities: section 2.6.
 
 /// `entity-name`, required.
@@ -96,18 +69,6 @@ pub(crate) type Role = Key<33, CodeForm>;
 
 /// `thumbprint`.
 pub(crate) type Thumbprint = Key<34, HashForm>;
-
-/// The keys that the table of entities lists.
-pub(crate) fn entity_keys() -> [u32; 4]
-    ensures keys { result ≡ keys_of (schema.table schema.entity) }
-{
-    [
-        EntityName::number(),
-        RegId::number(),
-        Role::number(),
-        Thumbprint::number(),
-    ]
-}
 
 // Links: section 2.7, and `Media`.
 
@@ -128,21 +89,6 @@ pub(crate) type MediaType = Key<41, TextForm>;
 
 /// `use`.
 pub(crate) type LinkUse = Key<42, CodeForm>;
-
-/// The keys that the table of links lists.
-pub(crate) fn link_keys() -> [u32; 7]
-    ensures keys { result ≡ keys_of (schema.table schema.link) }
-{
-    [
-        Media::number(),
-        Artifact::number(),
-        Href::number(),
-        Ownership::number(),
-        Rel::number(),
-        MediaType::number(),
-        LinkUse::number(),
-    ]
-}
 
 // Descriptions of software: section 2.8. None must be there.
 
@@ -190,26 +136,3 @@ pub(crate) type UnspscCode = Key<56, TextForm>;
 
 /// `unspsc-version`.
 pub(crate) type UnspscVersion = Key<57, TextForm>;
-
-/// The keys that the table of descriptions lists.
-pub(crate) fn meta_keys() -> [u32; 15]
-    ensures keys { result ≡ keys_of (schema.table schema.software_meta) }
-{
-    [
-        ActivationStatus::number(),
-        ChannelType::number(),
-        ColloquialVersion::number(),
-        Description::number(),
-        Edition::number(),
-        EntitlementDataRequired::number(),
-        EntitlementKey::number(),
-        Generator::number(),
-        PersistentId::number(),
-        Product::number(),
-        ProductFamily::number(),
-        Revision::number(),
-        Summary::number(),
-        UnspscCode::number(),
-        UnspscVersion::number(),
-    ]
-}

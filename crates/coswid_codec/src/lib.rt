@@ -27,7 +27,7 @@
 //! | file | what it says |
 //! |---|---|
 //! | `Answers` | what octets begin with, and what is answered |
-//! | `Forms`, `LastKeys` | the items that a tag is read from, key by key |
+//! | `Forms`, `Groups` | the items that a tag is read from, key by key |
 //! | `Marked`, `TagFault` | items under the tag of CoSWID tags; the first form fault |
 //! | `Items`, `HasItem`, `SizesFit` | the item that a tag is written as; which tags have one |
 //! | `TagText` | the lines of the command `tag` |

@@ -23,17 +23,18 @@ impl Mapped for LinkTable {
 
     ghost written = { link_pairs };
 
-    fn read(alloc: Global, pairs: &Pairs) -> Result<LinkEntry, FormRefused> {
-        key::Href::expect(alloc, pairs)?;
-        key::Rel::expect(alloc, pairs)?;
-        let media = key::Media::optional(alloc, pairs)?;
-        let artifact = key::Artifact::optional(alloc, pairs)?;
-        let href = key::Href::required(alloc, pairs)?;
-        let ownership = key::Ownership::optional(alloc, pairs)?;
-        let rel = key::Rel::required(alloc, pairs)?;
-        let media_type = key::MediaType::optional(alloc, pairs)?;
-        let link_use = key::LinkUse::optional(alloc, pairs)?;
-        let extras = pairs.without_keys(&key::link_keys())?;
+    #[tactic(auto, using(crate::proofs::Takes::still, crate::proofs::Takes::others_of))]
+    fn read(alloc: Global, pairs: Pairs) -> Result<LinkEntry, FormRefused> {
+        key::Href::expect(alloc, &pairs)?;
+        key::Rel::expect(alloc, &pairs)?;
+        let mut pairs = pairs;
+        let media = key::Media::optional(alloc, &mut pairs)?;
+        let artifact = key::Artifact::optional(alloc, &mut pairs)?;
+        let href = key::Href::required(alloc, &mut pairs)?;
+        let ownership = key::Ownership::optional(alloc, &mut pairs)?;
+        let rel = key::Rel::required(alloc, &mut pairs)?;
+        let media_type = key::MediaType::optional(alloc, &mut pairs)?;
+        let link_use = key::LinkUse::optional(alloc, &mut pairs)?;
         Ok(LinkEntry {
             media,
             artifact,
@@ -42,7 +43,7 @@ impl Mapped for LinkTable {
             rel,
             media_type,
             link_use,
-            extras,
+            extras: pairs,
         })
     }
 

@@ -83,19 +83,19 @@ pub fn read_tag(alloc: Global, bytes: &[u8]) -> Result<(Tag, usize), TagRefused>
     ensures cut { IsCut limits bytes.now → GivesCbor 1 (length bytes.now) result }
 {
     let (item, used) = read_item(alloc, bytes, LIMITS)?;
-    let tag = tag_of(alloc, &item)?;
+    let tag = tag_of(alloc, item)?;
     Ok((tag, used))
 }
 
-/// The tag that the item is.
-fn tag_of(alloc: Global, item: &Item) -> Result<Tag, FormRefused>
-    ensures told { Gives (λ g. TagForm g (view item.now)) (tag_fault (view item.now)) result }
+/// The tag that the item is made into.
+fn tag_of(alloc: Global, item: Item) -> Result<Tag, FormRefused>
+    ensures told { Gives (λ g. TagForm g (view item)) (tag_fault (view item)) result }
 {
-    if is_deep(item) {
+    if is_deep(&item) {
         return Err(FormRefused::new(alloc, DEEP));
     }
     let content = content(item);
-    if has_both(content) {
+    if has_both(&content) {
         return Err(FormRefused::new(alloc, BOTH));
     }
     MapForm::<TagTable>::read(alloc, content)
@@ -129,11 +129,11 @@ fn has_both(item: &Item) -> bool
 }
 
 /// What stands under the tag of tags, or the item itself.
-fn content(item: &Item) -> &Item
-    ensures content { view result.now ≡ content (view item.now) }
+fn content(item: Item) -> Item
+    ensures content { view result ≡ content (view item) }
 {
     match item {
-        Item::Tag(number, content) if *number == COSWID => content.get(),
-        _ => item,
+        Item::Tag(COSWID, content) => content.into_inner(),
+        item => item,
     }
 }

@@ -1,21 +1,22 @@
 //! The map of a tag: RFC 9393, section 2.3.
 
-ghost use Rattle.std.specs.Prelude.{drop};
+ghost use Rattle.std.specs.Prelude.{◌≡◌, OnOk};
+ghost use Rattle.cbor_det.specs.Lookup.{other_than};
 ghost use Rattle.cbor_det.specs.View.{pairs_view};
 ghost use Rattle.coswid_codec.specs.Forms.{TagKeys};
-ghost use Rattle.coswid_codec.specs.LastKeys.{LastKeys};
+ghost use Rattle.coswid_codec.specs.Groups.{FirstTagKeys, SecondTagKeys, ThirdTagKeys, first_lines, second_lines, third_lines};
 ghost use Rattle.coswid_codec.specs.Items.{tag_pairs};
 ghost use Rattle.coswid_res.specs.Fault.{missing};
 ghost use Rattle.coswid_res.specs.Reading.{Gives, lines_fault};
 ghost use Rattle.coswid_res.specs.Schema as schema;
-ghost use Rattle.coswid_res.specs.Schema.{table, required_keys};
+ghost use Rattle.coswid_res.specs.Schema.{keys_of, table, required_keys};
 
 use crate::key;
 use cbor_det::Pairs;
-use coswid_res::{FormRefused, Mapped, count};
-use coswid_tag::{CodeValue, Tag};
+use coswid_res::{Evidence, FormRefused, Mapped, Payload, count};
+use coswid_tag::{CodeValue, Entity, LinkEntry, SoftwareMeta, Tag, TagId};
 use std::alloc::Global;
-use wire_base::{Memory, Octets, Text};
+use wire_base::{List, Memory, Octets, Text};
 
 /// The table of tags.
 pub(crate) struct TagTable;
@@ -29,34 +30,29 @@ impl Mapped for TagTable {
 
     ghost written = { tag_pairs };
 
-    fn read(alloc: Global, pairs: &Pairs) -> Result<Tag, FormRefused> {
-        expect_required(alloc, pairs)?;
-        let tag_id = key::TagId::required(alloc, pairs)?;
-        let software_name = key::SoftwareName::required(alloc, pairs)?;
-        let entity = key::Entity::required_row(alloc, pairs)?;
-        let evidence = key::Evidence::optional(alloc, pairs)?;
-        let link = key::Link::optional_row(alloc, pairs)?;
-        let software_meta = key::SoftwareMeta::optional_row(alloc, pairs)?;
-        let payload = key::Payload::optional(alloc, pairs)?;
-        let last = read_last(alloc, pairs)?;
-        let extras = pairs.without_keys(&key::tag_keys())?;
+    fn read(alloc: Global, pairs: Pairs) -> Result<Tag, FormRefused> {
+        expect_required(alloc, &pairs)?;
+        let mut pairs = pairs;
+        let first = read_first(alloc, &mut pairs)?;
+        let second = read_second(alloc, &mut pairs)?;
+        let third = read_third(alloc, &mut pairs)?;
         Ok(Tag {
-            tag_id,
-            software_name,
-            entity,
-            evidence,
-            link,
-            software_meta,
-            payload,
-            corpus: last.corpus,
-            patch: last.patch,
-            media: last.media,
-            supplemental: last.supplemental,
-            tag_version: last.tag_version,
-            software_version: last.software_version,
-            version_scheme: last.version_scheme,
-            lang: last.lang,
-            extras,
+            tag_id: first.tag_id,
+            software_name: first.software_name,
+            entity: first.entity,
+            evidence: first.evidence,
+            link: first.link,
+            software_meta: second.software_meta,
+            payload: second.payload,
+            corpus: second.corpus,
+            patch: second.patch,
+            media: second.media,
+            supplemental: third.supplemental,
+            tag_version: third.tag_version,
+            software_version: third.software_version,
+            version_scheme: third.version_scheme,
+            lang: third.lang,
+            extras: pairs,
         })
     }
 
@@ -110,13 +106,61 @@ fn expect_required(alloc: Global, pairs: &Pairs) -> Result<(), FormRefused>
     key::TagVersion::expect(alloc, pairs)
 }
 
-/// The fields of a tag from `corpus` to `lang`. They are read apart from the others, since the
-/// proof of each read costs more the more fields stand beside it.
+/// The fields of a tag from `tag-id` to `link`.
 #[derive(Drop)]
-struct LastFields {
+struct FirstFields {
+    tag_id: TagId,
+    software_name: Text,
+    entity: List<Entity>,
+    evidence: Option<Evidence>,
+    link: Option<List<LinkEntry>>,
+}
+
+/// The fields from `tag-id` to `link`, taken out of the pairs; `Form` with the first form fault under them;
+/// `Memory` where there is no room.
+#[tactic(auto, using(crate::proofs::Takes::still, crate::proofs::Takes::others_of))]
+fn read_first(alloc: Global, pairs: &mut Pairs) -> Result<FirstFields, FormRefused>
+    ensures told { Gives (λ fields. FirstTagKeys fields (pairs_view pairs.old)) (lines_fault (first_lines schema.tag) (pairs_view pairs.old)) result }
+    ensures left { OnOk result (pairs_view pairs.new ≡ other_than (keys_of (first_lines schema.tag)) (pairs_view pairs.old)) }
+{
+    Ok(FirstFields {
+        tag_id: key::TagId::required(alloc, pairs)?,
+        software_name: key::SoftwareName::required(alloc, pairs)?,
+        entity: key::Entity::required_row(alloc, pairs)?,
+        evidence: key::Evidence::optional(alloc, pairs)?,
+        link: key::Link::optional_row(alloc, pairs)?,
+    })
+}
+
+/// The fields of a tag from `software-meta` to `media`.
+#[derive(Drop)]
+struct SecondFields {
+    software_meta: Option<List<SoftwareMeta>>,
+    payload: Option<Payload>,
     corpus: Option<bool>,
     patch: Option<bool>,
     media: Option<Text>,
+}
+
+/// The fields from `software-meta` to `media`, taken out of the pairs; `Form` with the first form fault under them;
+/// `Memory` where there is no room.
+#[tactic(auto, using(crate::proofs::Takes::still, crate::proofs::Takes::others_of))]
+fn read_second(alloc: Global, pairs: &mut Pairs) -> Result<SecondFields, FormRefused>
+    ensures told { Gives (λ fields. SecondTagKeys fields (pairs_view pairs.old)) (lines_fault (second_lines schema.tag) (pairs_view pairs.old)) result }
+    ensures left { OnOk result (pairs_view pairs.new ≡ other_than (keys_of (second_lines schema.tag)) (pairs_view pairs.old)) }
+{
+    Ok(SecondFields {
+        software_meta: key::SoftwareMeta::optional_row(alloc, pairs)?,
+        payload: key::Payload::optional(alloc, pairs)?,
+        corpus: key::Corpus::optional(alloc, pairs)?,
+        patch: key::Patch::optional(alloc, pairs)?,
+        media: key::Media::optional(alloc, pairs)?,
+    })
+}
+
+/// The fields of a tag from `supplemental` to `lang`.
+#[derive(Drop)]
+struct ThirdFields {
     supplemental: Option<bool>,
     tag_version: i64,
     software_version: Option<Text>,
@@ -124,15 +168,14 @@ struct LastFields {
     lang: Option<Text>,
 }
 
-/// The fields from `corpus` to `lang`; `Form` with the first form fault under them; `Memory` where
-/// there is no room.
-fn read_last(alloc: Global, pairs: &Pairs) -> Result<LastFields, FormRefused>
-    ensures told { Gives (λ last. LastKeys last (pairs_view pairs.now)) (lines_fault (drop 7 (table schema.tag)) (pairs_view pairs.now)) result }
+/// The fields from `supplemental` to `lang`, taken out of the pairs; `Form` with the first form fault under them;
+/// `Memory` where there is no room.
+#[tactic(auto, using(crate::proofs::Takes::still, crate::proofs::Takes::others_of))]
+fn read_third(alloc: Global, pairs: &mut Pairs) -> Result<ThirdFields, FormRefused>
+    ensures told { Gives (λ fields. ThirdTagKeys fields (pairs_view pairs.old)) (lines_fault (third_lines schema.tag) (pairs_view pairs.old)) result }
+    ensures left { OnOk result (pairs_view pairs.new ≡ other_than (keys_of (third_lines schema.tag)) (pairs_view pairs.old)) }
 {
-    Ok(LastFields {
-        corpus: key::Corpus::optional(alloc, pairs)?,
-        patch: key::Patch::optional(alloc, pairs)?,
-        media: key::Media::optional(alloc, pairs)?,
+    Ok(ThirdFields {
         supplemental: key::Supplemental::optional(alloc, pairs)?,
         tag_version: key::TagVersion::required(alloc, pairs)?,
         software_version: key::SoftwareVersion::optional(alloc, pairs)?,

@@ -15,10 +15,6 @@ use Rattle.wire_base.specs.declared.outside.stopped.Stopped.TheVariants as stopp
 use Rattle.wire_base.specs.NamedFile.{Read, with_reads}
 use Rattle.wire_base.specs.Passing.{is_fault}
 
-with_none : (before : Option (List Read)) → with_reads [] before ≡ before
-with_none None = refl
-with_none (Some reads) = ap (λ (rs : List Read). Some rs) (append-nil reads)
-
 with_more : (first more : List Read) (before : Option (List Read)) → with_reads more (with_reads first before) ≡ with_reads (first ++ more) before
 with_more first more None = refl
 with_more first more (Some reads) = ap (λ (rs : List Read). Some rs) (append_assoc reads first more)
@@ -47,24 +43,14 @@ module _ (A : Type 0) (file : ListedFile) (before after : Option (List Read)) (r
 abbrev pub AllRead : List ListedFile → Option (List Read) → Option (List Read) → Type 0
 AllRead files before now = now ≡ with_reads (answered (paths_read files)) before
 
-pub none_read : (before : Option (List Read)) → AllRead [] before before
-none_read before = sym (with_none before)
-
 module _ (A : Type 0) (files : List ListedFile) (before now : Option (List Read)) where
   pub all_read : (value : A) → Reads files (Ok value) before now → AllRead files before now
   all_read value reads = reads.2 ∙ ap (λ (rs : List Read). with_reads rs before) reads.1
-
-  pub reads_of_all : (value : A) → AllRead files before now → Reads files (Ok value) before now
-  reads_of_all value all = (answered (paths_read files), refl, all)
 
   -- what a refusal that is handed on says
   pub handed_on : (refusal : VerifyRefused) (result : Result A VerifyRefused) → IsErrAnd result (λ (e : VerifyRefused). e ≡ refusal) → Reads {A = A} files (Err refusal) before now → Reads files result before now
   handed_on refusal (Ok value) is reads = absurd is
   handed_on refusal (Err e) is reads = subst (λ (x : VerifyRefused). Reads {A = A} files (Err x) before now) (sym is) reads
-
--- Memory ran out at the first of these files.
-pub no_memory : (A : Type 0) (files : List ListedFile) (before : Option (List Read)) → Reads {A = A} files (Err refused.Memory) before before
-no_memory A files before = ([], ([], paths_read files, refl, refl), sym (with_none before))
 
 -- Some files, and others after them.
 module _ (first more : List ListedFile) (before now : Option (List Read)) where

@@ -59,9 +59,6 @@ zipped told [] more (line ∷ lines) others is are = elim is [ ]
 zipped told (file ∷ first) more [] others is are = elim is [ ]
 zipped told (file ∷ first) more (line ∷ lines) others is are = (is.0, zipped told first more lines others is.1 are)
 
-pub none_added : (told : Option (List NamedFile)) (before : List Line) → AddsVerdicts told [] before before
-none_added told before = ([], sym (append-nil before), tt {0})
-
 pub one_added : (told : Option (List NamedFile)) (file : ListedFile) (before after : List Line) (line : Line) → IsLine told file line → after ≡ before ++ line ∷ [] → AddsVerdicts told (file ∷ []) before after
 one_added told file before after line is pushed = (line ∷ [], pushed, (is, tt {0}))
 

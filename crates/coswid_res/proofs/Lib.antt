@@ -9,6 +9,7 @@ pub mod DirectoryDepths
 pub mod DirectoryReads
 pub mod DirectoryWrites
 pub mod Sizes
+pub mod Takes
 pub mod Listings
 pub mod FileVerdicts
 pub mod FileReads

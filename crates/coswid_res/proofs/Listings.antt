@@ -25,10 +25,6 @@ held : (x : Option PathElements) (path : List ℕ) → unwrap_or (option_map (λ
 held None path = refl
 held (Some p) path = refl
 
-pub directory_listed : (d : DirEntry) (around : List ℕ) → directory_listing d around
-    ≡ unwrap_or (option_map (λ (p : PathElements). path_listing p (directory_path around (out-DirEntry d).location (out-DirEntry d).fs_name)) (out-DirEntry d).path_elements) []
-directory_listed d around = directory_folded d around ∙ held (out-DirEntry d).path_elements _
-
 path_folded : (p : PathElements) (around : List ℕ) → path_listing p around
     ≡ files_listing (out-PathElements p).file around ++ each_listing (option_map (λ (ds : List DirEntry). map_list directory_listing ds) (out-PathElements p).directory) around
 path_folded p around = search (rules, the_lemmas)

@@ -48,10 +48,6 @@ module _ (p : PathElements) (around : List ℕ) where
 
 -- A payload, round whose directories stands no part of a path.
 module _ (p : Payload) (around : List ℕ) (none : around ≡ []) where
-  pub payload_refused : (A B : Type 0) (before after : Option (List Read)) (refusal : VerifyRefused) → Reads {A = A} (files_listing p.file around) (Err refusal) before after → Reads {A = B} (listed p) (Err refusal) before after
-  payload_refused A B before after refusal reads = subst (λ (a : List ℕ). Reads {A = B} (files_listing p.file a ++ directories_listing p.directory a) (Err refusal) before after) none
-      (stopped_before (files_listing p.file around) (directories_listing p.directory around) before after A B refusal reads)
-
   module _ (ds : List DirEntry) (some : p.directory ≡ Some ds) where
     pub payload_added : (told here : Option (List NamedFile)) (before now after : List (List ℕ × Verdict)) → here ≡ told → AddsVerdicts told (files_listing p.file around) before now → AddsVerdicts here (flat_map (λ (d : DirEntry). directory_listing d around) ds) now after
         → AddsVerdicts told (listed p) before after

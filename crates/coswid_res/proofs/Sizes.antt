@@ -45,11 +45,6 @@ under files directories = unwrap_or files [] ++ flat_map (λ fs. fs) (unwrap_or 
 
 -- What a directory holds, and what stands in it, fits where the directory does.
 
-pub held_fits : (d : DirEntry) (p : PathElements) → (out-DirEntry d).path_elements ≡ Some p → DirectorySizesFit d → PathSizesFit p
-held_fits d p some fit =
-    let e : directory_files d ≡ path_files p = directory_folded d ∙ ap (λ (x : Option PathElements). unwrap_or (option_map path_files x) []) some in
-    subst SizesFit e fit
-
 pub files_fit : (p : PathElements) → PathSizesFit p → ForSome (out-PathElements p).file SizesFit
 files_fit p fit fs some =
     let e : path_files p ≡ under (Some fs) (out-PathElements p).directory = path_folded p ∙ ap (λ (x : Option (List FileEntry)). under x (out-PathElements p).directory) some in

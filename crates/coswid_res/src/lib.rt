@@ -7,7 +7,7 @@
 //! - `told` of `Form::read`, of the methods of `Key`, of `payload_of` and of `evidence_of`: the
 //!   value that is read, or the first form fault with its path.
 //! - `appended` of `Form::spell`, and `spelled` of the methods of `Key`: what a value is written as.
-//! - `there` and `number` of the methods of `Key`.
+//! - `left` of the methods of `Key` that take a value out, and `there`.
 //! - `written` of `payload_item` and `evidence_item`: the item of a value.
 //! - `verdicts`, `cause` and `reads` of `verify`: a verdict on each file of a payload.
 //! - `laws`: what the definitions mean.
@@ -38,7 +38,6 @@ mod verification;
 
 pub use fault::{BOTH, DEEP, FormFault, FormRefused, MISSING_KEY, Path, WRONG_FORM};
 pub use fault_kind::FormFaultKind;
-pub use resources::copy_option::copy_option;
 pub use resources::directory::{DirEntries, DirEntry, PathElements};
 pub use resources::evidence::{Evidence, EvidenceTable, evidence_item, evidence_of};
 pub use resources::file::{FileEntries, FileEntry};

@@ -1,6 +1,5 @@
 //! Payload and evidence, as values, from items and back: RFC 9393, section 2.9.
 
-pub(crate) mod copy_option;
 pub(crate) mod directory;
 pub(crate) mod directory_read;
 pub(crate) mod directory_spell;

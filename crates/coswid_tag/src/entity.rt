@@ -2,8 +2,8 @@
 
 use crate::value::CodeValues;
 use cbor_det::Pairs;
-use coswid_res::{HashEntry, copy_option};
-use wire_base::{List, Memory, Text, TryCopy};
+use coswid_res::HashEntry;
+use wire_base::{List, Text};
 
 /// Entities in order.
 pub type Entities = List<Entity>;
@@ -22,19 +22,4 @@ pub struct Entity {
     pub thumbprint: Option<HashEntry>,
     /// The pairs under all other keys.
     pub extras: Pairs,
-}
-
-impl TryCopy for Entity {
-    fn copy(&self) -> Result<Self, Memory> {
-        let mut made = Entity {
-            entity_name: self.entity_name.copy()?,
-            reg_id: None,
-            role: self.role.copy()?,
-            thumbprint: None,
-            extras: self.extras.copy()?,
-        };
-        made.reg_id = copy_option(&self.reg_id)?;
-        made.thumbprint = copy_option(&self.thumbprint)?;
-        Ok(made)
-    }
 }

@@ -9,11 +9,10 @@
 //! - `findings` of `constraints`: the numbers of what is wrong, in order.
 //! - `named` of `Rel::is`: whether a link has a relation.
 //! - `identifier` of `software_identifier`.
-//! - `equal` of the copies.
 //!
 //! | file | what it holds | its words in `specs/` |
 //! |---|---|---|
-//! | `tag.rt`, `entity.rt`, `link.rt`, `meta.rt` | the values, with their copies | |
+//! | `tag.rt`, `entity.rt`, `link.rt`, `meta.rt` | the values | |
 //! | `value.rt` | identifiers of tags, and codes | |
 //! | `rel.rt` | the relations of links that the rules name (RFC 9393, section 4.4) | `Codes` |
 //! | `tag_kind.rt` | what kind a tag is (RFC 9393, section 3) | `Kind` |

@@ -2,8 +2,7 @@
 
 use crate::value::CodeValue;
 use cbor_det::Pairs;
-use coswid_res::copy_option;
-use wire_base::{List, Memory, Text, TryCopy};
+use wire_base::{List, Text};
 
 /// Links in order.
 pub type LinkEntries = List<LinkEntry>;
@@ -28,25 +27,4 @@ pub struct LinkEntry {
     pub link_use: Option<CodeValue>,
     /// The pairs under all other keys.
     pub extras: Pairs,
-}
-
-impl TryCopy for LinkEntry {
-    fn copy(&self) -> Result<Self, Memory> {
-        let mut made = LinkEntry {
-            media: None,
-            artifact: None,
-            href: self.href.copy()?,
-            ownership: None,
-            rel: self.rel.copy()?,
-            media_type: None,
-            link_use: None,
-            extras: self.extras.copy()?,
-        };
-        made.media = copy_option(&self.media)?;
-        made.artifact = copy_option(&self.artifact)?;
-        made.ownership = copy_option(&self.ownership)?;
-        made.media_type = copy_option(&self.media_type)?;
-        made.link_use = copy_option(&self.link_use)?;
-        Ok(made)
-    }
 }

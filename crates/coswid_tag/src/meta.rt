@@ -2,8 +2,7 @@
 
 use crate::value::TagId;
 use cbor_det::Pairs;
-use coswid_res::copy_option;
-use wire_base::{List, Memory, Text, TryCopy};
+use wire_base::{List, Text};
 
 /// Descriptions in order.
 pub type SoftwareMetas = List<SoftwareMeta>;
@@ -44,42 +43,4 @@ pub struct SoftwareMeta {
     pub unspsc_version: Option<Text>,
     /// The pairs under all other keys.
     pub extras: Pairs,
-}
-
-impl TryCopy for SoftwareMeta {
-    fn copy(&self) -> Result<Self, Memory> {
-        let mut made = SoftwareMeta {
-            activation_status: None,
-            channel_type: None,
-            colloquial_version: None,
-            description: None,
-            edition: None,
-            entitlement_data_required: self.entitlement_data_required,
-            entitlement_key: None,
-            generator: None,
-            persistent_id: None,
-            product: None,
-            product_family: None,
-            revision: None,
-            summary: None,
-            unspsc_code: None,
-            unspsc_version: None,
-            extras: self.extras.copy()?,
-        };
-        made.activation_status = copy_option(&self.activation_status)?;
-        made.channel_type = copy_option(&self.channel_type)?;
-        made.colloquial_version = copy_option(&self.colloquial_version)?;
-        made.description = copy_option(&self.description)?;
-        made.edition = copy_option(&self.edition)?;
-        made.entitlement_key = copy_option(&self.entitlement_key)?;
-        made.generator = copy_option(&self.generator)?;
-        made.persistent_id = copy_option(&self.persistent_id)?;
-        made.product = copy_option(&self.product)?;
-        made.product_family = copy_option(&self.product_family)?;
-        made.revision = copy_option(&self.revision)?;
-        made.summary = copy_option(&self.summary)?;
-        made.unspsc_code = copy_option(&self.unspsc_code)?;
-        made.unspsc_version = copy_option(&self.unspsc_version)?;
-        Ok(made)
-    }
 }

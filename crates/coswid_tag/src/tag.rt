@@ -5,8 +5,8 @@ use crate::link::LinkEntries;
 use crate::meta::SoftwareMetas;
 use crate::value::{CodeValue, TagId};
 use cbor_det::Pairs;
-use coswid_res::{Evidence, Payload, copy_option};
-use wire_base::{Memory, Text, TryCopy};
+use coswid_res::{Evidence, Payload};
+use wire_base::Text;
 
 /// A concise software identification tag (RFC 9393, section 2.3).
 #[derive(Debug, Drop)]
@@ -44,36 +44,4 @@ pub struct Tag {
     pub lang: Option<Text>,
     /// The pairs under all other keys.
     pub extras: Pairs,
-}
-
-impl TryCopy for Tag {
-    fn copy(&self) -> Result<Self, Memory> {
-        let mut made = Tag {
-            tag_id: self.tag_id.copy()?,
-            software_name: self.software_name.copy()?,
-            entity: self.entity.copy()?,
-            evidence: None,
-            link: None,
-            software_meta: None,
-            payload: None,
-            corpus: self.corpus,
-            patch: self.patch,
-            media: None,
-            supplemental: self.supplemental,
-            tag_version: self.tag_version,
-            software_version: None,
-            version_scheme: None,
-            lang: None,
-            extras: self.extras.copy()?,
-        };
-        made.evidence = copy_option(&self.evidence)?;
-        made.link = copy_option(&self.link)?;
-        made.software_meta = copy_option(&self.software_meta)?;
-        made.payload = copy_option(&self.payload)?;
-        made.media = copy_option(&self.media)?;
-        made.software_version = copy_option(&self.software_version)?;
-        made.version_scheme = copy_option(&self.version_scheme)?;
-        made.lang = copy_option(&self.lang)?;
-        Ok(made)
-    }
 }

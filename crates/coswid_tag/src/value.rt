@@ -1,6 +1,6 @@
 //! Identifiers of tags, and codes.
 
-use wire_base::{List, Memory, Text, TryCopy};
+use wire_base::{List, Text};
 
 /// What identifies a tag, and what generated one: a text, or a UUID (RFC 9393, section 2.3,
 /// tag-id).
@@ -10,15 +10,6 @@ pub enum TagId {
     Text(Text),
     /// The octets of a UUID.
     Uuid([u8; 16]),
-}
-
-impl TryCopy for TagId {
-    fn copy(&self) -> Result<Self, Memory> {
-        match self {
-            TagId::Text(text) => Ok(TagId::Text(text.copy()?)),
-            TagId::Uuid(octets) => Ok(TagId::Uuid(*octets)),
-        }
-    }
 }
 
 /// A value of one of the registries (RFC 9393, section 4), any other number, or a text of the tag's
@@ -33,12 +24,3 @@ pub enum CodeValue {
 
 /// Codes in order.
 pub type CodeValues = List<CodeValue>;
-
-impl TryCopy for CodeValue {
-    fn copy(&self) -> Result<Self, Memory> {
-        match self {
-            CodeValue::Int(number) => Ok(CodeValue::Int(*number)),
-            CodeValue::Text(text) => Ok(CodeValue::Text(text.copy()?)),
-        }
-    }
-}

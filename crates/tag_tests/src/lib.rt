@@ -9,6 +9,8 @@ mod copy_tests;
 #[cfg(test)]
 mod error_tests;
 #[cfg(test)]
+mod every_key_tests;
+#[cfg(test)]
 mod feed_tests;
 #[cfg(test)]
 mod key_tests;

@@ -10,7 +10,6 @@ ghost use Rattle.coswid_res.specs.Sizes.{EvidenceSizesFit};
 ghost use Rattle.coswid_res.specs.Schema as schema;
 
 use crate::fault::FormRefused;
-use crate::resources::copy_option::copy_option;
 use crate::resources::directory::DirEntries;
 use crate::resources::file::FileEntries;
 use crate::resources::process::ProcessEntries;
@@ -44,28 +43,6 @@ pub struct Evidence {
     pub extras: Pairs,
 }
 
-impl TryCopy for Evidence {
-    fn copy(&self) -> Result<Self, Memory> {
-        let mut made = Evidence {
-            directory: None,
-            file: None,
-            process: None,
-            resource: None,
-            location: None,
-            date: self.date,
-            device_id: None,
-            extras: self.extras.copy()?,
-        };
-        made.directory = copy_option(&self.directory)?;
-        made.file = copy_option(&self.file)?;
-        made.process = copy_option(&self.process)?;
-        made.resource = copy_option(&self.resource)?;
-        made.location = copy_option(&self.location)?;
-        made.device_id = copy_option(&self.device_id)?;
-        Ok(made)
-    }
-}
-
 /// The table of evidence.
 pub struct EvidenceTable;
 
@@ -78,15 +55,16 @@ impl Mapped for EvidenceTable {
 
     ghost written = { evidence_pairs };
 
-    fn read(alloc: Global, pairs: &Pairs) -> Result<Evidence, FormRefused> {
-        let directory = table::Directory::optional_row(alloc, pairs)?;
-        let file = table::File::optional_row(alloc, pairs)?;
-        let process = table::Process::optional_row(alloc, pairs)?;
-        let resource = table::Resource::optional_row(alloc, pairs)?;
-        let location = table::Location::optional(alloc, pairs)?;
-        let date = table::Date::optional(alloc, pairs)?;
-        let device_id = table::DeviceId::optional(alloc, pairs)?;
-        let extras = pairs.without_keys(&table::evidence_keys())?;
+    #[tactic(auto, using(crate::proofs::Takes::still, crate::proofs::Takes::others_of))]
+    fn read(alloc: Global, pairs: Pairs) -> Result<Evidence, FormRefused> {
+        let mut pairs = pairs;
+        let directory = table::Directory::optional_row(alloc, &mut pairs)?;
+        let file = table::File::optional_row(alloc, &mut pairs)?;
+        let process = table::Process::optional_row(alloc, &mut pairs)?;
+        let resource = table::Resource::optional_row(alloc, &mut pairs)?;
+        let location = table::Location::optional(alloc, &mut pairs)?;
+        let date = table::Date::optional(alloc, &mut pairs)?;
+        let device_id = table::DeviceId::optional(alloc, &mut pairs)?;
         Ok(Evidence {
             directory,
             file,
@@ -95,7 +73,7 @@ impl Mapped for EvidenceTable {
             location,
             date,
             device_id,
-            extras,
+            extras: pairs,
         })
     }
 
@@ -141,7 +119,7 @@ impl ItemMapped for EvidenceTable {
 pub fn evidence_of(alloc: Global, item: &Item) -> Result<Evidence, FormRefused>
     ensures told { Gives (λ e. EvidenceMap e (view item.now)) (field_fault (schema.one (schema.a_map schema.evidence)) (view item.now)) result }
 {
-    MapForm::<EvidenceTable>::read(alloc, item)
+    MapForm::<EvidenceTable>::read(alloc, item.copy()?)
 }
 
 /// The item that the evidence is written as; `Memory` where there is no room. A value made by hand

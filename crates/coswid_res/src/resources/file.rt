@@ -5,7 +5,6 @@ ghost use Rattle.coswid_res.specs.Sizes.{SizeFits};
 ghost use Rattle.coswid_res.specs.Schema as schema;
 
 use crate::fault::FormRefused;
-use crate::resources::copy_option::copy_option;
 use crate::resources::hash::HashEntry;
 use crate::resources::table;
 use crate::tables::key::count;
@@ -38,26 +37,6 @@ pub struct FileEntry {
     pub extras: Pairs,
 }
 
-impl TryCopy for FileEntry {
-    fn copy(&self) -> Result<Self, Memory> {
-        let mut made = FileEntry {
-            hash: None,
-            size: self.size,
-            file_version: None,
-            key: self.key,
-            location: None,
-            fs_name: self.fs_name.copy()?,
-            root: None,
-            extras: self.extras.copy()?,
-        };
-        made.hash = copy_option(&self.hash)?;
-        made.file_version = copy_option(&self.file_version)?;
-        made.location = copy_option(&self.location)?;
-        made.root = copy_option(&self.root)?;
-        Ok(made)
-    }
-}
-
 /// The table of files.
 pub(crate) struct FileTable;
 
@@ -70,16 +49,17 @@ impl Mapped for FileTable {
 
     ghost written = { file_pairs };
 
-    fn read(alloc: Global, pairs: &Pairs) -> Result<FileEntry, FormRefused> {
-        table::FsName::expect(alloc, pairs)?;
-        let hash = table::Hash::optional(alloc, pairs)?;
-        let size = table::Size::optional(alloc, pairs)?;
-        let file_version = table::FileVersion::optional(alloc, pairs)?;
-        let key = table::IsKey::optional(alloc, pairs)?;
-        let location = table::Location::optional(alloc, pairs)?;
-        let fs_name = table::FsName::required(alloc, pairs)?;
-        let root = table::Root::optional(alloc, pairs)?;
-        let extras = pairs.without_keys(&table::file_keys())?;
+    #[tactic(auto, using(crate::proofs::Takes::still, crate::proofs::Takes::others_of))]
+    fn read(alloc: Global, pairs: Pairs) -> Result<FileEntry, FormRefused> {
+        table::FsName::expect(alloc, &pairs)?;
+        let mut pairs = pairs;
+        let hash = table::Hash::optional(alloc, &mut pairs)?;
+        let size = table::Size::optional(alloc, &mut pairs)?;
+        let file_version = table::FileVersion::optional(alloc, &mut pairs)?;
+        let key = table::IsKey::optional(alloc, &mut pairs)?;
+        let location = table::Location::optional(alloc, &mut pairs)?;
+        let fs_name = table::FsName::required(alloc, &mut pairs)?;
+        let root = table::Root::optional(alloc, &mut pairs)?;
         Ok(FileEntry {
             hash,
             size,
@@ -88,7 +68,7 @@ impl Mapped for FileTable {
             location,
             fs_name,
             root,
-            extras,
+            extras: pairs,
         })
     }
 

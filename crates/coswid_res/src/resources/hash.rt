@@ -1,6 +1,6 @@
 //! Hashes.
 
-use wire_base::{Memory, Octets, TryCopy};
+use wire_base::Octets;
 
 /// A hash (RFC 9393, section 2.9.1).
 #[derive(Debug, Drop)]
@@ -9,13 +9,4 @@ pub struct HashEntry {
     pub algorithm: i64,
     /// The octets that the algorithm gave; any number is taken.
     pub value: Octets,
-}
-
-impl TryCopy for HashEntry {
-    fn copy(&self) -> Result<Self, Memory> {
-        Ok(HashEntry {
-            algorithm: self.algorithm,
-            value: self.value.copy()?,
-        })
-    }
 }

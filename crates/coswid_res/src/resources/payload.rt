@@ -10,7 +10,6 @@ ghost use Rattle.coswid_res.specs.Sizes.{PayloadSizesFit};
 ghost use Rattle.coswid_res.specs.Schema as schema;
 
 use crate::fault::FormRefused;
-use crate::resources::copy_option::copy_option;
 use crate::resources::directory::DirEntries;
 use crate::resources::file::FileEntries;
 use crate::resources::process::ProcessEntries;
@@ -38,23 +37,6 @@ pub struct Payload {
     pub extras: Pairs,
 }
 
-impl TryCopy for Payload {
-    fn copy(&self) -> Result<Self, Memory> {
-        let mut made = Payload {
-            directory: None,
-            file: None,
-            process: None,
-            resource: None,
-            extras: self.extras.copy()?,
-        };
-        made.directory = copy_option(&self.directory)?;
-        made.file = copy_option(&self.file)?;
-        made.process = copy_option(&self.process)?;
-        made.resource = copy_option(&self.resource)?;
-        Ok(made)
-    }
-}
-
 /// The table of payloads.
 pub struct PayloadTable;
 
@@ -67,18 +49,19 @@ impl Mapped for PayloadTable {
 
     ghost written = { payload_pairs };
 
-    fn read(alloc: Global, pairs: &Pairs) -> Result<Payload, FormRefused> {
-        let directory = table::Directory::optional_row(alloc, pairs)?;
-        let file = table::File::optional_row(alloc, pairs)?;
-        let process = table::Process::optional_row(alloc, pairs)?;
-        let resource = table::Resource::optional_row(alloc, pairs)?;
-        let extras = pairs.without_keys(&table::payload_keys())?;
+    #[tactic(auto, using(crate::proofs::Takes::still, crate::proofs::Takes::others_of))]
+    fn read(alloc: Global, pairs: Pairs) -> Result<Payload, FormRefused> {
+        let mut pairs = pairs;
+        let directory = table::Directory::optional_row(alloc, &mut pairs)?;
+        let file = table::File::optional_row(alloc, &mut pairs)?;
+        let process = table::Process::optional_row(alloc, &mut pairs)?;
+        let resource = table::Resource::optional_row(alloc, &mut pairs)?;
         Ok(Payload {
             directory,
             file,
             process,
             resource,
-            extras,
+            extras: pairs,
         })
     }
 
@@ -115,7 +98,7 @@ impl ItemMapped for PayloadTable {
 pub fn payload_of(alloc: Global, item: &Item) -> Result<Payload, FormRefused>
     ensures told { Gives (λ p. PayloadMap p (view item.now)) (field_fault (schema.one (schema.a_map schema.payload)) (view item.now)) result }
 {
-    MapForm::<PayloadTable>::read(alloc, item)
+    MapForm::<PayloadTable>::read(alloc, item.copy()?)
 }
 
 /// The item that the payload is written as; `Memory` where there is no room. A value made by hand

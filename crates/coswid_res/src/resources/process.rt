@@ -26,16 +26,6 @@ pub struct ProcessEntry {
     pub extras: Pairs,
 }
 
-impl TryCopy for ProcessEntry {
-    fn copy(&self) -> Result<Self, Memory> {
-        Ok(ProcessEntry {
-            process_name: self.process_name.copy()?,
-            pid: self.pid,
-            extras: self.extras.copy()?,
-        })
-    }
-}
-
 /// The table of processes.
 pub(crate) struct ProcessTable;
 
@@ -48,15 +38,16 @@ impl Mapped for ProcessTable {
 
     ghost written = { process_pairs };
 
-    fn read(alloc: Global, pairs: &Pairs) -> Result<ProcessEntry, FormRefused> {
-        table::ProcessName::expect(alloc, pairs)?;
-        let process_name = table::ProcessName::required(alloc, pairs)?;
-        let pid = table::Pid::optional(alloc, pairs)?;
-        let extras = pairs.without_keys(&table::process_keys())?;
+    #[tactic(auto, using(crate::proofs::Takes::still, crate::proofs::Takes::others_of))]
+    fn read(alloc: Global, pairs: Pairs) -> Result<ProcessEntry, FormRefused> {
+        table::ProcessName::expect(alloc, &pairs)?;
+        let mut pairs = pairs;
+        let process_name = table::ProcessName::required(alloc, &mut pairs)?;
+        let pid = table::Pid::optional(alloc, &mut pairs)?;
         Ok(ProcessEntry {
             process_name,
             pid,
-            extras,
+            extras: pairs,
         })
     }
 

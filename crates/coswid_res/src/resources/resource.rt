@@ -24,15 +24,6 @@ pub struct ResourceEntry {
     pub extras: Pairs,
 }
 
-impl TryCopy for ResourceEntry {
-    fn copy(&self) -> Result<Self, Memory> {
-        Ok(ResourceEntry {
-            resource_type: self.resource_type.copy()?,
-            extras: self.extras.copy()?,
-        })
-    }
-}
-
 /// The table of resources.
 pub(crate) struct ResourceTable;
 
@@ -45,13 +36,14 @@ impl Mapped for ResourceTable {
 
     ghost written = { resource_pairs };
 
-    fn read(alloc: Global, pairs: &Pairs) -> Result<ResourceEntry, FormRefused> {
-        table::ResourceType::expect(alloc, pairs)?;
-        let resource_type = table::ResourceType::required(alloc, pairs)?;
-        let extras = pairs.without_keys(&table::resource_keys())?;
+    #[tactic(auto, using(crate::proofs::Takes::still, crate::proofs::Takes::others_of))]
+    fn read(alloc: Global, pairs: Pairs) -> Result<ResourceEntry, FormRefused> {
+        table::ResourceType::expect(alloc, &pairs)?;
+        let mut pairs = pairs;
+        let resource_type = table::ResourceType::required(alloc, &mut pairs)?;
         Ok(ResourceEntry {
             resource_type,
-            extras,
+            extras: pairs,
         })
     }
 

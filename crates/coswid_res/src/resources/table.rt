@@ -40,34 +40,6 @@ pub(crate) type Root = Key<25, TextForm>;
 /// `path-elements`, by its number alone, as `directory_read` says.
 pub(crate) const PATH_ELEMENTS: u32 = 26;
 
-/// The keys that the table of files lists.
-pub(crate) fn file_keys() -> [u32; 7]
-    ensures keys { result ≡ keys_of (schema.table schema.file) }
-{
-    [
-        Hash::number(),
-        Size::number(),
-        FileVersion::number(),
-        IsKey::number(),
-        Location::number(),
-        FsName::number(),
-        Root::number(),
-    ]
-}
-
-/// The keys that the table of directories lists.
-pub(crate) fn directory_keys() -> [u32; 5]
-    ensures keys { result ≡ keys_of (schema.table schema.directory) }
-{
-    [
-        IsKey::number(),
-        Location::number(),
-        FsName::number(),
-        Root::number(),
-        PATH_ELEMENTS,
-    ]
-}
-
 // Processes.
 
 /// `process-name`, required.
@@ -76,24 +48,10 @@ pub(crate) type ProcessName = Key<27, TextForm>;
 /// `pid`.
 pub(crate) type Pid = Key<28, IntForm>;
 
-/// The keys that the table of processes lists.
-pub(crate) fn process_keys() -> [u32; 2]
-    ensures keys { result ≡ keys_of (schema.table schema.process) }
-{
-    [ProcessName::number(), Pid::number()]
-}
-
 // Other resources.
 
 /// `type`, required.
 pub(crate) type ResourceType = Key<29, TextForm>;
-
-/// The keys that the table of resources lists.
-pub(crate) fn resource_keys() -> [u32; 1]
-    ensures keys { result ≡ keys_of (schema.table schema.resource) }
-{
-    [ResourceType::number()]
-}
 
 // Payload, evidence, and what a directory holds.
 
@@ -113,25 +71,6 @@ pub(crate) type Process = Key<18, MapForm<ProcessTable>>;
 /// `resource`, one or more.
 pub(crate) type Resource = Key<19, MapForm<ResourceTable>>;
 
-/// The keys that the table of what a directory holds lists.
-pub(crate) fn path_elements_keys() -> [u32; 2]
-    ensures keys { result ≡ keys_of (schema.table schema.path_elements) }
-{
-    [DIRECTORY, File::number()]
-}
-
-/// The keys that the table of payloads lists.
-pub(crate) fn payload_keys() -> [u32; 4]
-    ensures keys { result ≡ keys_of (schema.table schema.payload) }
-{
-    [
-        DIRECTORY,
-        File::number(),
-        Process::number(),
-        Resource::number(),
-    ]
-}
-
 // Evidence alone, and `Location`.
 
 /// `date`.
@@ -139,18 +78,3 @@ pub(crate) type Date = Key<35, TimeForm>;
 
 /// `device-id`.
 pub(crate) type DeviceId = Key<36, TextForm>;
-
-/// The keys that the table of evidence lists.
-pub(crate) fn evidence_keys() -> [u32; 7]
-    ensures keys { result ≡ keys_of (schema.table schema.evidence) }
-{
-    [
-        DIRECTORY,
-        File::number(),
-        Process::number(),
-        Resource::number(),
-        Location::number(),
-        Date::number(),
-        DeviceId::number(),
-    ]
-}

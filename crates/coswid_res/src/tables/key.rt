@@ -1,12 +1,12 @@
 //! Keys of maps: a number with the form of what stands under it.
 
-ghost use Rattle.std.specs.Prelude.{◌≡◌, ◌≤◌, ◌++◌, IfOk, OnOk, Some, is_some, map, pos};
+ghost use Rattle.std.specs.Prelude.{◌≡◌, ◌≤◌, ◌∷◌, ◌++◌, [], IfOk, OnOk, Some, is_some, map, pos};
 ghost use Rattle.std.specs.List.{All};
 ghost use Rattle.std.specs.Option.{ForSome, option_map};
 ghost use Rattle.cbor_det.specs.Adding.{put};
 ghost use Rattle.cbor_det.specs.Canonical.{canon, canon_pairs};
 ghost use Rattle.cbor_det.specs.Laid.{from, below, after_below, put_row, size};
-ghost use Rattle.cbor_det.specs.Lookup.{value_under};
+ghost use Rattle.cbor_det.specs.Lookup.{other_than, value_under};
 ghost use Rattle.cbor_det.specs.Term.{Term, integer};
 ghost use Rattle.cbor_det.specs.View.{view, pairs_view};
 ghost use Rattle.coswid_res.specs.Fault.{absent};
@@ -32,13 +32,6 @@ pub struct Key<const NUMBER: u32, F: Form> {
 }
 
 impl<const NUMBER: u32, F: Form> Key<NUMBER, F> {
-    /// The key's number.
-    pub fn number() -> u32
-        ensures number { result ≡ NUMBER }
-    {
-        NUMBER
-    }
-
     /// Whether the key is there.
     pub fn is_there(pairs: &Pairs) -> bool
         ensures there { result ≡ is_some (value_under NUMBER (pairs_view pairs.now)) }
@@ -57,43 +50,52 @@ impl<const NUMBER: u32, F: Form> Key<NUMBER, F> {
         }
     }
 
-    /// The value under a key that must be there. `Form` with the first form fault exactly where the
-    /// key is not there, or its value is in no such form; `Memory` where there is no room.
-    pub fn required(alloc: Global, pairs: &Pairs) -> Result<F::Value, FormRefused>
-        ensures told { Gives (λ v. RequiredAt NUMBER F.is v (pairs_view pairs.now)) (line_fault (schema.required NUMBER (one F.form)) (pairs_view pairs.now)) result }
+    /// The value under a key that must be there, taken out of the pairs. `Form` with the first form
+    /// fault exactly where the key is not there, or its value is in no such form; `Memory` where
+    /// there is no room.
+    pub fn required(alloc: Global, pairs: &mut Pairs) -> Result<F::Value, FormRefused>
+        ensures told { Gives (λ v. RequiredAt NUMBER F.is v (pairs_view pairs.old)) (line_fault (schema.required NUMBER (one F.form)) (pairs_view pairs.old)) result }
+        ensures left { OnOk result (pairs_view pairs.new ≡ other_than (NUMBER ∷ []) (pairs_view pairs.old)) }
     {
-        match pairs.get_unsigned(NUMBER as u64) {
+        match pairs.take(NUMBER) {
             None => Err(missing_key(alloc, NUMBER)),
             Some(item) => read_at::<F>(alloc, NUMBER as u64, item),
         }
     }
 
-    /// The value under a key that may be there. `Form` with the first form fault exactly where the
-    /// key is there and its value is in no such form; `Memory` where there is no room.
-    pub fn optional(alloc: Global, pairs: &Pairs) -> Result<Option<F::Value>, FormRefused>
-        ensures told { Gives (λ v. OptionalAt NUMBER F.is v (pairs_view pairs.now)) (line_fault (schema.optional NUMBER (one F.form)) (pairs_view pairs.now)) result }
+    /// The value under a key that may be there, taken out of the pairs. `Form` with the first form
+    /// fault exactly where the key is there and its value is in no such form; `Memory` where there
+    /// is no room.
+    pub fn optional(alloc: Global, pairs: &mut Pairs) -> Result<Option<F::Value>, FormRefused>
+        ensures told { Gives (λ v. OptionalAt NUMBER F.is v (pairs_view pairs.old)) (line_fault (schema.optional NUMBER (one F.form)) (pairs_view pairs.old)) result }
+        ensures left { OnOk result (pairs_view pairs.new ≡ other_than (NUMBER ∷ []) (pairs_view pairs.old)) }
     {
-        match pairs.get_unsigned(NUMBER as u64) {
+        match pairs.take(NUMBER) {
             None => Ok(None),
             Some(item) => Ok(Some(read_at::<F>(alloc, NUMBER as u64, item)?)),
         }
     }
 
     /// One or more values under a key that must be there; refusals as of `required`.
-    pub fn required_row(alloc: Global, pairs: &Pairs) -> Result<List<F::Value>, FormRefused>
-        ensures told { Gives (λ vs. RequiredAt NUMBER (OneOrMore F.is) vs (pairs_view pairs.now)) (line_fault (schema.required NUMBER (one_or_more F.form)) (pairs_view pairs.now)) result }
+    pub fn required_row(alloc: Global, pairs: &mut Pairs) -> Result<List<F::Value>, FormRefused>
+        ensures told { Gives (λ vs. RequiredAt NUMBER (OneOrMore F.is) vs (pairs_view pairs.old)) (line_fault (schema.required NUMBER (one_or_more F.form)) (pairs_view pairs.old)) result }
+        ensures left { OnOk result (pairs_view pairs.new ≡ other_than (NUMBER ∷ []) (pairs_view pairs.old)) }
     {
-        match pairs.get_unsigned(NUMBER as u64) {
+        match pairs.take(NUMBER) {
             None => Err(missing_key(alloc, NUMBER)),
             Some(item) => read_row_at::<F>(alloc, NUMBER as u64, item),
         }
     }
 
     /// One or more values under a key that may be there; refusals as of `optional`.
-    pub fn optional_row(alloc: Global, pairs: &Pairs) -> Result<Option<List<F::Value>>, FormRefused>
-        ensures told { Gives (λ vs. OptionalAt NUMBER (OneOrMore F.is) vs (pairs_view pairs.now)) (line_fault (schema.optional NUMBER (one_or_more F.form)) (pairs_view pairs.now)) result }
+    pub fn optional_row(
+        alloc: Global,
+        pairs: &mut Pairs,
+    ) -> Result<Option<List<F::Value>>, FormRefused>
+        ensures told { Gives (λ vs. OptionalAt NUMBER (OneOrMore F.is) vs (pairs_view pairs.old)) (line_fault (schema.optional NUMBER (one_or_more F.form)) (pairs_view pairs.old)) result }
+        ensures left { OnOk result (pairs_view pairs.new ≡ other_than (NUMBER ∷ []) (pairs_view pairs.old)) }
     {
-        match pairs.get_unsigned(NUMBER as u64) {
+        match pairs.take(NUMBER) {
             None => Ok(None),
             Some(item) => Ok(Some(read_row_at::<F>(alloc, NUMBER as u64, item)?)),
         }

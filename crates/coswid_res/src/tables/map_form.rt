@@ -31,8 +31,8 @@ pub trait Mapped {
 
     /// The value that the pairs hold; `Form` with the first form fault exactly where they are not
     /// by the table; `Memory` where there is no room.
-    fn read(alloc: Global, pairs: &Pairs) -> Result<Self::Value, FormRefused>
-        ensures told { Gives (λ v. keys v (pairs_view pairs.now)) (keys_fault name (pairs_view pairs.now)) result };
+    fn read(alloc: Global, pairs: Pairs) -> Result<Self::Value, FormRefused>
+        ensures told { Gives (λ v. keys v (pairs_view pairs)) (keys_fault name (pairs_view pairs)) result };
 
     /// Puts the canonical spelling of the map that the value is written as; `Memory` where there is
     /// no room.
@@ -65,7 +65,7 @@ impl<M: Mapped> Form for MapForm<M> {
 
     ghost written = { λ v. map (M.written v) };
 
-    fn read(alloc: Global, item: &Item) -> Result<M::Value, FormRefused> {
+    fn read(alloc: Global, item: Item) -> Result<M::Value, FormRefused> {
         match item {
             Item::Map(pairs) => M::read(alloc, pairs),
             _ => Err(FormRefused::new(alloc, WRONG_FORM)),

@@ -21,10 +21,10 @@ use wire_base::{List, Memory, Octets};
 pub(crate) fn read_row_at<F: Form>(
     alloc: Global,
     place: u64,
-    item: &Item,
+    item: Item,
 ) -> Result<List<F::Value>, FormRefused>
     requires { place < 2 ^ 63 }
-    ensures told { Gives (λ vs. OneOrMore F.is vs (view item.now)) (under place (field_fault (one_or_more F.form) (view item.now))) result }
+    ensures told { Gives (λ vs. OneOrMore F.is vs (view item)) (under place (field_fault (one_or_more F.form) (view item))) result }
 {
     match read_row::<F>(alloc, item) {
         Ok(values) => Ok(values),
@@ -33,31 +33,33 @@ pub(crate) fn read_row_at<F: Form>(
 }
 
 /// One value, or those of an array that is not empty.
-fn read_row<F: Form>(alloc: Global, item: &Item) -> Result<List<F::Value>, FormRefused>
-    ensures told { Gives (λ vs. OneOrMore F.is vs (view item.now)) (field_fault (one_or_more F.form) (view item.now)) result }
+fn read_row<F: Form>(alloc: Global, item: Item) -> Result<List<F::Value>, FormRefused>
+    ensures told { Gives (λ vs. OneOrMore F.is vs (view item)) (field_fault (one_or_more F.form) (view item)) result }
 {
     match item {
         Item::Array(items) => {
             if items.is_empty() {
                 return Err(FormRefused::new(alloc, WRONG_FORM));
             }
-            read_elements::<F>(alloc, items.as_slice())
+            read_elements::<F>(alloc, items)
         }
-        _ => {
+        one => {
             let mut values = List::new(alloc);
-            values.push(F::read(alloc, item)?)?;
+            values.push(F::read(alloc, one)?)?;
             Ok(values)
         }
     }
 }
 
 /// The values of an array; its first fault is that of its first element that has one.
-fn read_elements<F: Form>(alloc: Global, items: &[Item]) -> Result<List<F::Value>, FormRefused>
-    ensures told { Gives (λ vs. Each F.is vs (terms_of (map view items.now))) (elements_fault F.form 0 (terms_of (map view items.now))) result }
+fn read_elements<F: Form>(alloc: Global, items: List<Item>) -> Result<List<F::Value>, FormRefused>
+    ensures told { Gives (λ vs. Each F.is vs (terms_of (map view items))) (elements_fault F.form 0 (terms_of (map view items))) result }
 {
     let mut values = List::new(alloc);
-    for place in 0..items.len() {
-        values.push(read_at::<F>(alloc, place as u64, &items[place])?)?;
+    let mut place = 0;
+    for item in items.into_vec() {
+        values.push(read_at::<F>(alloc, place, item)?)?;
+        place += 1;
     }
     Ok(values)
 }

@@ -31,9 +31,9 @@ impl Form for TextForm {
 
     ghost written = { text };
 
-    fn read(alloc: Global, item: &Item) -> Result<Text, FormRefused> {
+    fn read(alloc: Global, item: Item) -> Result<Text, FormRefused> {
         match item {
-            Item::Text(text) => Ok(text.copy()?),
+            Item::Text(text) => Ok(text),
             _ => Err(FormRefused::new(alloc, WRONG_FORM)),
         }
     }
@@ -63,9 +63,9 @@ impl Form for BoolForm {
 
     ghost written = { boolean };
 
-    fn read(alloc: Global, item: &Item) -> Result<bool, FormRefused> {
+    fn read(alloc: Global, item: Item) -> Result<bool, FormRefused> {
         match item {
-            Item::Bool(value) => Ok(*value),
+            Item::Bool(value) => Ok(value),
             _ => Err(FormRefused::new(alloc, WRONG_FORM)),
         }
     }
@@ -95,9 +95,9 @@ impl Form for IntForm {
 
     ghost written = { integer };
 
-    fn read(alloc: Global, item: &Item) -> Result<i64, FormRefused> {
+    fn read(alloc: Global, item: Item) -> Result<i64, FormRefused> {
         match item {
-            Item::Int(number) => Ok(*number),
+            Item::Int(number) => Ok(number),
             _ => Err(FormRefused::new(alloc, WRONG_FORM)),
         }
     }
@@ -127,9 +127,9 @@ impl Form for UintForm {
 
     ghost written = { unsigned_item };
 
-    fn read(alloc: Global, item: &Item) -> Result<u64, FormRefused> {
+    fn read(alloc: Global, item: Item) -> Result<u64, FormRefused> {
         match item {
-            Item::Int(number) if *number >= 0 => Ok(*number as u64),
+            Item::Int(number) if number >= 0 => Ok(number as u64),
             _ => Err(FormRefused::new(alloc, WRONG_FORM)),
         }
     }
@@ -163,10 +163,10 @@ impl Form for UriForm {
 
     ghost written = { uri_item };
 
-    fn read(alloc: Global, item: &Item) -> Result<Text, FormRefused> {
+    fn read(alloc: Global, item: Item) -> Result<Text, FormRefused> {
         match item {
-            Item::Text(_) => TextForm::read(alloc, item),
-            Item::Tag(URI_TAG, content) => TextForm::read(alloc, content.get()),
+            Item::Text(bare) => Ok(bare),
+            Item::Tag(URI_TAG, content) => TextForm::read(alloc, content.into_inner()),
             _ => Err(FormRefused::new(alloc, WRONG_FORM)),
         }
     }
@@ -202,10 +202,10 @@ impl Form for TimeForm {
 
     ghost written = { time_item };
 
-    fn read(alloc: Global, item: &Item) -> Result<i64, FormRefused> {
+    fn read(alloc: Global, item: Item) -> Result<i64, FormRefused> {
         match item {
-            Item::Int(number) => Ok(*number),
-            Item::Tag(TIME_TAG, content) => IntForm::read(alloc, content.get()),
+            Item::Int(number) => Ok(number),
+            Item::Tag(TIME_TAG, content) => IntForm::read(alloc, content.into_inner()),
             _ => Err(FormRefused::new(alloc, WRONG_FORM)),
         }
     }
@@ -236,7 +236,7 @@ impl Form for HashForm {
 
     ghost written = { hash_item };
 
-    fn read(alloc: Global, item: &Item) -> Result<HashEntry, FormRefused> {
+    fn read(alloc: Global, item: Item) -> Result<HashEntry, FormRefused> {
         match item {
             Item::Array(parts) => read_hash(alloc, parts),
             _ => Err(FormRefused::new(alloc, WRONG_FORM)),
@@ -261,33 +261,34 @@ impl ItemForm for HashForm {
     }
 }
 
-fn read_hash(alloc: Global, parts: &Items) -> Result<HashEntry, FormRefused>
-    ensures told { Gives (λ h. terms_of (map view parts.now) ≡ term (integer h.algorithm) (term (octets h.value) no_terms)) (hash_fault (terms_of (map view parts.now))) result }
+fn read_hash(alloc: Global, parts: Items) -> Result<HashEntry, FormRefused>
+    ensures told { Gives (λ h. terms_of (map view parts) ≡ term (integer h.algorithm) (term (octets h.value) no_terms)) (hash_fault (terms_of (map view parts))) result }
 {
     if parts.len() != 2 {
         return Err(FormRefused::new(alloc, WRONG_FORM));
     }
-    let slice = parts.as_slice();
-    let (first, second) = (&slice[0], &slice[1]);
+    let mut parts = parts.into_vec();
+    let second = parts.remove(1);
+    let first = parts.remove(0);
     let algorithm = algorithm(alloc, first)?;
     let value = hash_value(alloc, second)?;
     Ok(HashEntry { algorithm, value })
 }
 
-fn algorithm(alloc: Global, item: &Item) -> Result<i64, FormRefused>
-    ensures told { Gives (λ z. view item.now ≡ integer z) (under 0 (unless_wrong (is_integer (view item.now)))) result }
+fn algorithm(alloc: Global, item: Item) -> Result<i64, FormRefused>
+    ensures told { Gives (λ z. view item ≡ integer z) (under 0 (unless_wrong (is_integer (view item)))) result }
 {
     match item {
-        Item::Int(number) => Ok(*number),
+        Item::Int(number) => Ok(number),
         _ => Err(FormRefused::with_place(alloc, WRONG_FORM, 0)),
     }
 }
 
-fn hash_value(alloc: Global, item: &Item) -> Result<Octets, FormRefused>
-    ensures told { Gives (λ s. view item.now ≡ octets s) (under 1 (unless_wrong (is_octets (view item.now)))) result }
+fn hash_value(alloc: Global, item: Item) -> Result<Octets, FormRefused>
+    ensures told { Gives (λ s. view item ≡ octets s) (under 1 (unless_wrong (is_octets (view item)))) result }
 {
     match item {
-        Item::Bytes(octets) => Ok(octets.copy()?),
+        Item::Bytes(octets) => Ok(octets),
         _ => Err(FormRefused::with_place(alloc, WRONG_FORM, 1)),
     }
 }

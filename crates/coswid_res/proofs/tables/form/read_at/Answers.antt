@@ -5,4 +5,4 @@ use Rattle.coswid_res.specs.Schema.{one}
 use Rattle.coswid_res.proofs.tables.form.read_at.Goals as goal
 
 pub returns-in-Err : goal.returns-in-Err
-returns-in-Err g c = record { told = c.under.ensures.told (field_fault (one g.F.Form.form) (view c.args.item.now)) c.in-Err.ensures.told }
+returns-in-Err g c = record { told = c.under.ensures.told (field_fault (one g.F.Form.form) (view c.args.item)) c.in-Err.ensures.told }

@@ -1,13 +1,16 @@
--- The elements before have these values, and the first fault of all is that of those that are
--- left.
-use Rattle.std.proofs.Common.{◌≡◌, map, take, drop}
+-- With values of the items that are left there are values of all, and the first fault of all is that
+-- of those that are left.
+use Rattle.std.proofs.Common.{◌≡◌, ◌+◌, ◌<◌, ◌^◌, length, map}
+use Rattle.std.specs.Vec.Iter.{into_iter_items, into_iter_len}
 use Rattle.cbor_det.specs.View.{view, terms_of}
 use Rattle.coswid_res.specs.Fault.{elements_fault}
-use Rattle.coswid_res.specs.Words.{Each}
+use Rattle.coswid_res.proofs.Elements.{Completes}
 use Rattle.coswid_res.proofs.tables.rows.read_elements.Given as goal
 
-abbrev pub invariant-loop-place : goal.invariant-loop-place
-invariant-loop-place g l = record {
-  each : Each g.F.Form.is l.values (terms_of (map view (take l.place l.items)));
-  first : elements_fault g.F.Form.form 0 (terms_of (map view l.items)) ≡ elements_fault g.F.Form.form l.place (terms_of (map view (drop l.place l.items)));
+abbrev pub invariant-loop-item : goal.invariant-loop-item
+invariant-loop-item g l = record {
+  each : Completes g.F.Form.is l.values (into_iter_items l.item-iterator) l.fn.items;
+  first : elements_fault g.F.Form.form 0 (terms_of (map view l.fn.items)) ≡ elements_fault g.F.Form.form l.place (terms_of (map view (into_iter_items l.item-iterator)));
+  len : into_iter_len l.item-iterator ≡ length (into_iter_items l.item-iterator);
+  small : l.place + length (into_iter_items l.item-iterator) < 2 ^ 63;
 }

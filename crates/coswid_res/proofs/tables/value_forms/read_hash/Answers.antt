@@ -5,5 +5,5 @@ use Rattle.coswid_res.proofs.tables.value_forms.read_hash.Goals as goal
 
 pub returns-then-len-ne2 : goal.returns-then-len-ne2
 returns-then-len-ne2 c =
-    let not : length c.args.parts.now ≡ 2 → ⊥ = λ e. grind (arith, e, c.if-len-ne2.true, c.len.ensures.len) in
-    record { told = other_told c.args.parts.now c.new.result not c.new.ensures.fault }
+    let not : length c.args.parts ≡ 2 → ⊥ = λ e. grind (arith, e, c.if-len-ne2.true, c.len.ensures.len) in
+    record { told = other_told c.args.parts c.new.result not c.new.ensures.fault }
