@@ -11,7 +11,7 @@ use Rattle.coswid_codec.proofs.meta.MetaTableMapped.read.Goals as goal
 
 pub returns-in_err-first : goal.returns-in_err-first
 returns-in_err-first c =
-    let p = err_from_is_err_and c.from_residual-in_err-first.result c.from_residual-in_err-first.ensures.1 in
+    let p = err_from_is_err_and c.from_residual.result c.from_residual.ensures.1 in
     record { told = rw (p.1, p.2) (earlier (first_lines software_meta) (second_lines software_meta ++ third_lines software_meta) (pairs_view c.args.pairs) _ c.in_err-first.ensures.told) }
 
 pub returns-in_err-second : goal.returns-in_err-second
