@@ -1,5 +1,5 @@
 -- A pool that served: the sweeps, the workers, and what is answered.
-use Rattle.std.proofs.Common.{◌≡◌, ◌++◌, ℕ, Bool, true, false, true≢false, List, Option, None, Result, Ok, Err, refl, sym}
+use Rattle.std.proofs.Common.{◌≡◌, ◌++◌, ℕ, Bool, true, false, true≢false, List, Option, None, Result, Ok, Err, refl, subst, sym}
 use Rattle.std.specs.Prelude.{is_err}
 use Rattle.wire_base.specs.Clocks.{Moments}
 use Rattle.wire_base.specs.Outside.{HasCause}
@@ -7,7 +7,7 @@ use Rattle.wire_base.specs.Turns.{Turn}
 use Rattle.wire_base.specs.declared.values.memory.Memory.{Memory}
 use Rattle.book_lock.specs.Passes.{Grows, PassStands, PassView, PassWent, split_from}
 use Rattle.book_lock.specs.PassDesk.{pass_went_on}
-use Rattle.book_lock.specs.Together.{AllBegin}
+use Rattle.book_lock.specs.Together.{AllBegin, AreReaders}
 use Rattle.source_set.specs.Sweeping.{SetView}
 use Rattle.source_set.specs.declared.swept.Swept.{Swept}
 use Rattle.source_set.specs.declared.told.Told.{Told}
@@ -23,7 +23,7 @@ use Rattle.session_pool.specs.Outcomes.{one_ran_out}
 use Rattle.session_pool.specs.Rooms.{ArePassed, GivePasses}
 use Rattle.session_pool.specs.Servers.{AnswersServed, ServesAndSweeps}
 use Rattle.session_pool.specs.Stands.{AtEach, ServesAt}
-use Rattle.session_pool.proofs.Serving.{served_all}
+use Rattle.session_pool.proofs.Serving.{all_readers, served_all}
 use Rattle.session_pool.proofs.Sweeping.{Went, all_cause, went_all}
 
 -- What is answered where memory ran out for one of the workers.
@@ -33,14 +33,24 @@ lacked works total stopped (Err memory) failed out = out
 
 -- Of any doors, of which `state` is what they expose, and any links and sources.
 module _ {D L B : Type 0} (taken : L → Option (List Turn)) (given : L → Option (List ℕ)) (faults : L → ℕ) (state : D → DoorState L) (out : D → Bool) (reports : B → List Told → Type 0) (source_faults : B → ℕ)
-    (c : PoolConfig) (set one two : SetView B) (pass first last met : PassView) (start middle end : Option Moments) (before seated after left : List (Stand D)) (swept total : Swept) (firstly stopped : Option SweepStop)
-    (passes : List PassView) (outcome : Outcome)
-    (once : SweepsOnce reports source_faults PassStands PassWent (sweeping set pass start) (sweeping one first middle) swept firstly) (once_cause : HasCause set.faults one.faults (stopped_failed firstly))
-    (others : GoesOn reports source_faults PassStands PassWent c.sweeps (sweeping one first middle) swept firstly (sweeping two last end) total stopped)
+    (c : PoolConfig) (set one two : SetView B) (pass whole first clerk last done met : PassView) (start middle end : Option Moments) (before seated after left : List (Stand D)) (swept total : Swept) (firstly stopped : Option SweepStop)
+    (passes : List PassView) (outcome : Outcome) (whole_is : whole ≡ pass) (clerk_is : clerk ≡ first) (done_is : done ≡ last)
+    (once : SweepsOnce reports source_faults PassStands PassWent (sweeping set whole start) (sweeping one first middle) swept firstly) (once_cause : HasCause set.faults one.faults (stopped_failed firstly))
+    (others : GoesOn reports source_faults PassStands PassWent c.sweeps (sweeping one clerk middle) swept firstly (sweeping two last end) total stopped)
     (others_cause : firstly ≡ None → HasCause one.faults two.faults (stopped_failed stopped)) (put : ArePassed (split_from first false) before seated)
-    (far : AtEach (ServesAt taken given faults state out c.serve c.sessions) seated after) (gives : GivePasses after passes left outcome) (grows : Grows last met) (begin : AllBegin passes met.seen) where
+    (far : AtEach (ServesAt taken given faults state out c.serve c.sessions) seated after) (gives : GivePasses after passes left outcome) (readers_grow : AreReaders passes → Grows done met) (begin : AllBegin passes met.seen) where
+  -- The first sweep began over the pass of the call, and the others over what it came to.
+  from_pass : SweepsOnce reports source_faults PassStands PassWent (sweeping set pass start) (sweeping one first middle) swept firstly
+  from_pass = subst (λ (p : PassView). SweepsOnce reports source_faults PassStands PassWent (sweeping set p start) (sweeping one first middle) swept firstly) whole_is once
+
+  from_first : GoesOn reports source_faults PassStands PassWent c.sweeps (sweeping one first middle) swept firstly (sweeping two last end) total stopped
+  from_first = subst (λ (p : PassView). GoesOn reports source_faults PassStands PassWent c.sweeps (sweeping one p middle) swept firstly (sweeping two last end) total stopped) clerk_is others
+
+  grows : Grows last met
+  grows = subst (λ (p : PassView). Grows p met) done_is (readers_grow (all_readers taken given faults state out c seated after far first passes before left outcome put gives))
+
   all_sweeps : SweepsAll reports source_faults PassStands PassWent c.sweeps (sweeping set pass start) (sweeping one first middle) (sweeping two last end) total stopped
-  all_sweeps = record { swept = swept; firstly = firstly; once = once; others = others }
+  all_sweeps = record { swept = swept; firstly = firstly; once = from_pass; others = from_first }
 
   to_last : Went reports source_faults (sweeping set pass start) (sweeping two last end)
   to_last = went_all reports source_faults c.sweeps (sweeping set pass start) (sweeping one first middle) (sweeping two last end) total stopped all_sweeps
@@ -55,7 +65,7 @@ module _ {D L B : Type 0} (taken : L → Option (List Turn)) (given : L → Opti
     sweeps = all_sweeps;
     sources = refl;
     moments = refl;
-    cause = all_cause reports source_faults PassStands PassWent c.sweeps set.faults (sweeping one first middle) (sweeping two last end) swept total firstly stopped once_cause others_cause others;
+    cause = all_cause reports source_faults PassStands PassWent c.sweeps set.faults (sweeping one first middle) (sweeping two last end) swept total firstly stopped once_cause others_cause from_first;
     met = grows;
     marks = to_last.0 ++ grows.0;
     went = pass_went_on pass last met to_last.0 grows.0 to_last.1 grows.2;

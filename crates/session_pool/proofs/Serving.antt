@@ -24,10 +24,13 @@ use Rattle.session_pool.proofs.Places.{UpTo}
 any_work : Work
 any_work = record { ends = []; stop = stop.Done }
 
--- Whoever is split off to read leaves the pass as it was.
-pub sole_still : (b : Bool) → (b && not false) ≡ b
+sole_still : (b : Bool) → (b && not false) ≡ b
 sole_still true = refl
 sole_still false = refl
+
+-- Whoever is split off to read leaves the pass as it was.
+pub unsplit : (left pass : PassView) → left ≡ record pass { sole = pass.sole && not false } → left ≡ pass
+unsplit left pass kept = kept ∙ ap (λ (b : Bool). record pass { sole = b }) (sole_still pass.sole)
 
 -- One of a list that is not empty.
 one_of : {A : Type 0} (xs : List A) → 0 < length xs → A
