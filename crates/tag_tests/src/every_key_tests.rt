@@ -36,7 +36,7 @@ fn are_written(alloc: Global, digits: &str, written: &str) -> Result<bool, Fail>
 }
 
 #[test]
-fn every_key_are_written(rt: HostRuntime) -> Result<(), Fail> {
+fn every_key_is_read_and_written(rt: HostRuntime) -> Result<(), Fail> {
     let payload = are_written(rt.alloc(), WITH_PAYLOAD, WITH_PAYLOAD_WRITTEN)?;
     let evidence = are_written(rt.alloc(), WITH_EVIDENCE, WITH_EVIDENCE_WRITTEN)?;
     assert!(rt; payload && evidence);
@@ -67,6 +67,6 @@ fn deep_is_written(alloc: Global, count: u8) -> Result<bool, Fail> {
 /// directory: 64 levels deep with 29 directories, under the tag of tags.
 #[test]
 fn directories_in_directories_are_written(rt: HostRuntime) -> Result<(), Fail> {
-    assert!(rt; deep_are_written(rt.alloc(), 29)?);
+    assert!(rt; deep_is_written(rt.alloc(), 29)?);
     Ok(())
 }
