@@ -214,6 +214,8 @@ pub(crate) fn write(
         messages,
     };
     let octets = write_batch(alloc, &batch)?;
+    // The messages may have as many octets again.
+    drop(batch);
     out.extend(octets.as_slice())?;
     machine.send(kind);
     Ok(())
