@@ -91,7 +91,7 @@ measure() {
     }'
 echo
 {
-    for row in '1000 0 10000' '65536 0 10000' '65536 1 10000' '65536 100 1000' '1000 4096 20' '65536 4096 20'; do
+    for row in '1000 0 10000' '65536 0 10000' '1000 1 10000' '65536 1 10000' '1000 100 1000' '65536 100 1000' '1000 4096 20' '65536 4096 20'; do
         read -r records events times <<<"$row"
         printf '%s\t%s\t%s\t%s\t%s\n' "$records" "$events" "$times" \
             "$(measure sessions update "$records" "$events" 0)" "$(measure sessions update "$records" "$events" "$times")"
