@@ -24,6 +24,7 @@ links, of as many octets in all that no tag more finds room; or one tag of at mo
     tag-files        a payload of files, each with its name, its size and its SHA-256
     tag-directories  a payload of directories, each with 19 more in one another, and three files in the innermost
     tag-deep         the mixture `deep` under a key of its own, down to the depth of 64 under the tag of tags
+    tag-breaks       an array of arrays of one under a key of its own, in each other down to that depth; a break ends each
 """
 
 import os
@@ -74,6 +75,11 @@ def nested(room, depth=DEEPEST):
     part = b"\x81" * (depth - 2) + b"\0"
     count = (room - 5) // len(part)
     return head(4, count) + part * count
+
+
+def breaks(room, depth):
+    part = b"\x9f" * (depth - 2) + b"\0" + b"\xff" * (depth - 2)
+    return b"\x9f" + part * ((room - 2) // len(part)) + b"\xff"
 
 
 def keyed(room):
@@ -176,6 +182,7 @@ ONE_TAG = {
     "tag-files": lambda room: (1, payload_of(room, 17, lambda index: file_of(random.Random(index), index))),
     "tag-directories": lambda room: (1, payload_of(room, 16, lambda index: directory(random.Random(index), index))),
     "tag-deep": lambda room: (1, head(0, 99) + deep(room - 2, DEEPEST - 2)),
+    "tag-breaks": lambda room: (1, head(0, 99) + breaks(room - 2, DEEPEST - 2)),
 }
 TAGS |= {shape: lambda room, fields=fields: one_tag(room, fields) for shape, fields in ONE_TAG.items()}
 

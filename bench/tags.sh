@@ -83,7 +83,7 @@ one_tag() {
     done
 }
 
-for shape in extras files directories deep; do one_tag "$shape"; done | awk -F '\t' -v runs="$runs" '
+for shape in extras files directories deep breaks; do one_tag "$shape"; done | awk -F '\t' -v runs="$runs" '
     BEGIN {
         printf "one tag, lowest time and highest memory of %d runs\n\n", runs
         printf "%-11s %4s %-6s %9s %9s %8s %9s %9s\n", "shape", "MiB", "way", "ms", "ns/octet", "growth", "KiB", "an octet"
