@@ -17,7 +17,7 @@ import sys
 import threading
 import time
 
-IDLE, OCTETS = 600, 4294967295
+IDLE = 600
 
 # An SDATA batch of 16 MiB, with one message of vendor 1 and type 1.
 LENGTH = 1 << 24
