@@ -29,7 +29,7 @@ use Rattle.coswid_codec.proofs.Lines.{line_none, required_again, required_same, 
 use Rattle.coswid_codec.proofs.Plain.{boolean_law, text_law}
 use Rattle.coswid_codec.proofs.Several.{array_told, one_told, filled, several_law}
 use Rattle.coswid_codec.proofs.Facts.{◌⨾◌, Facts, required_fact, optional_fact, told_fact, under_within}
-use Rattle.coswid_codec.proofs.Tables.{made}
+use Rattle.coswid_codec.proofs.Tables.{made, made_told}
 
 -- What is known of a directory in an item, of what one holds, and of several.
 
@@ -73,18 +73,7 @@ directory_by d ps keys held =
     subst P (sym (all.found 26 refl)) (path_under o.path_elements (option_map path_item o.path_elements)
     (again_by (one (a_map schema.path_elements)) PathMap path_item 0 o.path_elements (value_under 26 ps) held)) in
     let I : Pairs → Type 0 = λ rs. DirectoryPairs d rs in
-    let R : Pairs → Type 0 = λ rs. IsProperMap rs in
-    record {
-      none = all.none;
-      again = subst I (sym e) (directory d qs again inside);
-      proper = λ p. subst R (sym e) (all.proper p);
-      within = λ n le deep.
-          let D : Pairs → Type 0 = λ rs. pairs_depth rs ≤ n in
-          subst D (sym e) (all.within n le deep);
-      few = λ n le.
-          let D : Pairs → Type 0 = λ rs. most (map rs) ≤ n + 16 in
-          subst D (sym e) (all.few n le);
-    }
+    made_told all (sym e) (subst I (sym e) (directory d qs again inside))
 
 -- What a directory holds, where the directories in it are known.
 
@@ -111,18 +100,7 @@ path_by p ps keys held =
     subst P (sym (all.found 16 refl)) (directories_under o.directory (option_map directories_item o.directory)
     (again_by (one_or_more (a_map schema.directory)) (OneOrMore DirectoryMap) directories_item 0 o.directory (value_under 16 ps) held)) in
     let I : Pairs → Type 0 = λ rs. PathPairs p rs in
-    let R : Pairs → Type 0 = λ rs. IsProperMap rs in
-    record {
-      none = all.none;
-      again = subst I (sym e) (path_elements p qs again inside);
-      proper = λ q. subst R (sym e) (all.proper q);
-      within = λ n le deep.
-          let D : Pairs → Type 0 = λ rs. pairs_depth rs ≤ n in
-          subst D (sym e) (all.within n le deep);
-      few = λ n le.
-          let D : Pairs → Type 0 = λ rs. most (map rs) ≤ n + 16 in
-          subst D (sym e) (all.few n le);
-    }
+    made_told all (sym e) (subst I (sym e) (path_elements p qs again inside))
 
 -- By what is read, from the outside in.
 mutual
@@ -193,9 +171,8 @@ mutual
 
   path_under_same : (x y : Option PathElements) (o : Option Term) → PathUnder x o → Agree PathMap y o → x ≡ y
   path_under_same x None o no_path second = refl
-  path_under_same x (Some q) o no_path second = absurd second
   path_under_same x (Some q) o (path p ps is) second = ap (λ (r : PathElements). Some r) (path_same p q ps is second)
-  path_under_same x None o (path p ps is) second = absurd second
+  path_under_same x y o first second = absurd second
 
   path_same : (p q : PathElements) (ps : Pairs) → PathPairs p ps → PathPairs q ps → p ≡ q
   path_same p q ps (path_elements r qs keys inside) second =
@@ -205,20 +182,15 @@ mutual
 
   directories_under_same : (x y : Option (List DirEntry)) (o : Option Term) → DirectoriesUnder x o → Agree (OneOrMore DirectoryMap) y o → x ≡ y
   directories_under_same x None o no_directories second = refl
-  directories_under_same x (Some es) o no_directories second = absurd second
-  directories_under_same x None o (alone d ps is) second = absurd second
-  directories_under_same x (Some []) o (alone d ps is) second = absurd second
   directories_under_same x (Some (e ∷ [])) o (alone d ps is) second = ap (λ (f : DirEntry). Some (f ∷ [])) (directory_same d e ps is second)
-  directories_under_same x (Some (e ∷ f ∷ es)) o (alone d ps is) second = absurd second
-  directories_under_same x None o (several ds ts some each) second = absurd second
   directories_under_same x (Some es) o (several ds ts some each) second = ap (λ (fs : List DirEntry). Some fs) (each_same ds es ts each second.1)
+  directories_under_same x y o first second = absurd second
 
   each_same : (ds es : List DirEntry) (ts : Terms) → EachDirectory ds ts → Each DirectoryMap es ts → ds ≡ es
   each_same ds [] ts no_more second = refl
-  each_same ds (e ∷ es) ts no_more second = absurd second
-  each_same ds [] ts (one_more d rs ps us is rest) second = absurd second
   each_same ds (e ∷ es) ts (one_more d rs ps us is rest) second =
       ap (λ (f : DirEntry). f ∷ rs) (directory_same d e ps is second.0) ∙ ap (λ (fs : List DirEntry). e ∷ fs) (each_same rs es us rest second.1)
+  each_same ds es ts first second = absurd second
 
 -- A map without a fault is read as a directory: by how deep it is.
 
@@ -234,12 +206,7 @@ path_under_some n None below bound none = (None, tt)
 path_under_some n (Some (map qs)) below bound none =
     let found = below qs (bound (map qs) refl) (sym (map_told schema.path_elements qs) ∙ under_none 26 (field_fault (one (a_map schema.path_elements)) (map qs)) none) in
     (Some found.0, found.1)
-path_under_some n (Some (array ts)) below bound none = wrong (under_none 26 wrong_form none)
-path_under_some n (Some (integer z)) below bound none = wrong (under_none 26 wrong_form none)
-path_under_some n (Some (octets s)) below bound none = wrong (under_none 26 wrong_form none)
-path_under_some n (Some (text s)) below bound none = wrong (under_none 26 wrong_form none)
-path_under_some n (Some (tagged m t)) below bound none = wrong (under_none 26 wrong_form none)
-path_under_some n (Some (boolean b)) below bound none = wrong (under_none 26 wrong_form none)
+path_under_some n o below bound none = wrong (under_none 26 wrong_form none)
 
 each_some : (n : ℕ) (ts : Terms) (i : ℕ) → DirectoryBelow n → terms_depth ts ≤ n → elements_fault (a_map schema.directory) i ts ≡ None → (ds : List DirEntry) × Each DirectoryMap ds ts
 each_some n no_terms i below deep none = ([], tt)
@@ -248,12 +215,7 @@ each_some n (term (map qs) ts) i below deep none =
     let first = below qs (omega (arith, deep)) (sym (map_told schema.directory qs) ∙ under_none i (field_fault (one (a_map schema.directory)) (map qs)) both.0) in
     let rest = each_some n ts (i + 1) below (omega (arith, deep)) both.1 in
     (first.0 ∷ rest.0, (first.1, rest.1))
-each_some n (term (array us) ts) i below deep none = wrong (under_none i wrong_form (or_none (under i wrong_form) (elements_fault (a_map schema.directory) (i + 1) ts) none).0)
-each_some n (term (integer z) ts) i below deep none = wrong (under_none i wrong_form (or_none (under i wrong_form) (elements_fault (a_map schema.directory) (i + 1) ts) none).0)
-each_some n (term (octets s) ts) i below deep none = wrong (under_none i wrong_form (or_none (under i wrong_form) (elements_fault (a_map schema.directory) (i + 1) ts) none).0)
-each_some n (term (text s) ts) i below deep none = wrong (under_none i wrong_form (or_none (under i wrong_form) (elements_fault (a_map schema.directory) (i + 1) ts) none).0)
-each_some n (term (tagged m t) ts) i below deep none = wrong (under_none i wrong_form (or_none (under i wrong_form) (elements_fault (a_map schema.directory) (i + 1) ts) none).0)
-each_some n (term (boolean b) ts) i below deep none = wrong (under_none i wrong_form (or_none (under i wrong_form) (elements_fault (a_map schema.directory) (i + 1) ts) none).0)
+each_some n (term t ts) i below deep none = wrong (under_none i wrong_form (or_none (under i wrong_form) (elements_fault (a_map schema.directory) (i + 1) ts) none).0)
 
 directories_under_some : (n : ℕ) (o : Option Term) → DirectoryBelow n → ((t : Term) → o ≡ Some t → depth t ≤ n) → value_fault 16 (one_or_more (a_map schema.directory)) o ≡ None
     → (x : Option (List DirEntry)) × Agree (OneOrMore DirectoryMap) x o
@@ -261,16 +223,11 @@ directories_under_some n None below bound none = (None, tt)
 directories_under_some n (Some (map qs)) below bound none =
     let found = below qs (bound (map qs) refl) (sym (map_told schema.directory qs) ∙ under_none 16 (field_fault (one (a_map schema.directory)) (map qs)) none) in
     (Some (found.0 ∷ []), found.1)
-directories_under_some n (Some (array no_terms)) below bound none = wrong (under_none 16 wrong_form none)
 directories_under_some n (Some (array (term t ts))) below bound none =
     let deep : depth (array (term t ts)) ≤ n = bound (array (term t ts)) refl in
     let found = each_some n (term t ts) 0 below (omega (arith, deep)) (under_none 16 (elements_fault (a_map schema.directory) 0 (term t ts)) none) in
     (Some found.0, (filled DirectoryMap found.0 t ts found.1, found.1))
-directories_under_some n (Some (integer z)) below bound none = wrong (under_none 16 wrong_form none)
-directories_under_some n (Some (octets s)) below bound none = wrong (under_none 16 wrong_form none)
-directories_under_some n (Some (text s)) below bound none = wrong (under_none 16 wrong_form none)
-directories_under_some n (Some (tagged m t)) below bound none = wrong (under_none 16 wrong_form none)
-directories_under_some n (Some (boolean b)) below bound none = wrong (under_none 16 wrong_form none)
+directories_under_some n o below bound none = wrong (under_none 16 wrong_form none)
 
 directory_step : (n : ℕ) (ps : Pairs) → PathBelow n → pairs_depth ps ≤ n → keys_fault schema.directory ps ≡ None → (d : DirEntry) × DirectoryPairs d ps
 directory_step n ps below deep none =

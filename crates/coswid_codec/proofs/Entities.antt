@@ -16,7 +16,7 @@ use Rattle.coswid_codec.proofs.Lines.{line_none, required_again, required_same, 
 use Rattle.coswid_codec.proofs.Plain.{hash_law, text_law, uri_law}
 use Rattle.coswid_codec.proofs.Codes.{codes_law}
 use Rattle.coswid_codec.proofs.Facts.{◌⨾◌, Facts, required_fact, optional_fact}
-use Rattle.coswid_codec.proofs.Tables.{made}
+use Rattle.coswid_codec.proofs.Tables.{made, made_told}
 use Rattle.coswid_codec.proofs.Several.{several_law}
 
 facts : (e : Entity) (ps : Pairs) → EntityKeys e ps → Facts 2 ps (table schema.entity) (entity_rows e)
@@ -30,19 +30,13 @@ facts e ps is =
 told : (e : Entity) (ps : Pairs) → EntityKeys e ps → MapTold schema.entity EntityKeys entity_pairs 2 e ps
 told e ps is =
     let all = made schema.entity (entity_rows e) (pairs_view e.extras) 2 ps (facts e ps is) is.extras in
-    record {
-      none = all.none;
-      again = record {
-        entity_name = required_again 31 e.entity_name ps (entity_pairs e) text_law is.entity_name (all.found 31 refl);
-        reg_id = optional_again 32 e.reg_id ps (entity_pairs e) uri_law is.reg_id (all.found 32 refl);
-        role = required_again 33 e.role ps (entity_pairs e) codes_law is.role (all.found 33 refl);
-        thumbprint = optional_again 34 e.thumbprint ps (entity_pairs e) hash_law is.thumbprint (all.found 34 refl);
-        extras = all.rest;
-      };
-      proper = all.proper;
-      within = λ n le deep. all.within n le deep;
-      few = all.few;
-    }
+    made_told all refl (record {
+      entity_name = required_again 31 e.entity_name ps (entity_pairs e) text_law is.entity_name (all.found 31 refl);
+      reg_id = optional_again 32 e.reg_id ps (entity_pairs e) uri_law is.reg_id (all.found 32 refl);
+      role = required_again 33 e.role ps (entity_pairs e) codes_law is.role (all.found 33 refl);
+      thumbprint = optional_again 34 e.thumbprint ps (entity_pairs e) hash_law is.thumbprint (all.found 34 refl);
+      extras = all.rest;
+    })
 
 abbrev fields : Entity → Entity
 fields e = record { entity_name = e.entity_name; reg_id = e.reg_id; role = e.role; thumbprint = e.thumbprint; extras = e.extras }

@@ -18,7 +18,7 @@ use Rattle.coswid_codec.proofs.Extras.{extras_some, extras_same}
 use Rattle.coswid_codec.proofs.Lawful.{Lawful, MapTold, MapLawful}
 use Rattle.coswid_codec.proofs.Lines.{line_none, optional_again, optional_same, optional_some, map_law}
 use Rattle.coswid_codec.proofs.Facts.{◌⨾◌, Facts, optional_fact}
-use Rattle.coswid_codec.proofs.Tables.{made}
+use Rattle.coswid_codec.proofs.Tables.{made, made_told}
 
 facts : (e : Evidence) (ps : Pairs) → EvidenceKeys e ps → Facts 2 ps (table schema.evidence) (evidence_rows e)
 facts e ps is =
@@ -34,22 +34,16 @@ facts e ps is =
 told : (e : Evidence) (ps : Pairs) → EvidenceKeys e ps → MapTold schema.evidence EvidenceKeys evidence_pairs 2 e ps
 told e ps is =
     let all = made schema.evidence (evidence_rows e) (pairs_view e.extras) 2 ps (facts e ps is) is.extras in
-    record {
-      none = all.none;
-      again = record {
-        directory = optional_again 16 e.directory ps (evidence_pairs e) directories_law is.directory (all.found 16 refl);
-        file = optional_again 17 e.file ps (evidence_pairs e) files_law is.file (all.found 17 refl);
-        process = optional_again 18 e.process ps (evidence_pairs e) processes_law is.process (all.found 18 refl);
-        resource = optional_again 19 e.resource ps (evidence_pairs e) resources_law is.resource (all.found 19 refl);
-        location = optional_again 23 e.location ps (evidence_pairs e) text_law is.location (all.found 23 refl);
-        date = optional_again 35 e.date ps (evidence_pairs e) time_law is.date (all.found 35 refl);
-        device_id = optional_again 36 e.device_id ps (evidence_pairs e) text_law is.device_id (all.found 36 refl);
-        extras = all.rest;
-      };
-      proper = all.proper;
-      within = λ n le deep. all.within n le deep;
-      few = all.few;
-    }
+    made_told all refl (record {
+      directory = optional_again 16 e.directory ps (evidence_pairs e) directories_law is.directory (all.found 16 refl);
+      file = optional_again 17 e.file ps (evidence_pairs e) files_law is.file (all.found 17 refl);
+      process = optional_again 18 e.process ps (evidence_pairs e) processes_law is.process (all.found 18 refl);
+      resource = optional_again 19 e.resource ps (evidence_pairs e) resources_law is.resource (all.found 19 refl);
+      location = optional_again 23 e.location ps (evidence_pairs e) text_law is.location (all.found 23 refl);
+      date = optional_again 35 e.date ps (evidence_pairs e) time_law is.date (all.found 35 refl);
+      device_id = optional_again 36 e.device_id ps (evidence_pairs e) text_law is.device_id (all.found 36 refl);
+      extras = all.rest;
+    })
 
 abbrev fields : Evidence → Evidence
 fields e = record { directory = e.directory; file = e.file; process = e.process; resource = e.resource; location = e.location; date = e.date; device_id = e.device_id; extras = e.extras }

@@ -89,8 +89,7 @@ told_by field Is item most least k (Some v) (Some t) ps le e told = record {
   within = λ n less deep. told.within n (omega (arith, le, less)) (under_within k ps t n e deep);
   few = λ n less. told.few n (under_most k ps t n e less);
 }
-told_by field Is item most least k None (Some t) ps le e told = absurd told
-told_by field Is item most least k (Some v) None ps le e told = absurd told
+told_by field Is item most least k x o ps le e told = absurd told
 
 -- where it is known of what stands there alone
 pub told_fact : {A : Type 0} (field : Field) (Is : A → Term → Type 0) (item : A → Term) (most least k : ℕ) (x : Option A) (ps : Pairs) → most ≤ least
@@ -101,8 +100,7 @@ pub agree_told : {A : Type 0} (field : Field) (Is : A → Term → Type 0) (item
     → Agree (λ (v : A) (t : Term). Told field Is item most v t) x o
 agree_told field Is item most None None law is = tt
 agree_told field Is item most (Some v) (Some t) law is = law.told v t is
-agree_told field Is item most None (Some t) law is = absurd is
-agree_told field Is item most (Some v) None law is = absurd is
+agree_told field Is item most x o law is = absurd is
 
 pub optional_fact : {A : Type 0} {field : Field} {Is : A → Term → Type 0} {item : A → Term} {most : ℕ} (least k : ℕ) (x : Option A) (ps : Pairs) → Lawful field Is item most → most ≤ least
     → OptionalAt k Is x ps → Fact (optional k field) (k, option_map item x) least ps

@@ -1,5 +1,5 @@
 -- The pairs of a map that is written: the extras, with the fields put in one by one.
-use Rattle.std.proofs.Common.{◌≡◌, ◌⊎◌, ◌≤◌, ◌<◌, ◌==◌, ◌^◌, ℕ, max, Bool, true, false, pos, negsuc, inl, inr, List, length, Option, Some, None, if◌then◌else◌, refl, sym, ap, ◌∙◌, subst, arith}
+use Rattle.std.proofs.Common.{◌≡◌, ◌⊎◌, ◌≤◌, ◌<◌, ◌==◌, ◌^◌, ℕ, max, Bool, true, false, pos, inl, inr, List, length, Option, Some, None, if◌then◌else◌, refl, sym, ap, ◌∙◌, subst, arith}
 use Rattle.std.proofs.lemmas.Bool.{cond-true, cond-false, eqb-true, eq-eqb, or_from, or_parts, cases_Bool, both_ways}
 use Rattle.std.specs.Ordering.{match_ordering}
 use Rattle.std.specs.Str.{bytes_eq}
@@ -12,7 +12,7 @@ use Rattle.cbor_det.specs.Canonical.{Form, direct, one, two, four, eight, head, 
 use Rattle.cbor_det.specs.Lookup.{is_unsigned, value_under, is_one_of, other_than}
 use Rattle.cbor_det.specs.Machine.{is_held, insert}
 use Rattle.cbor_det.specs.Proper.{IsProper, ArePairsProper, IsProperMap}
-use Rattle.cbor_det.specs.Term.{Term, Pairs, integer, octets, text, array, map, tagged, boolean, no_pairs, pair, depth, pairs_depth}
+use Rattle.cbor_det.specs.Term.{Term, Pairs, integer, no_pairs, pair, depth, pairs_depth}
 use Rattle.cbor_det.proofs.Order.{key_cmp, equal_keys, insert_puts, rises_insert}
 use Rattle.cbor_det.proofs.Written.{canon_same, proper_puts}
 
@@ -80,13 +80,7 @@ others_again ns (pair l w ps) = again_by (is_one_of ns l) ns l w ps refl (others
 
 only_number : (k : ℕ) (t : Term) → is_unsigned k t ≡ true → t ≡ number k
 only_number k (integer (pos m)) is = ap (λ (n : ℕ). number n) (eqb-true m k is)
-only_number k (integer (negsuc m)) is = absurd cc
-only_number k (octets s) is = absurd cc
-only_number k (text s) is = absurd cc
-only_number k (array ts) is = absurd cc
-only_number k (map ps) is = absurd cc
-only_number k (tagged m t) is = absurd cc
-only_number k (boolean b) is = absurd cc
+only_number k t is = absurd cc
 
 not_number : (ns : List ℕ) (k : ℕ) (l : Term) → is_one_of ns (number k) ≡ true → is_one_of ns l ≡ false → is_unsigned k l ≡ false
 not_number ns k l known other = elim (cases_Bool (is_unsigned k l)) [

@@ -15,7 +15,7 @@ use Rattle.coswid_codec.proofs.Extras.{extras_some, extras_same}
 use Rattle.coswid_codec.proofs.Lawful.{Lawful, MapTold, MapLawful}
 use Rattle.coswid_codec.proofs.Lines.{line_none, required_again, required_same, required_some, optional_again, optional_same, optional_some, map_law}
 use Rattle.coswid_codec.proofs.Facts.{◌⨾◌, Facts, required_fact, optional_fact}
-use Rattle.coswid_codec.proofs.Tables.{made}
+use Rattle.coswid_codec.proofs.Tables.{made, made_told}
 
 facts : (f : FileEntry) (ps : Pairs) → FileKeys f ps → Facts 0 ps (table schema.file) (file_rows f)
 facts f ps is =
@@ -31,22 +31,16 @@ facts f ps is =
 told : (f : FileEntry) (ps : Pairs) → FileKeys f ps → MapTold schema.file FileKeys file_pairs 0 f ps
 told f ps is =
     let all = made schema.file (file_rows f) (pairs_view f.extras) 0 ps (facts f ps is) is.extras in
-    record {
-      none = all.none;
-      again = record {
-        hash = optional_again 7 f.hash ps (file_pairs f) hash_law is.hash (all.found 7 refl);
-        size = optional_again 20 f.size ps (file_pairs f) unsigned_law is.size (all.found 20 refl);
-        file_version = optional_again 21 f.file_version ps (file_pairs f) text_law is.file_version (all.found 21 refl);
-        key = optional_again 22 f.key ps (file_pairs f) boolean_law is.key (all.found 22 refl);
-        location = optional_again 23 f.location ps (file_pairs f) text_law is.location (all.found 23 refl);
-        fs_name = required_again 24 f.fs_name ps (file_pairs f) text_law is.fs_name (all.found 24 refl);
-        root = optional_again 25 f.root ps (file_pairs f) text_law is.root (all.found 25 refl);
-        extras = all.rest;
-      };
-      proper = all.proper;
-      within = λ n le deep. all.within n le deep;
-      few = all.few;
-    }
+    made_told all refl (record {
+      hash = optional_again 7 f.hash ps (file_pairs f) hash_law is.hash (all.found 7 refl);
+      size = optional_again 20 f.size ps (file_pairs f) unsigned_law is.size (all.found 20 refl);
+      file_version = optional_again 21 f.file_version ps (file_pairs f) text_law is.file_version (all.found 21 refl);
+      key = optional_again 22 f.key ps (file_pairs f) boolean_law is.key (all.found 22 refl);
+      location = optional_again 23 f.location ps (file_pairs f) text_law is.location (all.found 23 refl);
+      fs_name = required_again 24 f.fs_name ps (file_pairs f) text_law is.fs_name (all.found 24 refl);
+      root = optional_again 25 f.root ps (file_pairs f) text_law is.root (all.found 25 refl);
+      extras = all.rest;
+    })
 
 abbrev fields : FileEntry → FileEntry
 fields f = record { hash = f.hash; size = f.size; file_version = f.file_version; key = f.key; location = f.location; fs_name = f.fs_name; root = f.root; extras = f.extras }

@@ -3,7 +3,7 @@
 use Rattle.std.proofs.Common.{◌≡◌, ◌≤◌, ◌-◌, ◌==◌, ℕ, Bool, true, false, List, [], ◌∷◌, Option, Some, None, if◌then◌else◌, refl, sym, ap, ◌∙◌, subst, arith}
 use Rattle.std.specs.Option.{option_map}
 use Rattle.cbor_det.specs.Lookup.{value_under}
-use Rattle.cbor_det.specs.Term.{Term, Pairs, integer, octets, text, array, map, tagged, boolean, pairs_depth}
+use Rattle.cbor_det.specs.Term.{Term, Pairs, map, pairs_depth}
 use Rattle.coswid_res.specs.Fault.{or_else, absent, missing, field_fault}
 use Rattle.coswid_res.specs.Reading.{value_fault, line_fault, lines_fault, keys_fault}
 use Rattle.coswid_res.specs.Schema.{Name, table, Line, Field, one, a_map, required, optional, key_of, required_keys}
@@ -26,8 +26,7 @@ pub again_by : {A : Type 0} (field : Field) (Is : A → Term → Type 0) (item :
     → Agree (λ (v : A) (t : Term). Told field Is item most v t) x o → Agree Is x (option_map item x)
 again_by field Is item most None None told = tt
 again_by field Is item most (Some v) (Some t) told = told.again
-again_by field Is item most None (Some t) told = absurd told
-again_by field Is item most (Some v) None told = absurd told
+again_by field Is item most x o told = absurd told
 
 pub optional_again : {A : Type 0} {field : Field} {Is : A → Term → Type 0} {item : A → Term} {most : ℕ} (k : ℕ) (x : Option A) (ps qs : Pairs) → Lawful field Is item most → OptionalAt k Is x ps
     → value_under k qs ≡ option_map item x → OptionalAt k Is x qs
@@ -40,10 +39,9 @@ optional_again {field} {Is} {item} {most} k x ps qs law is e =
 agree_same : {A : Type 0} {field : Field} {Is : A → Term → Type 0} {item : A → Term} {most : ℕ} (x y : Option A) (o : Option Term) → Lawful field Is item most → Agree Is x o → Agree Is y o → x ≡ y
 agree_same None None None law first second = refl
 agree_same {A} (Some v) (Some w) (Some t) law first second = ap (λ (u : A). Some u) (law.same v w t first second)
-agree_same None y (Some t) law first second = absurd first
-agree_same (Some v) y None law first second = absurd first
 agree_same None (Some w) None law first second = absurd second
 agree_same (Some v) None (Some t) law first second = absurd second
+agree_same x y o law first second = absurd first
 
 pub required_same : {A : Type 0} {field : Field} {Is : A → Term → Type 0} {item : A → Term} {most : ℕ} (k : ℕ) (v w : A) (ps : Pairs) → Lawful field Is item most → RequiredAt k Is v ps → RequiredAt k Is w ps
     → v ≡ w
@@ -109,30 +107,15 @@ pairs_told name Keys pairs least v ps it = record {
 module _ {A : Type 0} (name : Name) (Keys : A → Pairs → Type 0) (pairs : A → Pairs) (least : ℕ) (law : MapLawful name Keys pairs least) where
   told : (v : A) (t : Term) → IsMap (Keys v) t → Told (one (a_map name)) (λ (w : A). IsMap (Keys w)) (λ (w : A). map (pairs w)) (next least) v t
   told v (map ps) is = pairs_told name Keys pairs least v ps (law.told v ps is)
-  told v (integer z) is = absurd is
-  told v (octets s) is = absurd is
-  told v (text s) is = absurd is
-  told v (array ts) is = absurd is
-  told v (tagged n t) is = absurd is
-  told v (boolean b) is = absurd is
+  told v t is = absurd is
 
   same : (v w : A) (t : Term) → IsMap (Keys v) t → IsMap (Keys w) t → v ≡ w
   same v w (map ps) first second = law.same v w ps first second
-  same v w (integer z) first second = absurd first
-  same v w (octets s) first second = absurd first
-  same v w (text s) first second = absurd first
-  same v w (array ts) first second = absurd first
-  same v w (tagged n t) first second = absurd first
-  same v w (boolean b) first second = absurd first
+  same v w t first second = absurd first
 
   some : (t : Term) → field_fault (one (a_map name)) t ≡ None → (v : A) × IsMap (Keys v) t
   some (map ps) none = law.some ps (sym (map_told name ps) ∙ none)
-  some (integer z) none = wrong none
-  some (octets s) none = wrong none
-  some (text s) none = wrong none
-  some (array ts) none = wrong none
-  some (tagged n t) none = wrong none
-  some (boolean b) none = wrong none
+  some t none = wrong none
 
   pub map_law : Lawful (one (a_map name)) (λ (v : A). IsMap (Keys v)) (λ (v : A). map (pairs v)) (next least)
   map_law = record { told = told; same = same; some = some }

@@ -15,7 +15,7 @@ use Rattle.coswid_codec.proofs.Lawful.{Lawful, MapTold, MapLawful}
 use Rattle.coswid_codec.proofs.Lines.{line_none, required_again, required_same, required_some, optional_again, optional_same, optional_some, map_law}
 use Rattle.coswid_codec.proofs.Plain.{code_law, text_law, uri_law}
 use Rattle.coswid_codec.proofs.Facts.{◌⨾◌, Facts, required_fact, optional_fact}
-use Rattle.coswid_codec.proofs.Tables.{made}
+use Rattle.coswid_codec.proofs.Tables.{made, made_told}
 use Rattle.coswid_codec.proofs.Several.{several_law}
 
 facts : (l : LinkEntry) (ps : Pairs) → LinkKeys l ps → Facts 2 ps (table schema.link) (link_rows l)
@@ -32,22 +32,16 @@ facts l ps is =
 told : (l : LinkEntry) (ps : Pairs) → LinkKeys l ps → MapTold schema.link LinkKeys link_pairs 2 l ps
 told l ps is =
     let all = made schema.link (link_rows l) (pairs_view l.extras) 2 ps (facts l ps is) is.extras in
-    record {
-      none = all.none;
-      again = record {
-        media = optional_again 10 l.media ps (link_pairs l) text_law is.media (all.found 10 refl);
-        artifact = optional_again 37 l.artifact ps (link_pairs l) text_law is.artifact (all.found 37 refl);
-        href = required_again 38 l.href ps (link_pairs l) uri_law is.href (all.found 38 refl);
-        ownership = optional_again 39 l.ownership ps (link_pairs l) code_law is.ownership (all.found 39 refl);
-        rel = required_again 40 l.rel ps (link_pairs l) code_law is.rel (all.found 40 refl);
-        media_type = optional_again 41 l.media_type ps (link_pairs l) text_law is.media_type (all.found 41 refl);
-        link_use = optional_again 42 l.link_use ps (link_pairs l) code_law is.link_use (all.found 42 refl);
-        extras = all.rest;
-      };
-      proper = all.proper;
-      within = λ n le deep. all.within n le deep;
-      few = all.few;
-    }
+    made_told all refl (record {
+      media = optional_again 10 l.media ps (link_pairs l) text_law is.media (all.found 10 refl);
+      artifact = optional_again 37 l.artifact ps (link_pairs l) text_law is.artifact (all.found 37 refl);
+      href = required_again 38 l.href ps (link_pairs l) uri_law is.href (all.found 38 refl);
+      ownership = optional_again 39 l.ownership ps (link_pairs l) code_law is.ownership (all.found 39 refl);
+      rel = required_again 40 l.rel ps (link_pairs l) code_law is.rel (all.found 40 refl);
+      media_type = optional_again 41 l.media_type ps (link_pairs l) text_law is.media_type (all.found 41 refl);
+      link_use = optional_again 42 l.link_use ps (link_pairs l) code_law is.link_use (all.found 42 refl);
+      extras = all.rest;
+    })
 
 abbrev fields : LinkEntry → LinkEntry
 fields l = record { media = l.media; artifact = l.artifact; href = l.href; ownership = l.ownership; rel = l.rel; media_type = l.media_type; link_use = l.link_use; extras = l.extras }

@@ -15,7 +15,7 @@ use Rattle.coswid_codec.proofs.Lawful.{Lawful, MapTold, MapLawful}
 use Rattle.coswid_codec.proofs.Lines.{line_none, optional_again, optional_same, optional_some, map_law}
 use Rattle.coswid_codec.proofs.Plain.{boolean_law, identifier_law, text_law}
 use Rattle.coswid_codec.proofs.Facts.{◌⨾◌, Facts, optional_fact}
-use Rattle.coswid_codec.proofs.Tables.{made}
+use Rattle.coswid_codec.proofs.Tables.{made, made_told}
 use Rattle.coswid_codec.proofs.Several.{several_law}
 
 facts : (m : SoftwareMeta) (ps : Pairs) → MetaKeys m ps → Facts 1 ps (table schema.software_meta) (meta_rows m)
@@ -40,30 +40,24 @@ facts m ps is =
 told : (m : SoftwareMeta) (ps : Pairs) → MetaKeys m ps → MapTold schema.software_meta MetaKeys meta_pairs 1 m ps
 told m ps is =
     let all = made schema.software_meta (meta_rows m) (pairs_view m.extras) 1 ps (facts m ps is) is.extras in
-    record {
-      none = all.none;
-      again = record {
-        activation_status = optional_again 43 m.activation_status ps (meta_pairs m) text_law is.activation_status (all.found 43 refl);
-        channel_type = optional_again 44 m.channel_type ps (meta_pairs m) text_law is.channel_type (all.found 44 refl);
-        colloquial_version = optional_again 45 m.colloquial_version ps (meta_pairs m) text_law is.colloquial_version (all.found 45 refl);
-        description = optional_again 46 m.description ps (meta_pairs m) text_law is.description (all.found 46 refl);
-        edition = optional_again 47 m.edition ps (meta_pairs m) text_law is.edition (all.found 47 refl);
-        entitlement_data_required = optional_again 48 m.entitlement_data_required ps (meta_pairs m) boolean_law is.entitlement_data_required (all.found 48 refl);
-        entitlement_key = optional_again 49 m.entitlement_key ps (meta_pairs m) text_law is.entitlement_key (all.found 49 refl);
-        generator = optional_again 50 m.generator ps (meta_pairs m) identifier_law is.generator (all.found 50 refl);
-        persistent_id = optional_again 51 m.persistent_id ps (meta_pairs m) text_law is.persistent_id (all.found 51 refl);
-        product = optional_again 52 m.product ps (meta_pairs m) text_law is.product (all.found 52 refl);
-        product_family = optional_again 53 m.product_family ps (meta_pairs m) text_law is.product_family (all.found 53 refl);
-        revision = optional_again 54 m.revision ps (meta_pairs m) text_law is.revision (all.found 54 refl);
-        summary = optional_again 55 m.summary ps (meta_pairs m) text_law is.summary (all.found 55 refl);
-        unspsc_code = optional_again 56 m.unspsc_code ps (meta_pairs m) text_law is.unspsc_code (all.found 56 refl);
-        unspsc_version = optional_again 57 m.unspsc_version ps (meta_pairs m) text_law is.unspsc_version (all.found 57 refl);
-        extras = all.rest;
-      };
-      proper = all.proper;
-      within = λ n le deep. all.within n le deep;
-      few = all.few;
-    }
+    made_told all refl (record {
+      activation_status = optional_again 43 m.activation_status ps (meta_pairs m) text_law is.activation_status (all.found 43 refl);
+      channel_type = optional_again 44 m.channel_type ps (meta_pairs m) text_law is.channel_type (all.found 44 refl);
+      colloquial_version = optional_again 45 m.colloquial_version ps (meta_pairs m) text_law is.colloquial_version (all.found 45 refl);
+      description = optional_again 46 m.description ps (meta_pairs m) text_law is.description (all.found 46 refl);
+      edition = optional_again 47 m.edition ps (meta_pairs m) text_law is.edition (all.found 47 refl);
+      entitlement_data_required = optional_again 48 m.entitlement_data_required ps (meta_pairs m) boolean_law is.entitlement_data_required (all.found 48 refl);
+      entitlement_key = optional_again 49 m.entitlement_key ps (meta_pairs m) text_law is.entitlement_key (all.found 49 refl);
+      generator = optional_again 50 m.generator ps (meta_pairs m) identifier_law is.generator (all.found 50 refl);
+      persistent_id = optional_again 51 m.persistent_id ps (meta_pairs m) text_law is.persistent_id (all.found 51 refl);
+      product = optional_again 52 m.product ps (meta_pairs m) text_law is.product (all.found 52 refl);
+      product_family = optional_again 53 m.product_family ps (meta_pairs m) text_law is.product_family (all.found 53 refl);
+      revision = optional_again 54 m.revision ps (meta_pairs m) text_law is.revision (all.found 54 refl);
+      summary = optional_again 55 m.summary ps (meta_pairs m) text_law is.summary (all.found 55 refl);
+      unspsc_code = optional_again 56 m.unspsc_code ps (meta_pairs m) text_law is.unspsc_code (all.found 56 refl);
+      unspsc_version = optional_again 57 m.unspsc_version ps (meta_pairs m) text_law is.unspsc_version (all.found 57 refl);
+      extras = all.rest;
+    })
 
 abbrev fields : SoftwareMeta → SoftwareMeta
 fields m = record { activation_status = m.activation_status; channel_type = m.channel_type; colloquial_version = m.colloquial_version; description = m.description; edition = m.edition; entitlement_data_required = m.entitlement_data_required; entitlement_key = m.entitlement_key; generator = m.generator; persistent_id = m.persistent_id; product = m.product; product_family = m.product_family; revision = m.revision; summary = m.summary; unspsc_code = m.unspsc_code; unspsc_version = m.unspsc_version; extras = m.extras }

@@ -17,7 +17,7 @@ use Rattle.coswid_codec.proofs.Extras.{extras_some, extras_same}
 use Rattle.coswid_codec.proofs.Lawful.{Lawful, MapTold, MapLawful}
 use Rattle.coswid_codec.proofs.Lines.{line_none, optional_again, optional_same, optional_some, map_law}
 use Rattle.coswid_codec.proofs.Facts.{◌⨾◌, Facts, optional_fact}
-use Rattle.coswid_codec.proofs.Tables.{made}
+use Rattle.coswid_codec.proofs.Tables.{made, made_told}
 
 facts : (p : Payload) (ps : Pairs) → PayloadKeys p ps → Facts 0 ps (table schema.payload) (payload_rows p)
 facts p ps is =
@@ -30,19 +30,13 @@ facts p ps is =
 told : (p : Payload) (ps : Pairs) → PayloadKeys p ps → MapTold schema.payload PayloadKeys payload_pairs 0 p ps
 told p ps is =
     let all = made schema.payload (payload_rows p) (pairs_view p.extras) 0 ps (facts p ps is) is.extras in
-    record {
-      none = all.none;
-      again = record {
-        directory = optional_again 16 p.directory ps (payload_pairs p) directories_law is.directory (all.found 16 refl);
-        file = optional_again 17 p.file ps (payload_pairs p) files_law is.file (all.found 17 refl);
-        process = optional_again 18 p.process ps (payload_pairs p) processes_law is.process (all.found 18 refl);
-        resource = optional_again 19 p.resource ps (payload_pairs p) resources_law is.resource (all.found 19 refl);
-        extras = all.rest;
-      };
-      proper = all.proper;
-      within = λ n le deep. all.within n le deep;
-      few = all.few;
-    }
+    made_told all refl (record {
+      directory = optional_again 16 p.directory ps (payload_pairs p) directories_law is.directory (all.found 16 refl);
+      file = optional_again 17 p.file ps (payload_pairs p) files_law is.file (all.found 17 refl);
+      process = optional_again 18 p.process ps (payload_pairs p) processes_law is.process (all.found 18 refl);
+      resource = optional_again 19 p.resource ps (payload_pairs p) resources_law is.resource (all.found 19 refl);
+      extras = all.rest;
+    })
 
 abbrev fields : Payload → Payload
 fields p = record { directory = p.directory; file = p.file; process = p.process; resource = p.resource; extras = p.extras }

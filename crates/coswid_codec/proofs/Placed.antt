@@ -8,7 +8,7 @@ use Rattle.cbor_det.specs.Laid.{Row, put_rows}
 use Rattle.cbor_det.specs.Lookup.{value_under, is_one_of, other_than}
 use Rattle.cbor_det.specs.Proper.{IsProper, ArePairsProper, IsProperMap}
 use Rattle.cbor_det.specs.Spelling.{IsBelow, Rises}
-use Rattle.cbor_det.specs.Term.{Term, Pairs, integer, octets, text, array, map, tagged, boolean, no_pairs, pair, depth, pairs_depth}
+use Rattle.cbor_det.specs.Term.{Term, Pairs, integer, no_pairs, pair, depth, pairs_depth}
 use Rattle.cbor_det.proofs.Order.{key_cmp, below_trans}
 use Rattle.coswid_res.specs.Schema.{Name, tag, entity, link, software_meta, payload, evidence, directory, path_elements, file, process, resource, table, Line, key_of, keys_of}
 use Rattle.coswid_res.proofs.Lines.{Rising}
@@ -37,16 +37,7 @@ listed ns (line ∷ lines) is =
 
 pub table_listed : (name : Name) → AreListed (keys_of (table name)) (table name)
 table_listed tag = listed (keys_of (table tag)) (table tag) refl
-table_listed entity = listed (keys_of (table entity)) (table entity) refl
-table_listed link = listed (keys_of (table link)) (table link) refl
-table_listed software_meta = listed (keys_of (table software_meta)) (table software_meta) refl
-table_listed payload = listed (keys_of (table payload)) (table payload) refl
-table_listed evidence = listed (keys_of (table evidence)) (table evidence) refl
-table_listed directory = listed (keys_of (table directory)) (table directory) refl
-table_listed path_elements = listed (keys_of (table path_elements)) (table path_elements) refl
-table_listed file = listed (keys_of (table file)) (table file) refl
-table_listed process = listed (keys_of (table process)) (table process) refl
-table_listed resource = listed (keys_of (table resource)) (table resource) refl
+table_listed name = listed (keys_of (table name)) (table name) refl
 
 pub all_free : (ns : List ℕ) (lines : List Line) (ps : Pairs) → AreListed ns lines → AreFree lines (other_than ns ps)
 all_free ns [] ps are = tt
@@ -61,8 +52,7 @@ pub fills_placed : (least : ℕ) (ps : Pairs) (lines : List Line) (es : List Row
 fills_placed least ps [] [] qs facts = refl
 fills_placed least ps (line ∷ lines) (e ∷ es) qs facts =
     ap (λ (rs : Pairs). put_rows es rs) (facts.0.fills qs) ∙ fills_placed least ps lines es (put_if (key_of line) e.1 qs) facts.1
-fills_placed least ps [] (e ∷ es) qs facts = absurd facts
-fills_placed least ps (line ∷ lines) [] qs facts = absurd facts
+fills_placed least ps lines es qs facts = absurd facts
 
 other_key : (k j : ℕ) (o : Option Term) (qs : Pairs) → (j == k) ≡ false → value_under k (put_if j o qs) ≡ value_under k qs
 other_key k j None qs not = refl
@@ -80,12 +70,11 @@ free_put low j o (line ∷ lines) qs up lt free =
 
 -- A key below those of the lines is left as it is.
 stays : (k low : ℕ) (lines : List Line) (es : List Row) (qs : Pairs) → Rising low lines → k < low → value_under k (placed lines es qs) ≡ value_under k qs
-stays k low [] es qs up lt = refl
-stays k low (line ∷ lines) [] qs up lt = refl
 stays k low (line ∷ lines) (e ∷ es) qs up lt =
     let le : low ≤ key_of line = up.0 in
     stays k (key_of line + 1) lines es (put_if (key_of line) e.1 qs) up.2 (omega (arith, le, lt))
     ∙ other_key k (key_of line) e.1 qs (ne_eqb (key_of line) k (λ same. omega (arith, same, le, lt)))
+stays k low lines es qs up lt = refl
 
 -- what the field with this key is written as
 abbrev pub look : ℕ → List Line → List Row → Option Term
@@ -119,10 +108,9 @@ others_if ns k None qs is = refl
 others_if ns k (Some t) qs is = others_put ns k t qs is
 
 pub others_placed : (ns : List ℕ) (lines : List Line) (es : List Row) (qs : Pairs) → AreListed ns lines → other_than ns (placed lines es qs) ≡ other_than ns qs
-others_placed ns [] es qs are = refl
-others_placed ns (line ∷ lines) [] qs are = refl
 others_placed ns (line ∷ lines) (e ∷ es) qs are =
     others_placed ns lines es (put_if (key_of line) e.1 qs) are.1 ∙ others_if ns (key_of line) e.1 qs are.0
+others_placed ns lines es qs are = refl
 
 if_proper : (k : ℕ) (o : Option Term) (qs : Pairs) → k < 2 ^ 63 → value_under k qs ≡ None → IfSome o IsProper → IsProperMap qs → IsProperMap (put_if k o qs)
 if_proper k None qs small none value proper = proper
@@ -135,18 +123,12 @@ placed_proper least ps low (line ∷ lines) (e ∷ es) qs facts up free read pro
     let small : key_of line < 256 = up.1 in
     placed_proper least ps (key_of line + 1) lines es (put_if (key_of line) e.1 qs) facts.1 up.2 (free_put (key_of line + 1) (key_of line) e.1 lines qs up.2 (omega arith) free.1) read
     (if_proper (key_of line) e.1 qs (omega (arith, small)) free.0 (facts.0.proper read) proper)
-placed_proper least ps low [] (e ∷ es) qs facts up free read proper = absurd facts
-placed_proper least ps low (line ∷ lines) [] qs facts up free read proper = absurd facts
+placed_proper least ps low lines es qs facts up free read proper = absurd facts
 
 -- An item has a level at least.
 some_depth : (t : Term) → 1 ≤ depth t
 some_depth (integer z) = omega arith
-some_depth (octets s) = omega arith
-some_depth (text s) = omega arith
-some_depth (array ts) = omega arith
-some_depth (map ps) = omega arith
-some_depth (tagged n t) = omega arith
-some_depth (boolean b) = omega arith
+some_depth t = omega arith
 
 if_within : (n k : ℕ) (o : Option Term) (qs : Pairs) → IfSome o (λ t. depth t ≤ n) → pairs_depth qs ≤ n → pairs_depth (put_if k o qs) ≤ n
 if_within n k None qs value deep = deep
@@ -160,8 +142,7 @@ pub placed_within : (least : ℕ) (ps : Pairs) (n : ℕ) (lines : List Line) (es
 placed_within least ps n [] [] qs facts le read deep = deep
 placed_within least ps n (line ∷ lines) (e ∷ es) qs facts le read deep =
     placed_within least ps n lines es (put_if (key_of line) e.1 qs) facts.1 le read (if_within n (key_of line) e.1 qs (facts.0.within n le read) deep)
-placed_within least ps n [] (e ∷ es) qs facts le read deep = absurd facts
-placed_within least ps n (line ∷ lines) [] qs facts le read deep = absurd facts
+placed_within least ps n lines es qs facts le read deep = absurd facts
 
 -- The other pairs are proper, and no deeper.
 

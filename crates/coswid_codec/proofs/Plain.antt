@@ -1,7 +1,7 @@
 -- The forms of single values.
-use Rattle.std.proofs.Common.{◌≡◌, inl, inr, ℕ, ℤ, pos, negsuc, Bool, List, ◌==◌, length, None, refl, sym, ap, ◌∙◌, subst, arith}
+use Rattle.std.proofs.Common.{◌≡◌, inl, inr, ℕ, ℤ, pos, Bool, List, ◌==◌, length, None, refl, sym, ap, ◌∙◌, subst, arith}
 use Rattle.std.proofs.lemmas.Bool.{eqb-true, eq-eqb}
-use Rattle.cbor_det.specs.Term.{Term, Terms, integer, octets, text, array, map, tagged, boolean, no_terms, term}
+use Rattle.cbor_det.specs.Term.{Term, Terms, integer, octets, text, array, tagged, boolean, no_terms, term}
 use Rattle.coswid_res.specs.declared.resources.hash.HashEntry.{HashEntry}
 use Rattle.coswid_res.specs.Schema.{one, a_text, a_boolean, an_integer, an_unsigned, an_identifier, a_code, a_uri, a_time, a_hash}
 use Rattle.coswid_res.specs.Fault.{field_fault, hash_fault, under, unless_wrong, is_integer, is_octets}
@@ -27,12 +27,7 @@ as_read {A} field Is item v t again none is =
 
 text_some : (t : Term) → field_fault (one a_text) t ≡ None → (s : List ℕ) × Text s t
 text_some (text s) none = (s, refl)
-text_some (integer z) none = wrong none
-text_some (octets s) none = wrong none
-text_some (array ts) none = wrong none
-text_some (map ps) none = wrong none
-text_some (tagged n t) none = wrong none
-text_some (boolean b) none = wrong none
+text_some t none = wrong none
 
 pub text_same : (s r : List ℕ) (t : Term) → Text s t → Text r t → s ≡ r
 text_same s r t first second = let e : text s ≡ text r = sym first ∙ second in cc
@@ -48,12 +43,7 @@ text_law = record {
 
 boolean_some : (t : Term) → field_fault (one a_boolean) t ≡ None → (b : Bool) × Boolean b t
 boolean_some (boolean b) none = (b, refl)
-boolean_some (integer z) none = wrong none
-boolean_some (octets s) none = wrong none
-boolean_some (text s) none = wrong none
-boolean_some (array ts) none = wrong none
-boolean_some (map ps) none = wrong none
-boolean_some (tagged n t) none = wrong none
+boolean_some t none = wrong none
 
 boolean_same : (b c : Bool) (t : Term) → Boolean b t → Boolean c t → b ≡ c
 boolean_same b c t first second = let e : boolean b ≡ boolean c = sym first ∙ second in cc
@@ -69,12 +59,7 @@ boolean_law = record {
 
 integer_some : (t : Term) → field_fault (one an_integer) t ≡ None → (z : ℤ) × Integer z t
 integer_some (integer z) none = (z, refl)
-integer_some (boolean b) none = wrong none
-integer_some (octets s) none = wrong none
-integer_some (text s) none = wrong none
-integer_some (array ts) none = wrong none
-integer_some (map ps) none = wrong none
-integer_some (tagged n t) none = wrong none
+integer_some t none = wrong none
 
 integer_same : (z y : ℤ) (t : Term) → Integer z t → Integer y t → z ≡ y
 integer_same z y t first second = let e : integer z ≡ integer y = sym first ∙ second in cc
@@ -90,13 +75,7 @@ integer_law = record {
 
 unsigned_some : (t : Term) → field_fault (one an_unsigned) t ≡ None → (n : ℕ) × Unsigned n t
 unsigned_some (integer (pos n)) none = (n, refl)
-unsigned_some (integer (negsuc n)) none = wrong none
-unsigned_some (boolean b) none = wrong none
-unsigned_some (octets s) none = wrong none
-unsigned_some (text s) none = wrong none
-unsigned_some (array ts) none = wrong none
-unsigned_some (map ps) none = wrong none
-unsigned_some (tagged n t) none = wrong none
+unsigned_some t none = wrong none
 
 unsigned_same : (n m : ℕ) (t : Term) → Unsigned n t → Unsigned m t → n ≡ m
 unsigned_same n m t first second = let e : integer (pos n) ≡ integer (pos m) = sym first ∙ second in cc
@@ -131,11 +110,7 @@ identifier_same (identifier.Uuid s) (identifier.Text r) t first second = text_no
 identifier_some : (t : Term) → field_fault (one an_identifier) t ≡ None → (i : TagId) × Identifier i t
 identifier_some (text s) none = (identifier.Text s, refl)
 identifier_some (octets s) none = (identifier.Uuid s, (eqb-true (length s) 16 (right (length s == 16) none), refl))
-identifier_some (integer z) none = wrong none
-identifier_some (boolean b) none = wrong none
-identifier_some (array ts) none = wrong none
-identifier_some (map ps) none = wrong none
-identifier_some (tagged n t) none = wrong none
+identifier_some t none = wrong none
 
 pub identifier_law : Lawful (one an_identifier) Identifier identifier_item 0
 identifier_law = record {
@@ -162,11 +137,7 @@ code_same (code.Text s) (code.Int z) t first second = integer_no_text z s t seco
 code_some : (t : Term) → field_fault (one a_code) t ≡ None → (c : CodeValue) × Code c t
 code_some (text s) none = (code.Text s, refl)
 code_some (integer z) none = (code.Int z, refl)
-code_some (octets s) none = wrong none
-code_some (boolean b) none = wrong none
-code_some (array ts) none = wrong none
-code_some (map ps) none = wrong none
-code_some (tagged n t) none = wrong none
+code_some t none = wrong none
 
 pub code_law : Lawful (one a_code) Code code_item 0
 code_law = record {
@@ -199,17 +170,7 @@ under_32 n s none = inl (ap (λ (m : ℕ). tagged m (text s)) (eqb-true n 32 (ri
 uri_some : (t : Term) → field_fault (one a_uri) t ≡ None → (s : List ℕ) × Uri s t
 uri_some (text s) none = (s, inr refl)
 uri_some (tagged n (text s)) none = (s, under_32 n s none)
-uri_some (tagged n (integer z)) none = wrong none
-uri_some (tagged n (octets s)) none = wrong none
-uri_some (tagged n (array ts)) none = wrong none
-uri_some (tagged n (map ps)) none = wrong none
-uri_some (tagged n (tagged m t)) none = wrong none
-uri_some (tagged n (boolean b)) none = wrong none
-uri_some (integer z) none = wrong none
-uri_some (octets s) none = wrong none
-uri_some (boolean b) none = wrong none
-uri_some (array ts) none = wrong none
-uri_some (map ps) none = wrong none
+uri_some t none = wrong none
 
 pub uri_law : Lawful (one a_uri) Uri uri_item 2
 uri_law = record { told = uri_told; same = uri_same; some = uri_some }
@@ -238,17 +199,7 @@ under_1 n z none = inl (ap (λ (m : ℕ). tagged m (integer z)) (eqb-true n 1 (r
 time_some : (t : Term) → field_fault (one a_time) t ≡ None → (z : ℤ) × Time z t
 time_some (integer z) none = (z, inr refl)
 time_some (tagged n (integer z)) none = (z, under_1 n z none)
-time_some (tagged n (text s)) none = wrong none
-time_some (tagged n (octets s)) none = wrong none
-time_some (tagged n (array ts)) none = wrong none
-time_some (tagged n (map ps)) none = wrong none
-time_some (tagged n (tagged m t)) none = wrong none
-time_some (tagged n (boolean b)) none = wrong none
-time_some (text s) none = wrong none
-time_some (octets s) none = wrong none
-time_some (boolean b) none = wrong none
-time_some (array ts) none = wrong none
-time_some (map ps) none = wrong none
+time_some t none = wrong none
 
 pub time_law : Lawful (one a_time) Time time_item 2
 time_law = record { told = time_told; same = time_same; some = time_some }
@@ -257,26 +208,13 @@ time_law = record { told = time_told; same = time_same; some = time_some }
 
 integer_first : (t : Term) → under 0 (unless_wrong (is_integer t)) ≡ None → (z : ℤ) × (t ≡ integer z)
 integer_first (integer z) none = (z, refl)
-integer_first (text s) none = absurd cc
-integer_first (octets s) none = absurd cc
-integer_first (array ts) none = absurd cc
-integer_first (map ps) none = absurd cc
-integer_first (tagged n t) none = absurd cc
-integer_first (boolean b) none = absurd cc
+integer_first t none = absurd cc
 
 octets_second : (t : Term) → under 1 (unless_wrong (is_octets t)) ≡ None → (s : List ℕ) × (t ≡ octets s)
 octets_second (octets s) none = (s, refl)
-octets_second (text s) none = absurd cc
-octets_second (integer z) none = absurd cc
-octets_second (array ts) none = absurd cc
-octets_second (map ps) none = absurd cc
-octets_second (tagged n t) none = absurd cc
-octets_second (boolean b) none = absurd cc
+octets_second t none = absurd cc
 
 parts_some : (ts : Terms) → hash_fault ts ≡ None → (h : HashEntry) × Hash h (array ts)
-parts_some no_terms none = wrong none
-parts_some (term a no_terms) none = wrong none
-parts_some (term a (term v (term w ts))) none = wrong none
 parts_some (term a (term v no_terms)) none =
     let both = or_none (under 0 (unless_wrong (is_integer a))) (under 1 (unless_wrong (is_octets v))) none in
     let first = integer_first a both.0 in
@@ -284,15 +222,11 @@ parts_some (term a (term v no_terms)) none =
       record { algorithm = first.0; value = second.0 },
       ap (λ (u : Term). array (term u (term v no_terms))) first.1 ∙ ap (λ (u : Term). array (term (integer first.0) (term u no_terms))) second.1,
     )
+parts_some ts none = wrong none
 
 hash_some : (t : Term) → field_fault (one a_hash) t ≡ None → (h : HashEntry) × Hash h t
 hash_some (array ts) none = parts_some ts none
-hash_some (text s) none = wrong none
-hash_some (integer z) none = wrong none
-hash_some (octets s) none = wrong none
-hash_some (boolean b) none = wrong none
-hash_some (map ps) none = wrong none
-hash_some (tagged n t) none = wrong none
+hash_some t none = wrong none
 
 abbrev fields : HashEntry → HashEntry
 fields h = record { algorithm = h.algorithm; value = h.value }

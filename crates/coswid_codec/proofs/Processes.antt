@@ -16,7 +16,7 @@ use Rattle.coswid_codec.proofs.Extras.{extras_some, extras_same}
 use Rattle.coswid_codec.proofs.Lawful.{Lawful, MapTold, MapLawful}
 use Rattle.coswid_codec.proofs.Lines.{line_none, required_again, required_same, required_some, optional_again, optional_same, optional_some, map_law}
 use Rattle.coswid_codec.proofs.Facts.{◌⨾◌, Facts, required_fact, optional_fact}
-use Rattle.coswid_codec.proofs.Tables.{made}
+use Rattle.coswid_codec.proofs.Tables.{made, made_told}
 
 facts : (p : ProcessEntry) (ps : Pairs) → ProcessKeys p ps → Facts 0 ps (table schema.process) (process_rows p)
 facts p ps is =
@@ -27,17 +27,11 @@ facts p ps is =
 told : (p : ProcessEntry) (ps : Pairs) → ProcessKeys p ps → MapTold schema.process ProcessKeys process_pairs 0 p ps
 told p ps is =
     let all = made schema.process (process_rows p) (pairs_view p.extras) 0 ps (facts p ps is) is.extras in
-    record {
-      none = all.none;
-      again = record {
-        process_name = required_again 27 p.process_name ps (process_pairs p) text_law is.process_name (all.found 27 refl);
-        pid = optional_again 28 p.pid ps (process_pairs p) integer_law is.pid (all.found 28 refl);
-        extras = all.rest;
-      };
-      proper = all.proper;
-      within = λ n le deep. all.within n le deep;
-      few = all.few;
-    }
+    made_told all refl (record {
+      process_name = required_again 27 p.process_name ps (process_pairs p) text_law is.process_name (all.found 27 refl);
+      pid = optional_again 28 p.pid ps (process_pairs p) integer_law is.pid (all.found 28 refl);
+      extras = all.rest;
+    })
 
 abbrev fields : ProcessEntry → ProcessEntry
 fields p = record { process_name = p.process_name; pid = p.pid; extras = p.extras }

@@ -16,7 +16,7 @@ use Rattle.coswid_codec.proofs.Extras.{extras_some, extras_same}
 use Rattle.coswid_codec.proofs.Lawful.{Lawful, MapTold, MapLawful}
 use Rattle.coswid_codec.proofs.Lines.{line_none, required_again, required_same, required_some, map_law}
 use Rattle.coswid_codec.proofs.Facts.{◌⨾◌, Facts, required_fact}
-use Rattle.coswid_codec.proofs.Tables.{made}
+use Rattle.coswid_codec.proofs.Tables.{made, made_told}
 
 facts : (r : ResourceEntry) (ps : Pairs) → ResourceKeys r ps → Facts 0 ps (table schema.resource) (resource_rows r)
 facts r ps is =
@@ -26,16 +26,10 @@ facts r ps is =
 told : (r : ResourceEntry) (ps : Pairs) → ResourceKeys r ps → MapTold schema.resource ResourceKeys resource_pairs 0 r ps
 told r ps is =
     let all = made schema.resource (resource_rows r) (pairs_view r.extras) 0 ps (facts r ps is) is.extras in
-    record {
-      none = all.none;
-      again = record {
-        resource_type = required_again 29 r.resource_type ps (resource_pairs r) text_law is.resource_type (all.found 29 refl);
-        extras = all.rest;
-      };
-      proper = all.proper;
-      within = λ n le deep. all.within n le deep;
-      few = all.few;
-    }
+    made_told all refl (record {
+      resource_type = required_again 29 r.resource_type ps (resource_pairs r) text_law is.resource_type (all.found 29 refl);
+      extras = all.rest;
+    })
 
 abbrev fields : ResourceEntry → ResourceEntry
 fields r = record { resource_type = r.resource_type; extras = r.extras }

@@ -1,6 +1,6 @@
 -- One or more values of a form, an array of them or one alone.
 use Rattle.std.proofs.Common.{◌≡◌, ◌≢◌, ◌≤◌, ℕ, ◌+◌, ◌-◌, List, [], ◌∷◌, map as map_list, Option, None, refl, sym, ap, ◌∙◌, subst, arith}
-use Rattle.cbor_det.specs.Term.{Term, Terms, integer, octets, text, array, map, tagged, boolean, no_terms, term, count, depth, terms_depth}
+use Rattle.cbor_det.specs.Term.{Term, Terms, array, no_terms, term, count, depth, terms_depth}
 use Rattle.cbor_det.specs.View.{terms_of}
 use Rattle.cbor_det.specs.Proper.{AreProper}
 use Rattle.cbor_det.proofs.Counts.{most, terms_most}
@@ -18,13 +18,8 @@ IsAlone (array ts) = ⊥
 IsAlone t = Unit {0}
 
 alone : {A : Type 0} (Is : A → Term → Type 0) (v : A) (t : Term) → IsAlone t → Is v t → OneOrMore Is (v ∷ []) t
-alone Is v (integer z) no_array is = is
-alone Is v (octets s) no_array is = is
-alone Is v (text s) no_array is = is
 alone Is v (array ts) no_array is = absurd no_array
-alone Is v (map ps) no_array is = is
-alone Is v (tagged n t) no_array is = is
-alone Is v (boolean b) no_array is = is
+alone Is v t no_array is = is
 
 -- An array that is not empty is read as some values.
 pub filled : {A : Type 0} (Is : A → Term → Type 0) (vs : List A) (t : Term) (ts : Terms) → Each Is vs (term t ts) → vs ≢ []
@@ -43,20 +38,17 @@ module _ {A : Type 0} (form : Form) (Is : A → Term → Type 0) (item : A → T
   each_none [] no_terms i each = refl
   each_none (v ∷ vs) (term t ts) i each =
       ap (λ (o : Option FormFault). or_else (under i o) (elements_fault form (i + 1) ts)) (each.0.none) ∙ each_none vs ts (i + 1) each.1
-  each_none [] (term t ts) i each = absurd each
-  each_none (v ∷ vs) no_terms i each = absurd each
+  each_none vs ts i each = absurd each
 
   each_again : (vs : List A) (ts : Terms) → Each One vs ts → Each Is vs (terms_of (items vs))
   each_again [] no_terms each = tt
   each_again (v ∷ vs) (term t ts) each = (each.0.again, each_again vs ts each.1)
-  each_again [] (term t ts) each = absurd each
-  each_again (v ∷ vs) no_terms each = absurd each
+  each_again vs ts each = absurd each
 
   each_proper : (vs : List A) (ts : Terms) → Each One vs ts → AreProper ts → AreProper (terms_of (items vs))
   each_proper [] no_terms each proper = tt
   each_proper (v ∷ vs) (term t ts) each proper = (each.0.proper proper.0, each_proper vs ts each.1 proper.1)
-  each_proper [] (term t ts) each proper = absurd each
-  each_proper (v ∷ vs) no_terms each proper = absurd each
+  each_proper vs ts each proper = absurd each
 
   each_within : (vs : List A) (ts : Terms) (n : ℕ) → Each One vs ts → least ≤ n → terms_depth ts ≤ n → terms_depth (terms_of (items vs)) ≤ n
   each_within [] no_terms n each le deep = omega arith
@@ -64,8 +56,7 @@ module _ {A : Type 0} (form : Form) (Is : A → Term → Type 0) (item : A → T
       let first : depth (item v) ≤ n = each.0.within n le (omega (arith, deep)) in
       let rest : terms_depth (terms_of (items vs)) ≤ n = each_within vs ts n each.1 le (omega (arith, deep)) in
       omega (arith, first, rest)
-  each_within [] (term t ts) n each le deep = absurd each
-  each_within (v ∷ vs) no_terms n each le deep = absurd each
+  each_within vs ts n each le deep = absurd each
 
   each_few : (vs : List A) (ts : Terms) (n : ℕ) → Each One vs ts → terms_most ts ≤ n → terms_most (terms_of (items vs)) ≤ n + 16
   each_few [] no_terms n each le = omega arith
@@ -73,14 +64,12 @@ module _ {A : Type 0} (form : Form) (Is : A → Term → Type 0) (item : A → T
       let first : most (item v) ≤ n + 16 = each.0.few n (omega (arith, le)) in
       let rest : terms_most (terms_of (items vs)) ≤ n + 16 = each_few vs ts n each.1 (omega (arith, le)) in
       omega (arith, first, rest)
-  each_few [] (term t ts) n each le = absurd each
-  each_few (v ∷ vs) no_terms n each le = absurd each
+  each_few vs ts n each le = absurd each
 
   each_count : (vs : List A) (ts : Terms) → Each One vs ts → count (terms_of (items vs)) ≡ count ts
   each_count [] no_terms each = refl
   each_count (v ∷ vs) (term t ts) each = ap (λ (n : ℕ). n + 1) (each_count vs ts each.1)
-  each_count [] (term t ts) each = absurd each
-  each_count (v ∷ vs) no_terms each = absurd each
+  each_count vs ts each = absurd each
 
   -- an array of values
   pub array_told : (vs : List A) (ts : Terms) → (vs ≢ []) → Each (λ (v : A) (t : Term). Told (one form) Is item least v t) vs ts
@@ -105,9 +94,8 @@ module _ {A : Type 0} (form : Form) (Is : A → Term → Type 0) (item : A → T
         let l : terms_most (terms_of (items (v ∷ w ∷ vs))) ≤ n + 16 = each_few (v ∷ w ∷ vs) (term t ts) n each (omega (arith, le)) in
         omega (arith, c, l, le);
   }
-  array_told (v ∷ []) no_terms some each = absurd each
   array_told (v ∷ []) (term t (term u ts)) some each = absurd each.1
-  array_told (v ∷ w ∷ vs) no_terms some each = absurd each
+  array_told vs no_terms some each = absurd each
 
   -- one value alone
   pub one_told : (v : A) (t : Term) → field_fault (one_or_more form) t ≡ field_fault (one form) t → Told (one form) Is item least v t
@@ -127,8 +115,7 @@ module _ {A : Type 0} (form : Form) (Is : A → Term → Type 0) (item : A → T
   each_told : (vs : List A) (ts : Terms) → Each Is vs ts → Each (λ (v : A) (t : Term). Told (one form) Is item least v t) vs ts
   each_told [] no_terms each = tt
   each_told (v ∷ vs) (term t ts) each = (law.told v t each.0, each_told vs ts each.1)
-  each_told [] (term t ts) each = absurd each
-  each_told (v ∷ vs) no_terms each = absurd each
+  each_told vs ts each = absurd each
 
   lone : (v : A) (t : Term) → field_fault (one_or_more form) t ≡ field_fault (one form) t → Is v t
       → Told (one_or_more form) (OneOrMore Is) (λ us. row_item (items_of us)) (next least) (v ∷ []) t
@@ -140,10 +127,9 @@ module _ {A : Type 0} (form : Form) (Is : A → Term → Type 0) (item : A → T
   each_same [] [] no_terms first second = refl
   each_same (v ∷ vs) (w ∷ ws) (term t ts) first second =
       ap (λ (u : A). u ∷ vs) (law.same v w t first.0 second.0) ∙ ap (λ (us : List A). w ∷ us) (each_same vs ws ts first.1 second.1)
-  each_same [] ws (term t ts) first second = absurd first
-  each_same (v ∷ vs) ws no_terms first second = absurd first
   each_same [] (w ∷ ws) no_terms first second = absurd second
   each_same (v ∷ vs) [] (term t ts) first second = absurd second
+  each_same vs ws ts first second = absurd first
 
   each_some : (ts : Terms) (i : ℕ) → elements_fault form i ts ≡ None → (vs : List A) × Each Is vs ts
   each_some no_terms i none = ([], tt)
@@ -164,12 +150,7 @@ module _ {A : Type 0} (form : Form) (Is : A → Term → Type 0) (item : A → T
 
   single : (t : Term) → IsAlone t → Single t
   single (array ts) no_array = absurd no_array
-  single (integer z) no_array = by_length (integer z) (λ e. e) (λ v is. is) (λ v w vs e. e)
-  single (octets s) no_array = by_length (octets s) (λ e. e) (λ v is. is) (λ v w vs e. e)
-  single (text s) no_array = by_length (text s) (λ e. e) (λ v is. is) (λ v w vs e. e)
-  single (map ps) no_array = by_length (map ps) (λ e. e) (λ v is. is) (λ v w vs e. e)
-  single (tagged n t) no_array = by_length (tagged n t) (λ e. e) (λ v is. is) (λ v w vs e. e)
-  single (boolean b) no_array = by_length (boolean b) (λ e. e) (λ v is. is) (λ v w vs e. e)
+  single t no_array = by_length t (λ e. e) (λ v is. is) (λ v w vs e. e)
 
   single_told : (vs : List A) (t : Term) → IsAlone t → field_fault (one_or_more form) t ≡ field_fault (one form) t → OneOrMore Is vs t
       → Told (one_or_more form) (OneOrMore Is) (λ us. row_item (items_of us)) (next least) vs t
@@ -180,12 +161,7 @@ module _ {A : Type 0} (form : Form) (Is : A → Term → Type 0) (item : A → T
 
   several_told : (vs : List A) (t : Term) → OneOrMore Is vs t → Told (one_or_more form) (OneOrMore Is) (λ us. row_item (items_of us)) (next least) vs t
   several_told vs (array ts) is = array_told form Is item least plain vs ts is.0 (each_told vs ts is.1)
-  several_told vs (integer z) is = single_told vs (integer z) tt refl is
-  several_told vs (octets s) is = single_told vs (octets s) tt refl is
-  several_told vs (text s) is = single_told vs (text s) tt refl is
-  several_told vs (map ps) is = single_told vs (map ps) tt refl is
-  several_told vs (tagged n t) is = single_told vs (tagged n t) tt refl is
-  several_told vs (boolean b) is = single_told vs (boolean b) tt refl is
+  several_told vs t is = single_told vs t tt refl is
 
   single_same : (vs ws : List A) (t : Term) → IsAlone t → OneOrMore Is vs t → OneOrMore Is ws t → vs ≡ ws
   single_same vs ws t no_array first second =
@@ -195,12 +171,7 @@ module _ {A : Type 0} (form : Form) (Is : A → Term → Type 0) (item : A → T
 
   several_same : (vs ws : List A) (t : Term) → OneOrMore Is vs t → OneOrMore Is ws t → vs ≡ ws
   several_same vs ws (array ts) first second = each_same vs ws ts first.1 second.1
-  several_same vs ws (integer z) first second = single_same vs ws (integer z) tt first second
-  several_same vs ws (octets s) first second = single_same vs ws (octets s) tt first second
-  several_same vs ws (text s) first second = single_same vs ws (text s) tt first second
-  several_same vs ws (map ps) first second = single_same vs ws (map ps) tt first second
-  several_same vs ws (tagged n t) first second = single_same vs ws (tagged n t) tt first second
-  several_same vs ws (boolean b) first second = single_same vs ws (boolean b) tt first second
+  several_same vs ws t first second = single_same vs ws t tt first second
 
   elements_some : (ts : Terms) → field_fault (one_or_more form) (array ts) ≡ None → (vs : List A) × OneOrMore Is vs (array ts)
   elements_some no_terms none = wrong none
@@ -210,12 +181,7 @@ module _ {A : Type 0} (form : Form) (Is : A → Term → Type 0) (item : A → T
 
   several_some : (t : Term) → field_fault (one_or_more form) t ≡ None → (vs : List A) × OneOrMore Is vs t
   several_some (array ts) none = elements_some ts none
-  several_some (integer z) none = let found = law.some (integer z) none in (found.0 ∷ [], found.1)
-  several_some (octets s) none = let found = law.some (octets s) none in (found.0 ∷ [], found.1)
-  several_some (text s) none = let found = law.some (text s) none in (found.0 ∷ [], found.1)
-  several_some (map ps) none = let found = law.some (map ps) none in (found.0 ∷ [], found.1)
-  several_some (tagged n t) none = let found = law.some (tagged n t) none in (found.0 ∷ [], found.1)
-  several_some (boolean b) none = let found = law.some (boolean b) none in (found.0 ∷ [], found.1)
+  several_some t none = let found = law.some t none in (found.0 ∷ [], found.1)
 
   pub several_law : Lawful (one_or_more form) (OneOrMore Is) (λ vs. row_item (map_list item vs)) (next least)
   several_law = record { told = several_told; same = several_same; some = several_some }

@@ -1,12 +1,12 @@
 -- What is read of a proper item states sizes that an item holds.
-use Rattle.std.proofs.Common.{◌≡◌, ◌<◌, ◌^◌, ℕ, List, [], ◌∷◌, Option, Some, None, refl, subst}
+use Rattle.std.proofs.Common.{◌<◌, ◌^◌, ℕ, List, [], ◌∷◌, Option, Some, refl, subst}
 use Rattle.std.proofs.lemmas.List.Elements.{All-nil, All-cons}
 use Rattle.std.specs.List.{All}
 use Rattle.std.specs.Option.{ForSome}
 use Rattle.std.specs.Prelude.{IfSome}
 use Rattle.cbor_det.specs.Lookup.{value_under}
 use Rattle.cbor_det.specs.Proper.{IsProper, AreProper, ArePairsProper}
-use Rattle.cbor_det.specs.Term.{Term, Terms, Pairs, integer, octets, text, array, map, tagged, boolean, no_terms, term}
+use Rattle.cbor_det.specs.Term.{Term, Terms, Pairs, array, map, no_terms, term}
 use Rattle.coswid_res.specs.declared.resources.directory.DirEntry.{DirEntry, out-DirEntry}
 use Rattle.coswid_res.specs.declared.resources.directory.PathElements.{PathElements, out-PathElements}
 use Rattle.coswid_res.specs.declared.resources.evidence.Evidence.{Evidence}
@@ -35,8 +35,7 @@ module _ {A : Type 0} (Is : A → Term → Type 0) (Fits : A → Type 0) (one : 
   each_fits : (vs : List A) (ts : Terms) → Each Is vs ts → AreProper ts → All Fits vs
   each_fits [] no_terms each proper = All-nil Fits
   each_fits (v ∷ vs) (term t ts) each proper = All-cons Fits v vs (one v t each.0 proper.0) (each_fits vs ts each.1 proper.1)
-  each_fits [] (term t ts) each proper = absurd each
-  each_fits (v ∷ vs) no_terms each proper = absurd each
+  each_fits vs ts each proper = absurd each
 
   lone : (v : A) (t : Term) → Is v t → IsProper t → All Fits (v ∷ [])
   lone v t is proper = All-cons Fits v [] (one v t is proper) (All-nil Fits)
@@ -44,35 +43,14 @@ module _ {A : Type 0} (Is : A → Term → Type 0) (Fits : A → Type 0) (one : 
   -- in an array, or alone
   pub several_fit : (vs : List A) (t : Term) → OneOrMore Is vs t → IsProper t → All Fits vs
   several_fit vs (array ts) is proper = each_fits vs ts is.1 proper
-  several_fit (v ∷ []) (integer z) is proper = lone v (integer z) is proper
-  several_fit [] (integer z) is proper = absurd is
-  several_fit (v ∷ w ∷ vs) (integer z) is proper = absurd is
-  several_fit (v ∷ []) (octets s) is proper = lone v (octets s) is proper
-  several_fit [] (octets s) is proper = absurd is
-  several_fit (v ∷ w ∷ vs) (octets s) is proper = absurd is
-  several_fit (v ∷ []) (text s) is proper = lone v (text s) is proper
-  several_fit [] (text s) is proper = absurd is
-  several_fit (v ∷ w ∷ vs) (text s) is proper = absurd is
-  several_fit (v ∷ []) (map ps) is proper = lone v (map ps) is proper
-  several_fit [] (map ps) is proper = absurd is
-  several_fit (v ∷ w ∷ vs) (map ps) is proper = absurd is
-  several_fit (v ∷ []) (tagged n t) is proper = lone v (tagged n t) is proper
-  several_fit [] (tagged n t) is proper = absurd is
-  several_fit (v ∷ w ∷ vs) (tagged n t) is proper = absurd is
-  several_fit (v ∷ []) (boolean b) is proper = lone v (boolean b) is proper
-  several_fit [] (boolean b) is proper = absurd is
-  several_fit (v ∷ w ∷ vs) (boolean b) is proper = absurd is
+  several_fit (v ∷ []) t is proper = lone v t is proper
+  several_fit vs t is proper = absurd is
 
 -- Where the values of a map fit that is proper, those of an item that is one do.
 map_fits : {A : Type 0} (Are : A → Pairs → Type 0) (Fits : A → Type 0) → ((v : A) (ps : Pairs) → Are v ps → ArePairsProper ps → Fits v)
     → (v : A) (t : Term) → IsMap (Are v) t → IsProper t → Fits v
 map_fits Are Fits one v (map ps) is proper = one v ps is proper.1
-map_fits Are Fits one v (integer z) is proper = absurd is
-map_fits Are Fits one v (octets s) is proper = absurd is
-map_fits Are Fits one v (text s) is proper = absurd is
-map_fits Are Fits one v (array ts) is proper = absurd is
-map_fits Are Fits one v (tagged n t) is proper = absurd is
-map_fits Are Fits one v (boolean b) is proper = absurd is
+map_fits Are Fits one v t is proper = absurd is
 
 size_fits : (n : ℕ) (t : Term) → Unsigned n t → IsProper t → n < 2 ^ 63
 size_fits n t is proper = subst IsProper is proper

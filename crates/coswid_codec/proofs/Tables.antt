@@ -8,12 +8,13 @@ use Rattle.cbor_det.specs.Term.{Term, Pairs, map, pair_count, pairs_depth}
 use Rattle.cbor_det.proofs.Counts.{most, pairs_most}
 use Rattle.coswid_res.specs.Fault.{absent, missing}
 use Rattle.coswid_res.specs.Reading.{value_fault, line_fault, lines_fault, keys_fault}
-use Rattle.coswid_res.specs.Schema.{Name, tag, entity, link, software_meta, payload, evidence, directory, path_elements, file, process, resource, table, Line, Field, required, optional, key_of, keys_of, required_keys}
+use Rattle.coswid_res.specs.Schema.{Name, tag, table, Line, Field, required, optional, key_of, keys_of, required_keys}
 use Rattle.coswid_res.proofs.Lines.{table_rises, none_first}
 use Rattle.coswid_res.proofs.Maps.{or_none}
 use Rattle.coswid_codec.proofs.Fields.{number, others_again}
 use Rattle.coswid_codec.proofs.Lengths.{others_count, others_most, put_count, put_most}
 use Rattle.coswid_codec.proofs.Facts.{put_if, Facts}
+use Rattle.coswid_codec.proofs.Lawful.{MapTold}
 use Rattle.coswid_codec.proofs.Placed.{AreFree, table_listed, all_free, placed, fills_placed, look, is_line, looked, others_placed, placed_proper, placed_within, others_proper, others_within}
 
 -- No line has a fault.
@@ -26,14 +27,12 @@ none_missing least ps [] [] facts = refl
 none_missing least ps (required k field ∷ lines) (e ∷ es) facts =
     none_first (absent k (value_under k ps)) (missing (required_keys lines) ps) (required_none k field ps facts.0.none) ∙ none_missing least ps lines es facts.1
 none_missing least ps (optional k field ∷ lines) (e ∷ es) facts = none_missing least ps lines es facts.1
-none_missing least ps [] (e ∷ es) facts = absurd facts
-none_missing least ps (line ∷ lines) [] facts = absurd facts
+none_missing least ps lines es facts = absurd facts
 
 pub lines_none : (least : ℕ) (ps : Pairs) (lines : List Line) (es : List Row) → Facts least ps lines es → lines_fault lines ps ≡ None
 lines_none least ps [] [] facts = refl
 lines_none least ps (line ∷ lines) (e ∷ es) facts = none_first (line_fault line ps) (lines_fault lines ps) facts.0.none ∙ lines_none least ps lines es facts.1
-lines_none least ps [] (e ∷ es) facts = absurd facts
-lines_none least ps (line ∷ lines) [] facts = absurd facts
+lines_none least ps lines es facts = absurd facts
 
 -- No part of it has many more.
 
@@ -46,31 +45,20 @@ placed_most : (least : ℕ) (ps : Pairs) (n : ℕ) (lines : List Line) (es : Lis
 placed_most least ps n [] [] qs facts read le = le
 placed_most least ps n (line ∷ lines) (e ∷ es) qs facts read le =
     placed_most least ps n lines es (put_if (key_of line) e.1 qs) facts.1 read (if_most (n + 16) (key_of line) e.1 qs (facts.0.few n read) le)
-placed_most least ps n [] (e ∷ es) qs facts read le = absurd facts
-placed_most least ps n (line ∷ lines) [] qs facts read le = absurd facts
+placed_most least ps n lines es qs facts read le = absurd facts
 
 if_count : (k : ℕ) (o : Option Term) (qs : Pairs) → pair_count (put_if k o qs) ≤ pair_count qs + 1
 if_count k None qs = omega arith
 if_count k (Some t) qs = omega (arith, put_count (number k) t qs)
 
 placed_count : (lines : List Line) (es : List Row) (qs : Pairs) → pair_count (placed lines es qs) ≤ pair_count qs + length lines
-placed_count [] es qs = omega arith
-placed_count (line ∷ lines) [] qs = omega arith
 placed_count (line ∷ lines) (e ∷ es) qs =
     let l = placed_count lines es (put_if (key_of line) e.1 qs) in let m = if_count (key_of line) e.1 qs in omega (arith, l, m)
+placed_count lines es qs = omega arith
 
 table_short : (name : Name) → length (table name) ≤ 16
 table_short tag = omega arith
-table_short entity = omega arith
-table_short link = omega arith
-table_short software_meta = omega arith
-table_short payload = omega arith
-table_short evidence = omega arith
-table_short directory = omega arith
-table_short path_elements = omega arith
-table_short file = omega arith
-table_short process = omega arith
-table_short resource = omega arith
+table_short name = omega arith
 
 placed_few : (least : ℕ) (ps : Pairs) (name : Name) (es : List Row) (n : ℕ) → Facts least ps (table name) es → most (map ps) ≤ n → (qs : Pairs) → pair_count qs ≤ n → pairs_most qs ≤ n
     → most (map (placed (table name) es qs)) ≤ n + 16
@@ -111,4 +99,17 @@ made name es xs least ps facts is =
           let Q : Pairs → Type 0 = λ qs. (pair_count qs ≤ n) × (pairs_most qs ≤ n) in
           let others : Q xs = subst Q (sym is) (omega (arith, d, others_count ns ps), others_most ns ps n (omega (arith, d))) in
           subst D (sym e) (placed_few least ps name es n facts read xs others.0 others.1);
+    }
+
+-- What is known of a map that is written from rows and others.
+pub made_told : {A : Type 0} {name : Name} {Keys : A → Pairs → Type 0} {pairs : A → Pairs} {es : List Row} {xs : Pairs} {least : ℕ} {v : A} {ps : Pairs} → Made name es xs least ps → put_rows es xs ≡ pairs v
+    → Keys v (pairs v) → MapTold name Keys pairs least v ps
+made_told all e again =
+    let P : Pairs → Type 0 = λ qs. IsProperMap qs in
+    record {
+      none = all.none;
+      again = again;
+      proper = λ p. subst P e (all.proper p);
+      within = λ n le deep. let D : Pairs → Type 0 = λ qs. pairs_depth qs ≤ n in subst D e (all.within n le deep);
+      few = λ n le. let D : Pairs → Type 0 = λ qs. most (map qs) ≤ n + 16 in subst D e (all.few n le);
     }

@@ -19,7 +19,7 @@ use Rattle.coswid_codec.proofs.Extras.{extras_some, extras_same}
 use Rattle.coswid_codec.proofs.Lawful.{MapTold, MapLawful}
 use Rattle.coswid_codec.proofs.Lines.{line_none, required_again, required_same, required_some, optional_again, optional_same, optional_some}
 use Rattle.coswid_codec.proofs.Facts.{◌⨾◌, Facts, required_fact, optional_fact}
-use Rattle.coswid_codec.proofs.Tables.{made}
+use Rattle.coswid_codec.proofs.Tables.{made, made_told}
 
 facts : (g : Tag) (ps : Pairs) → TagKeys g ps → Facts 4 ps (table schema.tag) (tag_rows g)
 facts g ps is =
@@ -43,30 +43,24 @@ facts g ps is =
 told : (g : Tag) (ps : Pairs) → TagKeys g ps → MapTold schema.tag TagKeys tag_pairs 4 g ps
 told g ps is =
     let all = made schema.tag (tag_rows g) (pairs_view g.extras) 4 ps (facts g ps is) is.extras in
-    record {
-      none = all.none;
-      again = record {
-        tag_id = required_again 0 g.tag_id ps (tag_pairs g) identifier_law is.tag_id (all.found 0 refl);
-        software_name = required_again 1 g.software_name ps (tag_pairs g) text_law is.software_name (all.found 1 refl);
-        entity = required_again 2 g.entity ps (tag_pairs g) entities_law is.entity (all.found 2 refl);
-        evidence = optional_again 3 g.evidence ps (tag_pairs g) evidence_law is.evidence (all.found 3 refl);
-        link = optional_again 4 g.link ps (tag_pairs g) links_law is.link (all.found 4 refl);
-        software_meta = optional_again 5 g.software_meta ps (tag_pairs g) metas_law is.software_meta (all.found 5 refl);
-        payload = optional_again 6 g.payload ps (tag_pairs g) payload_law is.payload (all.found 6 refl);
-        corpus = optional_again 8 g.corpus ps (tag_pairs g) boolean_law is.corpus (all.found 8 refl);
-        patch = optional_again 9 g.patch ps (tag_pairs g) boolean_law is.patch (all.found 9 refl);
-        media = optional_again 10 g.media ps (tag_pairs g) text_law is.media (all.found 10 refl);
-        supplemental = optional_again 11 g.supplemental ps (tag_pairs g) boolean_law is.supplemental (all.found 11 refl);
-        tag_version = required_again 12 g.tag_version ps (tag_pairs g) integer_law is.tag_version (all.found 12 refl);
-        software_version = optional_again 13 g.software_version ps (tag_pairs g) text_law is.software_version (all.found 13 refl);
-        version_scheme = optional_again 14 g.version_scheme ps (tag_pairs g) code_law is.version_scheme (all.found 14 refl);
-        lang = optional_again 15 g.lang ps (tag_pairs g) text_law is.lang (all.found 15 refl);
-        extras = all.rest;
-      };
-      proper = all.proper;
-      within = λ n le deep. all.within n le deep;
-      few = all.few;
-    }
+    made_told all refl (record {
+      tag_id = required_again 0 g.tag_id ps (tag_pairs g) identifier_law is.tag_id (all.found 0 refl);
+      software_name = required_again 1 g.software_name ps (tag_pairs g) text_law is.software_name (all.found 1 refl);
+      entity = required_again 2 g.entity ps (tag_pairs g) entities_law is.entity (all.found 2 refl);
+      evidence = optional_again 3 g.evidence ps (tag_pairs g) evidence_law is.evidence (all.found 3 refl);
+      link = optional_again 4 g.link ps (tag_pairs g) links_law is.link (all.found 4 refl);
+      software_meta = optional_again 5 g.software_meta ps (tag_pairs g) metas_law is.software_meta (all.found 5 refl);
+      payload = optional_again 6 g.payload ps (tag_pairs g) payload_law is.payload (all.found 6 refl);
+      corpus = optional_again 8 g.corpus ps (tag_pairs g) boolean_law is.corpus (all.found 8 refl);
+      patch = optional_again 9 g.patch ps (tag_pairs g) boolean_law is.patch (all.found 9 refl);
+      media = optional_again 10 g.media ps (tag_pairs g) text_law is.media (all.found 10 refl);
+      supplemental = optional_again 11 g.supplemental ps (tag_pairs g) boolean_law is.supplemental (all.found 11 refl);
+      tag_version = required_again 12 g.tag_version ps (tag_pairs g) integer_law is.tag_version (all.found 12 refl);
+      software_version = optional_again 13 g.software_version ps (tag_pairs g) text_law is.software_version (all.found 13 refl);
+      version_scheme = optional_again 14 g.version_scheme ps (tag_pairs g) code_law is.version_scheme (all.found 14 refl);
+      lang = optional_again 15 g.lang ps (tag_pairs g) text_law is.lang (all.found 15 refl);
+      extras = all.rest;
+    })
 
 abbrev fields : Tag → Tag
 fields g = record { tag_id = g.tag_id; software_name = g.software_name; entity = g.entity; evidence = g.evidence; link = g.link; software_meta = g.software_meta; payload = g.payload; corpus = g.corpus; patch = g.patch; media = g.media; supplemental = g.supplemental; tag_version = g.tag_version; software_version = g.software_version; version_scheme = g.version_scheme; lang = g.lang; extras = g.extras }

@@ -5,7 +5,7 @@ use Rattle.cbor_det.specs.Canonical.{canon}
 use Rattle.cbor_det.specs.Faults.{Begins}
 use Rattle.cbor_det.specs.Lookup.{value_under}
 use Rattle.cbor_det.specs.Proper.{IsProper}
-use Rattle.cbor_det.specs.Term.{Term, integer, octets, text, array, map, tagged, boolean, depth}
+use Rattle.cbor_det.specs.Term.{Term, array, map, tagged, depth}
 use Rattle.cbor_det.proofs.Counts.{most, spelled_most}
 use Rattle.cbor_det.proofs.Written.{few_same, spelled_proper, written_begins}
 use Rattle.coswid_res.specs.Fault.{field_fault, fault}
@@ -39,9 +39,8 @@ one_tag g h t first second = law.same g h (content t) first.keys second.keys
 
 some_by : (b both : Bool) (t : Term) → is_deep t ≡ b → has_both (content t) ≡ both
     → (if b then fault 4 [] else (if both then fault 3 [] else field_fault (one (a_map schema.tag)) (content t))) ≡ None → (g : Tag) × TagForm g t
-some_by true both t deep apart none = absurd cc
-some_by false true t deep apart none = absurd cc
 some_by false false t deep apart none = let found = law.some (content t) none in (found.0, record { keys = found.1; one_of_them = apart; shallow = deep })
+some_by b both t deep apart none = absurd cc
 
 pub no_fault_or_no_tag : NoFaultOrNoTag
 no_fault_or_no_tag t = (some_by (is_deep t) (has_both (content t)) t refl refl, λ found. form_none found.0 t found.1)
@@ -49,21 +48,15 @@ no_fault_or_no_tag t = (some_by (is_deep t) (has_both (content t)) t refl refl, 
 -- A map has both where the tag that is read from it has.
 
 agrees : {A : Type 0} (Is : A → Term → Type 0) (x : Option A) (o : Option Term) → Agree Is x o → is_some o ≡ is_some x
-agrees Is None None is = refl
-agrees Is (Some v) (Some t) is = refl
 agrees Is None (Some t) is = absurd is
 agrees Is (Some v) None is = absurd is
+agrees Is x o is = refl
 
 both_of : (g : Tag) (t : Term) → IsMap (TagKeys g) t → has_both t ≡ (is_some g.evidence && is_some g.payload)
 both_of g (map ps) is =
     ap (λ (b : Bool). b && is_some (value_under 6 ps)) (agrees EvidenceMap g.evidence (value_under 3 ps) is.evidence)
     ∙ ap (λ (b : Bool). is_some g.evidence && b) (agrees PayloadMap g.payload (value_under 6 ps) is.payload)
-both_of g (integer z) is = absurd is
-both_of g (octets s) is = absurd is
-both_of g (text s) is = absurd is
-both_of g (array ts) is = absurd is
-both_of g (tagged n t) is = absurd is
-both_of g (boolean b) is = absurd is
+both_of g t is = absurd is
 
 -- How deep the written item is.
 
@@ -73,12 +66,9 @@ under_tag false n t shallow deep = let l : depth t + 1 < 64 = leb-false 64 (dept
 
 content_depth : (t : Term) → is_deep t ≡ false → depth t ≤ 64 → depth (content t) ≤ 63
 content_depth (tagged n t) shallow deep = under_tag (n == coswid) n t shallow deep
-content_depth (integer z) shallow deep = omega arith
-content_depth (octets s) shallow deep = omega arith
-content_depth (text s) shallow deep = omega arith
 content_depth (array ts) shallow deep = let l : depth (array ts) < 64 = leb-false 64 (depth (array ts)) shallow in omega (arith, l)
 content_depth (map ps) shallow deep = let l : depth (map ps) < 64 = leb-false 64 (depth (map ps)) shallow in omega (arith, l)
-content_depth (boolean b) shallow deep = omega arith
+content_depth t shallow deep = omega arith
 
 pub written_depth : (g : Tag) (t : Term) → depth t ≤ 64 → TagForm g t → depth (tag_item g) ≤ 64
 written_depth g t deep form =
@@ -93,12 +83,7 @@ proper_by false n t proper = proper
 
 content_proper : (t : Term) → IsProper t → IsProper (content t)
 content_proper (tagged n t) proper = proper_by (n == coswid) n t proper
-content_proper (integer z) proper = proper
-content_proper (octets s) proper = proper
-content_proper (text s) proper = proper
-content_proper (array ts) proper = proper
-content_proper (map ps) proper = proper
-content_proper (boolean b) proper = proper
+content_proper t proper = proper
 
 written_proper : (g : Tag) (t : Term) → IsProper t → TagForm g t → IsProper (tag_item g)
 written_proper g t proper form = (omega arith, (law.told g (content t) form.keys).proper (content_proper t proper))
@@ -144,12 +129,7 @@ content_by false n t = omega arith
 
 content_most : (t : Term) → most (content t) ≤ most t
 content_most (tagged n t) = content_by (n == coswid) n t
-content_most (integer z) = omega arith
-content_most (octets s) = omega arith
-content_most (text s) = omega arith
-content_most (array ts) = omega arith
-content_most (map ps) = omega arith
-content_most (boolean b) = omega arith
+content_most t = omega arith
 
 written_few : (g : Tag) (n : ℕ) (input : List ℕ) → BeginsTag input g n → most (tag_item g) < 2 ^ 64
 written_few g n input is =

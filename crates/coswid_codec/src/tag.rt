@@ -116,8 +116,8 @@ struct FirstFields {
     link: Option<List<LinkEntry>>,
 }
 
-/// The fields from `tag-id` to `link`, taken out of the pairs; `Form` with the first form fault under them;
-/// `Memory` where there is no room.
+/// The fields from `tag-id` to `link`, taken out of the pairs; `Form` with the first form
+/// fault under them; `Memory` where there is no room.
 #[tactic(auto, using(crate::proofs::Takes::still, crate::proofs::Takes::others_of))]
 fn read_first(alloc: Global, pairs: &mut Pairs) -> Result<FirstFields, FormRefused>
     ensures told { Gives (λ fields. FirstTagKeys fields (pairs_view pairs.old)) (lines_fault (first_lines schema.tag) (pairs_view pairs.old)) result }
@@ -142,8 +142,8 @@ struct SecondFields {
     media: Option<Text>,
 }
 
-/// The fields from `software-meta` to `media`, taken out of the pairs; `Form` with the first form fault under them;
-/// `Memory` where there is no room.
+/// The fields from `software-meta` to `media`, taken out of the pairs; `Form` with the first form
+/// fault under them; `Memory` where there is no room.
 #[tactic(auto, using(crate::proofs::Takes::still, crate::proofs::Takes::others_of))]
 fn read_second(alloc: Global, pairs: &mut Pairs) -> Result<SecondFields, FormRefused>
     ensures told { Gives (λ fields. SecondTagKeys fields (pairs_view pairs.old)) (lines_fault (second_lines schema.tag) (pairs_view pairs.old)) result }
@@ -168,8 +168,8 @@ struct ThirdFields {
     lang: Option<Text>,
 }
 
-/// The fields from `supplemental` to `lang`, taken out of the pairs; `Form` with the first form fault under them;
-/// `Memory` where there is no room.
+/// The fields from `supplemental` to `lang`, taken out of the pairs; `Form` with the first form
+/// fault under them; `Memory` where there is no room.
 #[tactic(auto, using(crate::proofs::Takes::still, crate::proofs::Takes::others_of))]
 fn read_third(alloc: Global, pairs: &mut Pairs) -> Result<ThirdFields, FormRefused>
     ensures told { Gives (λ fields. ThirdTagKeys fields (pairs_view pairs.old)) (lines_fault (third_lines schema.tag) (pairs_view pairs.old)) result }

@@ -1,7 +1,7 @@
 -- What stands under the keys of directories, in the words of the tables and case by case.
 use Rattle.std.proofs.Common.{List, [], ◌∷◌, Option, Some, None}
 use Rattle.cbor_det.specs.Lookup.{value_under}
-use Rattle.cbor_det.specs.Term.{Term, Terms, Pairs, integer, octets, text, array, map, tagged, boolean, no_terms, term}
+use Rattle.cbor_det.specs.Term.{Term, Terms, Pairs, array, map, no_terms, term}
 use Rattle.coswid_res.specs.declared.resources.directory.DirEntry.{DirEntry}
 use Rattle.coswid_res.specs.declared.resources.directory.PathElements.{PathElements}
 use Rattle.coswid_res.specs.declared.resources.directory.DirEntry.TheOpen.{DirEntry-F, PathElements-F}
@@ -14,51 +14,22 @@ use Rattle.coswid_res.specs.Words.{Agree, Each, OneOrMore, Optional}
 
 pub path_under : (x : Option PathElements) (o : Option Term) → Agree PathMap x o → PathUnder x o
 path_under None None is = no_path
-path_under None (Some t) is = absurd is
-path_under (Some p) None is = absurd is
 path_under (Some p) (Some (map ps)) is = path p ps is
-path_under (Some p) (Some (array ts)) is = absurd is
-path_under (Some p) (Some (integer z)) is = absurd is
-path_under (Some p) (Some (octets s)) is = absurd is
-path_under (Some p) (Some (text s)) is = absurd is
-path_under (Some p) (Some (tagged n t)) is = absurd is
-path_under (Some p) (Some (boolean b)) is = absurd is
+path_under x o is = absurd is
 
 pub each_directory : (ds : List DirEntry) (ts : Terms) → Each DirectoryMap ds ts → EachDirectory ds ts
 each_directory [] no_terms is = no_more
 each_directory [] (term t ts) is = absurd is
 each_directory (d ∷ ds) no_terms is = absurd is
 each_directory (d ∷ ds) (term (map ps) ts) is = one_more d ds ps ts is.0 (each_directory ds ts is.1)
-each_directory (d ∷ ds) (term (array us) ts) is = absurd is.0
-each_directory (d ∷ ds) (term (integer z) ts) is = absurd is.0
-each_directory (d ∷ ds) (term (octets s) ts) is = absurd is.0
-each_directory (d ∷ ds) (term (text s) ts) is = absurd is.0
-each_directory (d ∷ ds) (term (tagged n t) ts) is = absurd is.0
-each_directory (d ∷ ds) (term (boolean b) ts) is = absurd is.0
+each_directory (d ∷ ds) ts is = absurd is.0
 
 pub directories_under : (x : Option (List DirEntry)) (o : Option Term) → Agree (OneOrMore DirectoryMap) x o → DirectoriesUnder x o
 directories_under None None is = no_directories
-directories_under None (Some t) is = absurd is
-directories_under (Some ds) None is = absurd is
 directories_under (Some ds) (Some (array ts)) is = several ds ts is.0 (each_directory ds ts is.1)
 directories_under (Some (d ∷ [])) (Some (map ps)) is = alone d ps is
-directories_under (Some []) (Some (map ps)) is = absurd is
-directories_under (Some (d ∷ e ∷ ds)) (Some (map ps)) is = absurd is
-directories_under (Some []) (Some (integer z)) is = absurd is
-directories_under (Some (d ∷ [])) (Some (integer z)) is = absurd is
-directories_under (Some (d ∷ e ∷ ds)) (Some (integer z)) is = absurd is
-directories_under (Some []) (Some (octets s)) is = absurd is
-directories_under (Some (d ∷ [])) (Some (octets s)) is = absurd is
-directories_under (Some (d ∷ e ∷ ds)) (Some (octets s)) is = absurd is
-directories_under (Some []) (Some (text s)) is = absurd is
-directories_under (Some (d ∷ [])) (Some (text s)) is = absurd is
-directories_under (Some (d ∷ e ∷ ds)) (Some (text s)) is = absurd is
-directories_under (Some []) (Some (tagged n t)) is = absurd is
-directories_under (Some (d ∷ [])) (Some (tagged n t)) is = absurd is
-directories_under (Some (d ∷ e ∷ ds)) (Some (tagged n t)) is = absurd is
-directories_under (Some []) (Some (boolean b)) is = absurd is
-directories_under (Some (d ∷ [])) (Some (boolean b)) is = absurd is
-directories_under (Some (d ∷ e ∷ ds)) (Some (boolean b)) is = absurd is
+directories_under (Some (d ∷ [])) (Some t) is = absurd is
+directories_under x o is = absurd is
 
 -- A directory that is made of its fields, and what it holds, are read from these pairs.
 pub directory_made : (d : DirEntry-F DirEntry PathElements) (ps : Pairs) → DirectoryKeys d ps → Optional keys.path_elements PathMap d.path_elements ps → DirectoryPairs (roll-DirEntry d) ps

@@ -6,7 +6,7 @@ use Rattle.cbor_det.specs.declared.item.Item.TheVariants as code
 use Rattle.cbor_det.specs.Term.{Term, Terms, term, array}
 use Rattle.cbor_det.specs.View.{view, terms_of}
 use Rattle.coswid_res.specs.declared.fault.FormRefused.{FormRefused}
-use Rattle.coswid_res.specs.Schema.{Form, one, one_or_more}
+use Rattle.coswid_res.specs.Schema.{Form, one_or_more}
 use Rattle.coswid_res.specs.Fault.{field_fault, elements_fault}
 use Rattle.coswid_res.specs.Reading.{Gives}
 use Rattle.coswid_res.specs.Words.{Each, OneOrMore}

@@ -3,7 +3,7 @@ use Rattle.std.proofs.Common.{◌≡◌, ℕ, Bool, true, false, IsTrue, List, [
 use Rattle.std.specs.Bool.{OnTrue}
 use Rattle.std.specs.List.{filter}
 use Rattle.std.specs.Result.{IsErrAnd}
-use Rattle.std.proofs.lemmas.List.{append-nil, append_assoc, map-append}
+use Rattle.std.proofs.lemmas.List.{append_assoc, map-append}
 use Rattle.std.proofs.lemmas.List.Elements.{filter-append}
 use Rattle.coswid_res.specs.declared.verification.verify.VerifyRefused.{VerifyRefused}
 use Rattle.coswid_res.specs.declared.verification.verify.VerifyRefused.TheVariants as refused

@@ -1,6 +1,6 @@
 -- Verdicts on files: one that is not read, one that is too long, and those on several files.
 use Rattle.std.proofs.Common.{◌≡◌, ◌<◌, ℕ, ℤ, List, [], ◌∷◌, ◌++◌, length, Option, Some, None, refl, sym, ap, subst, ◌∙◌, replicate, rules}
-use Rattle.std.proofs.lemmas.List.{append-nil, append_assoc, length-replicate}
+use Rattle.std.proofs.lemmas.List.{append_assoc, length-replicate}
 use Rattle.std.specs.Option.{IfSome}
 use Rattle.coswid_res.specs.declared.resources.hash.HashEntry.{HashEntry}
 use Rattle.coswid_res.specs.Listing.{ListedFile}
@@ -55,9 +55,8 @@ module _ (file : ListedFile) (h : HashEntry) (known : Algorithm) (number : ℤ) 
 -- Verdicts on some files, and on others after them.
 zipped : (told : Option (List NamedFile)) (first more : List ListedFile) (lines others : List Line) → IsVerdicts told first lines → IsVerdicts told more others → IsVerdicts told (first ++ more) (lines ++ others)
 zipped told [] more [] others is are = are
-zipped told [] more (line ∷ lines) others is are = elim is [ ]
-zipped told (file ∷ first) more [] others is are = elim is [ ]
 zipped told (file ∷ first) more (line ∷ lines) others is are = (is.0, zipped told first more lines others is.1 are)
+zipped told first more lines others is are = elim is [ ]
 
 pub one_added : (told : Option (List NamedFile)) (file : ListedFile) (before after : List Line) (line : Line) → IsLine told file line → after ≡ before ++ line ∷ [] → AddsVerdicts told (file ∷ []) before after
 one_added told file before after line is pushed = (line ∷ [], pushed, (is, tt {0}))
@@ -70,6 +69,5 @@ both_added told here first more before now after same was adds =
 -- Where all files are exposed, the verdicts are these.
 pub told_verdicts : (all : List NamedFile) (files : List ListedFile) (lines : List Line) → IsVerdicts (Some all) files lines → lines ≡ verdicts_of all files
 told_verdicts all [] [] is = refl
-told_verdicts all [] (line ∷ lines) is = elim is [ ]
-told_verdicts all (file ∷ files) [] is = elim is [ ]
 told_verdicts all (file ∷ files) (line ∷ lines) is = search (rules, told_verdicts all files lines is.1)
+told_verdicts all files lines is = elim is [ ]

@@ -12,10 +12,8 @@ use Rattle.coswid_res.specs.Fault.{hash_fault, wrong_form}
 use Rattle.coswid_res.specs.Reading.{Tells}
 
 others : (xs : List Item) → (length xs ≡ 2 → ⊥) → hash_fault (terms_of (map view xs)) ≡ wrong_form
-others [] not = refl
-others (x ∷ []) not = refl
 others (x ∷ y ∷ []) not = absurd (not refl)
-others (x ∷ y ∷ z ∷ zs) not = refl
+others xs not = refl
 
 here_told : (first : Option FormFault) (e : FormRefused) → first ≡ wrong_form → e ≡ refused.Form (record { kind = 2; path = [] }) → Tells first e
 here_told first e wrong is = let P : FormRefused → Type 0 = λ r. Tells first r in subst P (sym is) wrong

@@ -32,9 +32,7 @@ single_lt Greater x y is less = absurd (greater_less less)
 abbrev HasForm : Form → ℕ → Type 0
 HasForm direct n = n < 24
 HasForm one n = (24 ≤ n) × (n < 256)
-HasForm two n = 256 ≤ n
-HasForm four n = 256 ≤ n
-HasForm eight n = 256 ≤ n
+HasForm form n = 256 ≤ n
 
 has_form : (n : ℕ) → HasForm (shortest n) n
 has_form n =
@@ -66,12 +64,10 @@ in_order four direct n k has held small less =
 in_order eight direct n k has held small less =
     let le : 27 ≤ 32 * 0 + k = first_le (nat_cmp 27 (32 * 0 + k)) 27 (32 * 0 + k) (slice_cmp nat_cmp (octets_of 8 n) []) refl less in let h : k < 24 = held in omega (arith, le, h)
 in_order one one n k has held small less = one_one n k has.1 held.1 less
-in_order two one n k has held small less = absurd (greater_less less)
-in_order four one n k has held small less = absurd (greater_less less)
-in_order eight one n k has held small less = absurd (greater_less less)
 in_order f two n k has held small less = let h : 256 ≤ k = held in absurd (omega (arith, h, small))
 in_order f four n k has held small less = let h : 256 ≤ k = held in absurd (omega (arith, h, small))
 in_order f eight n k has held small less = let h : 256 ≤ k = held in absurd (omega (arith, h, small))
+in_order f g n k has held small less = absurd (greater_less less)
 
 pub numbers_in_order : (n k : ℕ) → k < 256 → slice_cmp nat_cmp (canon (integer (pos n))) (canon (integer (pos k))) ≡ Less → n < k
 numbers_in_order n k small less = in_order (shortest n) (shortest k) n k (has_form n) (has_form k) small less

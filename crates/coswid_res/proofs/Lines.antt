@@ -36,12 +36,7 @@ filled (required k field ∷ lines) ps none =
 -- what stands under a key that is not listed
 any_none : (t : Term) → field_fault (one anything) t ≡ None
 any_none (integer z) = refl
-any_none (octets s) = refl
-any_none (text s) = refl
-any_none (array ts) = refl
-any_none (map ps) = refl
-any_none (tagged n t) = refl
-any_none (boolean b) = refl
+any_none t = refl
 
 under_any : (place : ℕ) (t : Term) → under place (field_fault (one anything) t) ≡ None
 under_any place t = ap (λ (o : Option FormFault). under place o) (any_none t)
@@ -64,16 +59,7 @@ rises low (line ∷ lines) is =
 
 pub table_rises : (name : Name) → Rising 0 (table name)
 table_rises tag = rises 0 (table tag) refl
-table_rises entity = rises 0 (table entity) refl
-table_rises link = rises 0 (table link) refl
-table_rises software_meta = rises 0 (table software_meta) refl
-table_rises payload = rises 0 (table payload) refl
-table_rises evidence = rises 0 (table evidence) refl
-table_rises directory = rises 0 (table directory) refl
-table_rises path_elements = rises 0 (table path_elements) refl
-table_rises file = rises 0 (table file) refl
-table_rises process = rises 0 (table process) refl
-table_rises resource = rises 0 (table resource) refl
+table_rises name = rises 0 (table name) refl
 
 -- A pair whose key no line has changes nothing.
 apart : (lines : List Line) (low : ℕ) (key v : Term) (ps : Pairs) → Rising low lines → ((k : ℕ) → low ≤ k → is_unsigned k key ≡ false)
@@ -148,13 +134,7 @@ not_that n k (integer (pos m)) less le small =
     let P : ℕ → Type 0 = λ j. slice_cmp nat_cmp (canon (integer (pos n))) (canon (integer (pos j))) ≡ Less in
     let lt : n < k = numbers_in_order n k small (subst P e less) in
     omega (arith, lt, le))
-not_that n k (integer (negsuc m)) less le small = refl
-not_that n k (octets s) less le small = refl
-not_that n k (text s) less le small = refl
-not_that n k (array ts) less le small = refl
-not_that n k (map ps) less le small = refl
-not_that n k (tagged m t) less le small = refl
-not_that n k (boolean b) less le small = refl
+not_that n k l less le small = refl
 
 below_rest : (k l : Term) (ps : Pairs) → slice_cmp nat_cmp (canon k) (canon l) ≡ Less → IsBelow l ps → IsBelow k ps
 below_rest k l no_pairs less is = tt
@@ -179,13 +159,7 @@ pair_by_pair lines no_pairs up rise = sym (nothing_there lines)
 pair_by_pair lines (pair (integer (pos n)) v ps) up rise =
     ap (λ (rest : Option FormFault). or_else (under n (field_fault (look_up lines n) v)) rest) (pair_by_pair lines ps up rise.1)
     ∙ sym (adds lines 0 n v ps up (free_behind n ps rise.0 rise.1))
-pair_by_pair lines (pair (integer (negsuc n)) v ps) up rise = other lines (integer (negsuc n)) v ps up (λ k. refl) (pair_by_pair lines ps up rise.1)
-pair_by_pair lines (pair (octets s) v ps) up rise = other lines (octets s) v ps up (λ k. refl) (pair_by_pair lines ps up rise.1)
-pair_by_pair lines (pair (text s) v ps) up rise = other lines (text s) v ps up (λ k. refl) (pair_by_pair lines ps up rise.1)
-pair_by_pair lines (pair (array ts) v ps) up rise = other lines (array ts) v ps up (λ k. refl) (pair_by_pair lines ps up rise.1)
-pair_by_pair lines (pair (map qs) v ps) up rise = other lines (map qs) v ps up (λ k. refl) (pair_by_pair lines ps up rise.1)
-pair_by_pair lines (pair (tagged n t) v ps) up rise = other lines (tagged n t) v ps up (λ k. refl) (pair_by_pair lines ps up rise.1)
-pair_by_pair lines (pair (boolean b) v ps) up rise = other lines (boolean b) v ps up (λ k. refl) (pair_by_pair lines ps up rise.1)
+pair_by_pair lines (pair k v ps) up rise = other lines k v ps up (λ j. refl) (pair_by_pair lines ps up rise.1)
 
 pub line_by_line : LineByLine
 line_by_line name ps rise =

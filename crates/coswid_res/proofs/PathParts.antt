@@ -1,5 +1,5 @@
 -- The verdicts on the files of what holds files and directories, and the reads for them.
-use Rattle.std.proofs.Common.{◌≡◌, ℕ, List, [], ◌++◌, Option, Some, Result, Ok, Err, sym, ap, subst, ◌∙◌}
+use Rattle.std.proofs.Common.{◌≡◌, ℕ, List, [], ◌++◌, Option, Some, Result, Ok, Err, sym, ap, subst}
 use Rattle.std.specs.List.{flat_map}
 use Rattle.coswid_res.specs.declared.resources.directory.DirEntry.{DirEntry}
 use Rattle.coswid_res.specs.declared.resources.directory.PathElements.{PathElements, out-PathElements}
@@ -9,7 +9,7 @@ use Rattle.coswid_res.specs.declared.verification.verdict.Verdict.{Verdict}
 use Rattle.coswid_res.specs.declared.verification.verify.VerifyRefused.{VerifyRefused}
 use Rattle.coswid_res.specs.Listing.{ListedFile, directories_listing, directory_listing, files_listing, listed, path_listing}
 use Rattle.coswid_res.specs.Verify.{AddsVerdicts, Reads}
-use Rattle.coswid_res.proofs.FileReads.{AllRead, all_read, stopped_before, then_read}
+use Rattle.coswid_res.proofs.FileReads.{all_read, stopped_before, then_read}
 use Rattle.coswid_res.proofs.FileVerdicts.{both_added}
 use Rattle.coswid_res.proofs.Listings.{path_listed}
 use Rattle.wire_base.specs.declared.outside.files.NamedFile.{NamedFile}

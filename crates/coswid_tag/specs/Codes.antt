@@ -1,5 +1,5 @@
 -- Values of the registries: RFC 9393, section 4.
-use Rattle.std.specs.Prelude.{ℕ, ◌==◌, ℤ, pos, negsuc, Bool, false, List, codes}
+use Rattle.std.specs.Prelude.{ℕ, ◌==◌, pos, negsuc, Bool, false, List, codes}
 use Rattle.std.specs.Str.{bytes_eq}
 use Rattle.coswid_tag.specs.declared.rel.Rel.{Rel}
 use Rattle.coswid_tag.specs.declared.rel.Rel.TheVariants as rel

@@ -3,7 +3,6 @@
 use Rattle.std.specs.Prelude.{ℕ, Bool, true, false, not, ◌&&◌, ◌||◌, List, [], ◌∷◌, ◌++◌, Option, Some, None, if◌then◌else◌}
 use Rattle.std.specs.List.{list_any}
 use Rattle.coswid_tag.specs.declared.entity.Entity.{Entity}
-use Rattle.coswid_tag.specs.declared.link.LinkEntry.{LinkEntry}
 use Rattle.coswid_tag.specs.declared.tag.Tag.{Tag}
 use Rattle.coswid_tag.specs.Codes.{is_creator, patches, supplements}
 use Rattle.coswid_tag.specs.Kind.{is_true}

@@ -1,14 +1,13 @@
 -- The verdicts on the files of one directory more stand after those that there are, as do those on
 -- the files of the directories that something holds; where one is refused, so are all.
-use Rattle.std.proofs.Common.{◌≡◌, ◌<◌, ◌∙◌, ◌++◌, ℕ, List, Ok, Err, length, rules, subst, sym}
+use Rattle.std.proofs.Common.{◌<◌, ◌∙◌, ℕ, List, Ok, Err, length, rules, subst}
 use Rattle.std.specs.List.{flat_map}
 use Rattle.std.proofs.lemmas.Result.{on_ok_weaker}
 use Rattle.coswid_res.specs.declared.resources.directory.DirEntry.{DirEntry}
-use Rattle.coswid_res.specs.Listing.{ListedFile, directories_listing, directory_listing, files_listing, path_listing}
+use Rattle.coswid_res.specs.Listing.{directory_listing, path_listing}
 use Rattle.coswid_res.specs.Verify.{AddsVerdicts, Reads}
 use Rattle.coswid_res.proofs.FileParts.{reads_more, reads_refused, verdicts_more}
 use Rattle.coswid_res.proofs.FileReads.{handed_on}
-use Rattle.coswid_res.proofs.Listings.{path_listed}
 use Rattle.coswid_res.proofs.PathParts.{path_added, path_read, path_refused}
 use Rattle.coswid_res.proofs.verification.verify.+check.Goals as goal
 

@@ -1,6 +1,5 @@
 -- The verdict on one file more stands after those that there are; where it is refused, so are all.
-use Rattle.std.proofs.Common.{◌≡◌, ◌<◌, ◌∙◌, List, [], ◌∷◌, Err, length, rules, subst}
-use Rattle.std.specs.List.{flat_map}
+use Rattle.std.proofs.Common.{◌<◌, ◌∙◌, List, [], ◌∷◌, Err, length, rules, subst}
 use Rattle.coswid_res.specs.declared.resources.file.FileEntry.{FileEntry}
 use Rattle.coswid_res.specs.Listing.{ListedFile, files_listing, listed_file}
 use Rattle.coswid_res.specs.Verify.{Reads}
