@@ -1,7 +1,7 @@
 -- How deep the parts before are, and all of them.
 use Rattle.std.proofs.Common.{◌≡◌, ◌<◌, ◌≤◌, ◌+◌, ℕ, zero, suc, max, true, false, nat_le, List, [], ◌∷◌, ◌++◌, length, get_or, map, take, sym, ap, ◌∙◌, subst, arith}
 use Rattle.std.proofs.lemmas.Bool.{leb-true, leb-false, le-leb, lt-leb}
-use Rattle.std.proofs.lemmas.List.{take_more, take_all, map-append}
+use Rattle.std.proofs.lemmas.List.{take_more, map-append}
 use Rattle.cbor_det.specs.declared.item.Item.{Item}
 use Rattle.cbor_det.specs.Lookup.{key_at, value_at}
 use Rattle.cbor_det.specs.Term.{Term, Pairs, no_pairs, pair, pair_count, depth, terms_depth, pairs_depth}

@@ -3,10 +3,8 @@ use Rattle.std.proofs.Common.{◌≡◌, ◌≤◌, ℕ, zero, suc, ◌+◌, Lis
 use Rattle.std.specs.Option.{option_map}
 use Rattle.cbor_det.specs.Laid.{put_rows}
 use Rattle.cbor_det.specs.Lookup.{value_under, other_than}
-use Rattle.cbor_det.specs.Proper.{IsProperMap}
-use Rattle.cbor_det.specs.Term.{Term, Terms, Pairs, integer, octets, text, array, map, tagged, boolean, no_terms, term, depth, terms_depth, pairs_depth}
+use Rattle.cbor_det.specs.Term.{Term, Terms, Pairs, array, map, no_terms, term, depth, terms_depth, pairs_depth}
 use Rattle.cbor_det.specs.View.{pairs_view}
-use Rattle.cbor_det.proofs.Counts.{most}
 use Rattle.coswid_res.specs.declared.resources.directory.DirEntry.{DirEntry, out-DirEntry}
 use Rattle.coswid_res.specs.declared.resources.directory.PathElements.{PathElements, out-PathElements}
 use Rattle.coswid_res.specs.declared.resources.directory.DirEntry.TheOpen.{DirEntry-F, PathElements-F}
@@ -62,15 +60,15 @@ directory_by d ps keys held =
     let e : directory_pairs d ≡ qs = directory_written d in
     let all = made schema.directory (directory_rows d) (pairs_view o.extras) 0 ps (directory_facts d ps keys held) keys.extras in
     let again : DirectoryKeys o qs = record {
-      key = optional_again 22 o.key ps qs boolean_law keys.key (all.found 22 refl);
-      location = optional_again 23 o.location ps qs text_law keys.location (all.found 23 refl);
-      fs_name = required_again 24 o.fs_name ps qs text_law keys.fs_name (all.found 24 refl);
-      root = optional_again 25 o.root ps qs text_law keys.root (all.found 25 refl);
+      key = optional_again 22 o.key ps qs boolean_law keys.key all.holds.0;
+      location = optional_again 23 o.location ps qs text_law keys.location all.holds.1.0;
+      fs_name = required_again 24 o.fs_name ps qs text_law keys.fs_name all.holds.1.1.0;
+      root = optional_again 25 o.root ps qs text_law keys.root all.holds.1.1.1.0;
       extras = all.rest;
     } in
     let P : Option Term → Type 0 = λ u. PathUnder o.path_elements u in
     let inside : PathUnder o.path_elements (value_under 26 qs) =
-    subst P (sym (all.found 26 refl)) (path_under o.path_elements (option_map path_item o.path_elements)
+    subst P (sym all.holds.1.1.1.1.0) (path_under o.path_elements (option_map path_item o.path_elements)
     (again_by (one (a_map schema.path_elements)) PathMap path_item 0 o.path_elements (value_under 26 ps) held)) in
     let I : Pairs → Type 0 = λ rs. DirectoryPairs d rs in
     made_told all (sym e) (subst I (sym e) (directory d qs again inside))
@@ -92,12 +90,12 @@ path_by p ps keys held =
     let e : path_pairs p ≡ qs = path_written p in
     let all = made schema.path_elements (path_rows p) (pairs_view o.extras) 0 ps (path_facts p ps keys held) keys.extras in
     let again : PathKeys o qs = record {
-      file = optional_again 17 o.file ps qs files_law keys.file (all.found 17 refl);
+      file = optional_again 17 o.file ps qs files_law keys.file all.holds.1.0;
       extras = all.rest;
     } in
     let P : Option Term → Type 0 = λ u. DirectoriesUnder o.directory u in
     let inside : DirectoriesUnder o.directory (value_under 16 qs) =
-    subst P (sym (all.found 16 refl)) (directories_under o.directory (option_map directories_item o.directory)
+    subst P (sym all.holds.0) (directories_under o.directory (option_map directories_item o.directory)
     (again_by (one_or_more (a_map schema.directory)) (OneOrMore DirectoryMap) directories_item 0 o.directory (value_under 16 ps) held)) in
     let I : Pairs → Type 0 = λ rs. PathPairs p rs in
     made_told all (sym e) (subst I (sym e) (path_elements p qs again inside))
@@ -231,21 +229,21 @@ directories_under_some n o below bound none = wrong (under_none 16 wrong_form no
 
 directory_step : (n : ℕ) (ps : Pairs) → PathBelow n → pairs_depth ps ≤ n → keys_fault schema.directory ps ≡ None → (d : DirEntry) × DirectoryPairs d ps
 directory_step n ps below deep none =
-    let none_at = line_none schema.directory ps none in
-    let key = optional_some 22 ps boolean_law (none_at 22 _ refl) in
-    let location = optional_some 23 ps text_law (none_at 23 _ refl) in
-    let fs_name = required_some 24 ps text_law (none_at 24 _ refl) in
-    let root = optional_some 25 ps text_law (none_at 25 _ refl) in
-    let held = path_under_some n (value_under 26 ps) below (λ t e. under_within 26 ps t n e deep) (none_at 26 _ refl) in
+    let no = line_none schema.directory ps none in
+    let key = optional_some 22 ps boolean_law no.0 in
+    let location = optional_some 23 ps text_law no.1.0 in
+    let fs_name = required_some 24 ps text_law no.1.1.0 in
+    let root = optional_some 25 ps text_law no.1.1.1.0 in
+    let held = path_under_some n (value_under 26 ps) below (λ t e. under_within 26 ps t n e deep) no.1.1.1.1.0 in
     let extras = extras_some (other_than (keys_of (table schema.directory)) ps) in
     let d : DirEntry-F DirEntry PathElements = record { key = key.0; location = location.0; fs_name = fs_name.0; root = root.0; path_elements = held.0; extras = extras.0 } in
     (roll-DirEntry d, directory_made d ps (record { key = key.1; location = location.1; fs_name = fs_name.1; root = root.1; extras = extras.1 }) held.1)
 
 path_step : (n : ℕ) (ps : Pairs) → DirectoryBelow n → pairs_depth ps ≤ n → keys_fault schema.path_elements ps ≡ None → (p : PathElements) × PathPairs p ps
 path_step n ps below deep none =
-    let none_at = line_none schema.path_elements ps none in
-    let held = directories_under_some n (value_under 16 ps) below (λ t e. under_within 16 ps t n e deep) (none_at 16 _ refl) in
-    let file = optional_some 17 ps files_law (none_at 17 _ refl) in
+    let no = line_none schema.path_elements ps none in
+    let held = directories_under_some n (value_under 16 ps) below (λ t e. under_within 16 ps t n e deep) no.0 in
+    let file = optional_some 17 ps files_law no.1.0 in
     let extras = extras_some (other_than (keys_of (table schema.path_elements)) ps) in
     let p : PathElements-F DirEntry PathElements = record { directory = held.0; file = file.0; extras = extras.0 } in
     (roll-PathElements p, path_made p ps (record { file = file.1; extras = extras.1 }) held.1)

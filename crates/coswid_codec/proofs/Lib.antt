@@ -1,5 +1,6 @@
 pub mod Answered
 pub mod Codes
+pub mod Columns
 pub mod Depths
 pub mod Directories
 pub mod Entities

@@ -1,12 +1,12 @@
 -- What each line of a table gives: of a map that is written again, of two values read from one map,
 -- and of a map without a fault.
-use Rattle.std.proofs.Common.{◌≡◌, ◌≤◌, ◌-◌, ◌==◌, ℕ, Bool, true, false, List, [], ◌∷◌, Option, Some, None, if◌then◌else◌, refl, sym, ap, ◌∙◌, subst, arith}
+use Rattle.std.proofs.Common.{◌≡◌, ◌≤◌, ◌-◌, ℕ, List, [], ◌∷◌, Option, Some, None, refl, sym, ap, ◌∙◌, subst, arith}
 use Rattle.std.specs.Option.{option_map}
 use Rattle.cbor_det.specs.Lookup.{value_under}
 use Rattle.cbor_det.specs.Term.{Term, Pairs, map, pairs_depth}
 use Rattle.coswid_res.specs.Fault.{or_else, absent, missing, field_fault}
 use Rattle.coswid_res.specs.Reading.{value_fault, line_fault, lines_fault, keys_fault}
-use Rattle.coswid_res.specs.Schema.{Name, table, Line, Field, one, a_map, required, optional, key_of, required_keys}
+use Rattle.coswid_res.specs.Schema.{Name, table, Line, Field, one, a_map, required, optional, required_keys}
 use Rattle.coswid_res.specs.Words.{Agree, RequiredAt, OptionalAt, IsMap}
 use Rattle.coswid_res.proofs.Maps.{or_none, map_told}
 use Rattle.coswid_codec.proofs.Lawful.{Told, Lawful, MapTold, MapLawful, next, next_less, under_none, wrong}
@@ -53,24 +53,16 @@ optional_same k x y ps law first second = agree_same x y (value_under k ps) law 
 
 -- of a map without a fault
 
--- the line with a key
-abbrev pub line_of : ℕ → List Line → Option Line
-line_of k [] = None
-line_of k (line ∷ lines) = if key_of line == k then Some line else line_of k lines
+abbrev pub NoneEach : List Line → Pairs → Type 0
+NoneEach [] ps = Unit {0}
+NoneEach (line ∷ lines) ps = (line_fault line ps ≡ None) × NoneEach lines ps
 
-none_by : (b : Bool) (line l : Line) (o : Option Line) (ps : Pairs) → (if b then Some line else o) ≡ Some l → line_fault line ps ≡ None → (o ≡ Some l → line_fault l ps ≡ None)
-    → line_fault l ps ≡ None
-none_by true line l o ps e none rest = let is : line ≡ l = cc in subst (λ (m : Line). line_fault m ps ≡ None) is none
-none_by false line l o ps e none rest = rest e
+none_each : (lines : List Line) (ps : Pairs) → lines_fault lines ps ≡ None → NoneEach lines ps
+none_each [] ps none = tt
+none_each (line ∷ lines) ps none = let both = or_none (line_fault line ps) (lines_fault lines ps) none in (both.0, none_each lines ps both.1)
 
-none_in : (lines : List Line) (ps : Pairs) → lines_fault lines ps ≡ None → (k : ℕ) (line : Line) → line_of k lines ≡ Some line → line_fault line ps ≡ None
-none_in [] ps none k l e = absurd cc
-none_in (line ∷ lines) ps none k l e =
-    let both = or_none (line_fault line ps) (lines_fault lines ps) none in
-    none_by (key_of line == k) line l (line_of k lines) ps e both.0 (none_in lines ps both.1 k l)
-
-pub line_none : (name : Name) (ps : Pairs) → keys_fault name ps ≡ None → (k : ℕ) (line : Line) → line_of k (table name) ≡ Some line → line_fault line ps ≡ None
-line_none name ps none = none_in (table name) ps (or_none (missing (required_keys (table name)) ps) (lines_fault (table name) ps) none).1
+pub line_none : (name : Name) (ps : Pairs) → keys_fault name ps ≡ None → NoneEach (table name) ps
+line_none name ps none = none_each (table name) ps (or_none (missing (required_keys (table name)) ps) (lines_fault (table name) ps) none).1
 
 required_by : {A : Type 0} (field : Field) (Is : A → Term → Type 0) (item : A → Term) (most k : ℕ) (o : Option Term) → Lawful field Is item most
     → or_else (absent k o) (value_fault k field o) ≡ None → (v : A) × Agree Is (Some v) o

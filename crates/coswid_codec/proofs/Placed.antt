@@ -1,7 +1,7 @@
 -- The pairs with the fields of a table put into them: what stands under each key then, and that
 -- they are proper.
-use Rattle.std.proofs.Common.{◌≡◌, ◌≤◌, ◌<◌, ◌==◌, ◌^◌, ◌+◌, ◌&&◌, ℕ, max, Bool, true, false, List, [], ◌∷◌, Option, Some, None, if◌then◌else◌, refl, sym, ap, ◌∙◌, arith}
-use Rattle.std.proofs.lemmas.Bool.{and_parts, eqb-true, ne_eqb}
+use Rattle.std.proofs.Common.{◌≡◌, ◌≤◌, ◌<◌, ◌==◌, ◌^◌, ◌+◌, ◌&&◌, ℕ, max, Bool, true, false, List, [], ◌∷◌, Option, Some, None, if◌then◌else◌, refl, ap, ◌∙◌, arith}
+use Rattle.std.proofs.lemmas.Bool.{and_parts, ne_eqb}
 use Rattle.std.specs.Prelude.{IfSome}
 use Rattle.std.specs.declared.cmp.Ordering.TheVariants.{Less}
 use Rattle.cbor_det.specs.Laid.{Row, put_rows}
@@ -10,7 +10,7 @@ use Rattle.cbor_det.specs.Proper.{IsProper, ArePairsProper, IsProperMap}
 use Rattle.cbor_det.specs.Spelling.{IsBelow, Rises}
 use Rattle.cbor_det.specs.Term.{Term, Pairs, integer, no_pairs, pair, depth, pairs_depth}
 use Rattle.cbor_det.proofs.Order.{key_cmp, below_trans}
-use Rattle.coswid_res.specs.Schema.{Name, tag, entity, link, software_meta, payload, evidence, directory, path_elements, file, process, resource, table, Line, key_of, keys_of}
+use Rattle.coswid_res.specs.Schema.{Name, tag, table, Line, key_of, keys_of}
 use Rattle.coswid_res.proofs.Lines.{Rising}
 use Rattle.coswid_codec.proofs.Fields.{number, under_other, under_this, others_put, others_none, put_proper, put_within}
 use Rattle.coswid_codec.proofs.Facts.{put_if, Facts}
@@ -76,32 +76,17 @@ stays k low (line ∷ lines) (e ∷ es) qs up lt =
     ∙ other_key k (key_of line) e.1 qs (ne_eqb (key_of line) k (λ same. omega (arith, same, le, lt)))
 stays k low lines es qs up lt = refl
 
--- what the field with this key is written as
-abbrev pub look : ℕ → List Line → List Row → Option Term
-look k (line ∷ lines) (e ∷ es) = if key_of line == k then e.1 else look k lines es
-look k lines es = None
+-- Under the key of each line stands what its row has.
+abbrev pub Holds : List Line → List Row → Pairs → Type 0
+Holds (line ∷ lines) (e ∷ es) qs = (value_under (key_of line) qs ≡ e.1) × Holds lines es qs
+Holds lines es qs = Unit {0}
 
-abbrev pub is_line : ℕ → List Line → Bool
-is_line k [] = false
-is_line k (line ∷ lines) = if key_of line == k then true else is_line k lines
-
-looked_by : (b : Bool) (k low : ℕ) (line : Line) (lines : List Line) (e : Row) (es : List Row) (qs : Pairs) → (key_of line == k) ≡ b → Rising low (line ∷ lines) → AreFree (line ∷ lines) qs
-    → (is_line k lines ≡ true → value_under k (placed lines es (put_if (key_of line) e.1 qs)) ≡ look k lines es)
-    → (if b then true else is_line k lines) ≡ true → value_under k (placed lines es (put_if (key_of line) e.1 qs)) ≡ (if b then e.1 else look k lines es)
-looked_by true k low line lines e es qs same up free rest is =
-    let at : key_of line ≡ k = eqb-true (key_of line) k same in
-    stays k (key_of line + 1) lines es (put_if (key_of line) e.1 qs) up.2 (omega (arith, at))
-    ∙ ap (λ (j : ℕ). value_under j (put_if (key_of line) e.1 qs)) (sym at)
-    ∙ this_key (key_of line) e.1 qs free.0
-looked_by false k low line lines e es qs same up free rest is = rest is
-
-pub looked : (least : ℕ) (ps : Pairs) (k low : ℕ) (lines : List Line) (es : List Row) (qs : Pairs) → Facts least ps lines es → Rising low lines → AreFree lines qs → is_line k lines ≡ true
-    → value_under k (placed lines es qs) ≡ look k lines es
-looked least ps k low [] es qs facts up free is = absurd cc
-looked least ps k low (line ∷ lines) (e ∷ es) qs facts up free is =
-    looked_by (key_of line == k) k low line lines e es qs refl up free
-    (looked least ps k (key_of line + 1) lines es (put_if (key_of line) e.1 qs) facts.1 up.2 (free_put (key_of line + 1) (key_of line) e.1 lines qs up.2 (omega arith) free.1)) is
-looked least ps k low (line ∷ lines) [] qs facts up free is = absurd facts
+pub holds : (low : ℕ) (lines : List Line) (es : List Row) (qs : Pairs) → Rising low lines → AreFree lines qs → Holds lines es (placed lines es qs)
+holds low (line ∷ lines) (e ∷ es) qs up free = (
+  stays (key_of line) (key_of line + 1) lines es (put_if (key_of line) e.1 qs) up.2 (omega arith) ∙ this_key (key_of line) e.1 qs free.0,
+  holds (key_of line + 1) lines es (put_if (key_of line) e.1 qs) up.2 (free_put (key_of line + 1) (key_of line) e.1 lines qs up.2 (omega arith) free.1),
+)
+holds low lines es qs up free = tt
 
 others_if : (ns : List ℕ) (k : ℕ) (o : Option Term) (qs : Pairs) → is_one_of ns (number k) ≡ true → other_than ns (put_if k o qs) ≡ other_than ns qs
 others_if ns k None qs is = refl

@@ -1,5 +1,5 @@
 -- A map by its table: what follows for the map that is written.
-use Rattle.std.proofs.Common.{◌≡◌, ◌≤◌, ◌+◌, ℕ, max, true, List, [], ◌∷◌, length, Option, Some, None, refl, sym, ap, ◌∙◌, subst, arith}
+use Rattle.std.proofs.Common.{◌≡◌, ◌≤◌, ◌+◌, ℕ, max, List, [], ◌∷◌, length, Option, Some, None, refl, sym, ap, ◌∙◌, subst, arith}
 use Rattle.std.specs.Prelude.{IfSome}
 use Rattle.cbor_det.specs.Laid.{Row, put_rows}
 use Rattle.cbor_det.specs.Lookup.{value_under, other_than}
@@ -15,7 +15,7 @@ use Rattle.coswid_codec.proofs.Fields.{number, others_again}
 use Rattle.coswid_codec.proofs.Lengths.{others_count, others_most, put_count, put_most}
 use Rattle.coswid_codec.proofs.Facts.{put_if, Facts}
 use Rattle.coswid_codec.proofs.Lawful.{MapTold}
-use Rattle.coswid_codec.proofs.Placed.{AreFree, table_listed, all_free, placed, fills_placed, look, is_line, looked, others_placed, placed_proper, placed_within, others_proper, others_within}
+use Rattle.coswid_codec.proofs.Placed.{AreFree, table_listed, all_free, placed, fills_placed, Holds, holds, others_placed, placed_proper, placed_within, others_proper, others_within}
 
 -- No line has a fault.
 
@@ -71,7 +71,7 @@ placed_few least ps name es n facts read qs count le =
 -- what follows for the map that is written
 pub record Made (name : Name) (es : List Row) (xs : Pairs) (least : ℕ) (ps : Pairs) : Type 0 where
   pub none : keys_fault name ps ≡ None
-  pub found : (k : ℕ) → is_line k (table name) ≡ true → value_under k (put_rows es xs) ≡ look k (table name) es
+  pub holds : Holds (table name) es (put_rows es xs)
   pub rest : xs ≡ other_than (keys_of (table name)) (put_rows es xs)
   pub proper : IsProperMap ps → IsProperMap (put_rows es xs)
   pub within : (n : ℕ) → least ≤ n → pairs_depth ps ≤ n → pairs_depth (put_rows es xs) ≤ n
@@ -84,9 +84,10 @@ made name es xs least ps facts is =
     let F : Pairs → Type 0 = λ qs. AreFree (table name) qs in
     let free : AreFree (table name) xs = subst F (sym is) (all_free ns (table name) ps (table_listed name)) in
     let P : Pairs → Type 0 = λ qs. IsProperMap qs in
+    let H : Pairs → Type 0 = λ qs. Holds (table name) es qs in
     record {
       none = none_first (missing (required_keys (table name)) ps) (lines_fault (table name) ps) (none_missing least ps (table name) es facts) ∙ lines_none least ps (table name) es facts;
-      found = λ k known. ap (λ (qs : Pairs). value_under k qs) e ∙ looked least ps k 0 (table name) es xs facts (table_rises name) free known;
+      holds = subst H (sym e) (holds 0 (table name) es xs (table_rises name) free);
       rest = is ∙ sym (others_again ns ps) ∙ sym (ap (λ (qs : Pairs). other_than ns qs) is) ∙ sym (others_placed ns (table name) es xs (table_listed name))
           ∙ sym (ap (λ (qs : Pairs). other_than ns qs) e);
       proper = λ p. subst P (sym e) (placed_proper least ps 0 (table name) es xs facts (table_rises name) free p.1 (subst P (sym is) (others_proper ns ps p)));
