@@ -16,7 +16,7 @@ use Rattle.coswid_res.proofs.Maps.{or_none}
 use Rattle.coswid_codec.proofs.Extras.{extras_some, extras_same}
 use Rattle.coswid_codec.proofs.Facts.{Facts, required_fact, optional_fact}
 use Rattle.coswid_codec.proofs.Lawful.{Lawful, MapTold, MapLawful}
-use Rattle.coswid_codec.proofs.Lines.{required_again, required_same, required_some, optional_again, optional_same, optional_some}
+use Rattle.coswid_codec.proofs.Lines.{required_same, required_some, optional_again, optional_same, optional_some}
 use Rattle.coswid_codec.proofs.Placed.{Holds}
 use Rattle.coswid_codec.proofs.Tables.{made, made_told}
 
@@ -64,7 +64,7 @@ facts least (may {most} k law cs) vs ps le is =
 
 again : (cs : Columns) (vs : Values cs) (ps qs : Pairs) → Are cs vs ps → Holds (lines cs) (rows cs vs) qs → Are cs vs qs
 again end vs ps qs is holds = tt
-again (must k law cs) vs ps qs is holds = (required_again k vs.0 ps qs law is.0 holds.0, again cs vs.1 ps qs is.1 holds.1)
+again (must k law cs) vs ps qs is holds = (optional_again k (Some vs.0) ps qs law is.0 holds.0, again cs vs.1 ps qs is.1 holds.1)
 again (may k law cs) vs ps qs is holds = (optional_again k vs.0 ps qs law is.0 holds.0, again cs vs.1 ps qs is.1 holds.1)
 
 same : (cs : Columns) (vs ws : Values cs) (ps : Pairs) → Are cs vs ps → Are cs ws ps → vs ≡ ws

@@ -23,7 +23,7 @@ use Rattle.coswid_res.proofs.Maps.{map_told, or_none}
 use Rattle.coswid_codec.proofs.Extras.{extras_some, extras_same}
 use Rattle.coswid_codec.proofs.Files.{files_law}
 use Rattle.coswid_codec.proofs.Lawful.{Told, Lawful, MapTold, MapLawful, under_none, wrong}
-use Rattle.coswid_codec.proofs.Lines.{line_none, required_again, required_same, required_some, optional_again, optional_same, optional_some, again_by, pairs_told, map_law}
+use Rattle.coswid_codec.proofs.Lines.{line_none, required_same, required_some, optional_again, optional_same, optional_some, again_by, pairs_told, map_law}
 use Rattle.coswid_codec.proofs.Plain.{boolean_law, text_law}
 use Rattle.coswid_codec.proofs.Several.{array_told, one_told, filled, several_law}
 use Rattle.coswid_codec.proofs.Facts.{◌⨾◌, Facts, required_fact, optional_fact, told_fact, under_within}
@@ -62,7 +62,7 @@ directory_by d ps keys held =
     let again : DirectoryKeys o qs = record {
       key = optional_again 22 o.key ps qs boolean_law keys.key all.holds.0;
       location = optional_again 23 o.location ps qs text_law keys.location all.holds.1.0;
-      fs_name = required_again 24 o.fs_name ps qs text_law keys.fs_name all.holds.1.1.0;
+      fs_name = optional_again 24 (Some o.fs_name) ps qs text_law keys.fs_name all.holds.1.1.0;
       root = optional_again 25 o.root ps qs text_law keys.root all.holds.1.1.1.0;
       extras = all.rest;
     } in

@@ -59,20 +59,6 @@ under_within k (pair l w ps) t n e deep =
       | inr rest ↦ under_within k ps t n rest (omega (arith, d))
     ]
 
-pub required_fact : {A : Type 0} {field : Field} {Is : A → Term → Type 0} {item : A → Term} {most : ℕ} (least k : ℕ) (v : A) (ps : Pairs) → Lawful field Is item most → most ≤ least
-    → RequiredAt k Is v ps → Fact (required k field) (k, Some (item v)) least ps
-required_fact {field} {Is} {item} {most} least k v ps law le is =
-    let at = there Is v (value_under k ps) is in
-    let told = law.told v at.0 at.2 in
-    let e : value_under k ps ≡ Some at.0 = at.1 in
-    record {
-      none = ap (λ (o : Option Term). or_else (absent k o) (value_fault k field o)) e ∙ ap (λ (o : Option FormFault). under k o) told.none;
-      fills = λ qs. refl;
-      proper = λ p. told.proper (under_proper k ps at.0 e p);
-      within = λ n less deep. told.within n (omega (arith, le, less)) (under_within k ps at.0 n e deep);
-      few = λ n less. told.few n (under_most k ps at.0 n e less);
-    }
-
 told_by : {A : Type 0} (field : Field) (Is : A → Term → Type 0) (item : A → Term) (most least k : ℕ) (x : Option A) (o : Option Term) (ps : Pairs) → most ≤ least → value_under k ps ≡ o
     → Agree (λ (v : A) (t : Term). Told field Is item most v t) x o → Fact (optional k field) (k, option_map item x) least ps
 told_by field Is item most least k None None ps le e told = record {
@@ -105,3 +91,17 @@ agree_told field Is item most x o law is = absurd is
 pub optional_fact : {A : Type 0} {field : Field} {Is : A → Term → Type 0} {item : A → Term} {most : ℕ} (least k : ℕ) (x : Option A) (ps : Pairs) → Lawful field Is item most → most ≤ least
     → OptionalAt k Is x ps → Fact (optional k field) (k, option_map item x) least ps
 optional_fact {field} {Is} {item} {most} least k x ps law le is = told_fact field Is item most least k x ps le (agree_told field Is item most x (value_under k ps) law is)
+
+pub required_fact : {A : Type 0} {field : Field} {Is : A → Term → Type 0} {item : A → Term} {most : ℕ} (least k : ℕ) (v : A) (ps : Pairs) → Lawful field Is item most → most ≤ least
+    → RequiredAt k Is v ps → Fact (required k field) (k, Some (item v)) least ps
+required_fact {field} {Is} {item} {most} least k v ps law le is =
+    let at = there Is v (value_under k ps) is in
+    let found = optional_fact least k (Some v) ps law le is in
+    let absence : absent k (value_under k ps) ≡ None = ap (λ (o : Option Term). absent k o) at.1 in
+    record {
+      none = ap (λ (o : Option FormFault). or_else o (value_fault k field (value_under k ps))) absence ∙ found.none;
+      fills = found.fills;
+      proper = found.proper;
+      within = found.within;
+      few = found.few;
+    }

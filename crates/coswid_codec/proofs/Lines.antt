@@ -10,16 +10,9 @@ use Rattle.coswid_res.specs.Schema.{Name, table, Line, Field, one, a_map, requir
 use Rattle.coswid_res.specs.Words.{Agree, RequiredAt, OptionalAt, IsMap}
 use Rattle.coswid_res.proofs.Maps.{or_none, map_told}
 use Rattle.coswid_codec.proofs.Lawful.{Told, Lawful, MapTold, MapLawful, next, next_less, under_none, wrong}
-use Rattle.coswid_codec.proofs.Facts.{there, agree_told}
+use Rattle.coswid_codec.proofs.Facts.{agree_told}
 
 -- read again from what is written
-
-pub required_again : {A : Type 0} {field : Field} {Is : A → Term → Type 0} {item : A → Term} {most : ℕ} (k : ℕ) (v : A) (ps qs : Pairs) → Lawful field Is item most → RequiredAt k Is v ps
-    → value_under k qs ≡ Some (item v) → RequiredAt k Is v qs
-required_again {field} {Is} {item} {most} k v ps qs law is e =
-    let at = there Is v (value_under k ps) is in
-    let P : Option Term → Type 0 = λ o. Agree Is (Some v) o in
-    subst P (sym e) (law.told v at.0 at.2).again
 
 -- where it is known of what is read alone
 pub again_by : {A : Type 0} (field : Field) (Is : A → Term → Type 0) (item : A → Term) (most : ℕ) (x : Option A) (o : Option Term)

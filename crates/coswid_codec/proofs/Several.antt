@@ -1,5 +1,5 @@
 -- One or more values of a form, an array of them or one alone.
-use Rattle.std.proofs.Common.{◌≡◌, ◌≢◌, ◌≤◌, ℕ, ◌+◌, ◌-◌, List, [], ◌∷◌, map as map_list, Option, None, refl, sym, ap, ◌∙◌, subst, arith}
+use Rattle.std.proofs.Common.{◌≡◌, ◌≢◌, ◌≤◌, ℕ, ◌+◌, ◌-◌, List, [], ◌∷◌, map as map_list, Option, None, refl, ap, ◌∙◌, arith}
 use Rattle.cbor_det.specs.Term.{Term, Terms, array, no_terms, term, count, depth, terms_depth}
 use Rattle.cbor_det.specs.View.{terms_of}
 use Rattle.cbor_det.specs.Proper.{AreProper}
@@ -139,39 +139,16 @@ module _ {A : Type 0} (form : Form) (Is : A → Term → Type 0) (item : A → T
       let rest = each_some ts (i + 1) both.1 in
       (first.0 ∷ rest.0, (first.1, rest.1))
 
-  -- What is no array is read as one value alone.
-  abbrev Single : Term → Type 0
-  Single t = (vs : List A) → OneOrMore Is vs t → (v : A) × (vs ≡ v ∷ []) × Is v t
-
-  by_length : (t : Term) → (OneOrMore Is [] t → ⊥) → ((v : A) → OneOrMore Is (v ∷ []) t → Is v t) → ((v w : A) (vs : List A) → OneOrMore Is (v ∷ w ∷ vs) t → ⊥) → Single t
-  by_length t none only more [] is = absurd (none is)
-  by_length t none only more (v ∷ []) is = (v, refl, only v is)
-  by_length t none only more (v ∷ w ∷ vs) is = absurd (more v w vs is)
-
-  single : (t : Term) → IsAlone t → Single t
-  single (array ts) no_array = absurd no_array
-  single t no_array = by_length t (λ e. e) (λ v is. is) (λ v w vs e. e)
-
-  single_told : (vs : List A) (t : Term) → IsAlone t → field_fault (one_or_more form) t ≡ field_fault (one form) t → OneOrMore Is vs t
-      → Told (one_or_more form) (OneOrMore Is) (λ us. row_item (items_of us)) (next least) vs t
-  single_told vs t no_array alike is =
-      let found = single t no_array vs is in
-      let P : List A → Type 0 = λ us. Told (one_or_more form) (OneOrMore Is) (λ ws. row_item (items_of ws)) (next least) us t in
-      subst P (sym found.1) (lone found.0 t alike found.2)
-
   several_told : (vs : List A) (t : Term) → OneOrMore Is vs t → Told (one_or_more form) (OneOrMore Is) (λ us. row_item (items_of us)) (next least) vs t
   several_told vs (array ts) is = array_told form Is item least plain vs ts is.0 (each_told vs ts is.1)
-  several_told vs t is = single_told vs t tt refl is
-
-  single_same : (vs ws : List A) (t : Term) → IsAlone t → OneOrMore Is vs t → OneOrMore Is ws t → vs ≡ ws
-  single_same vs ws t no_array first second =
-      let a = single t no_array vs first in
-      let b = single t no_array ws second in
-      a.1 ∙ ap (λ (u : A). u ∷ []) (law.same a.0 b.0 t a.2 b.2) ∙ sym b.1
+  several_told (v ∷ []) t is = lone v t refl is
+  several_told vs t is = absurd is
 
   several_same : (vs ws : List A) (t : Term) → OneOrMore Is vs t → OneOrMore Is ws t → vs ≡ ws
   several_same vs ws (array ts) first second = each_same vs ws ts first.1 second.1
-  several_same vs ws t first second = single_same vs ws t tt first second
+  several_same (v ∷ []) (w ∷ []) t first second = ap (λ (u : A). u ∷ []) (law.same v w t first second)
+  several_same (v ∷ []) ws t first second = absurd second
+  several_same vs ws t first second = absurd first
 
   elements_some : (ts : Terms) → field_fault (one_or_more form) (array ts) ≡ None → (vs : List A) × OneOrMore Is vs (array ts)
   elements_some no_terms none = wrong none
