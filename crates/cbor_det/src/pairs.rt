@@ -6,7 +6,7 @@ ghost use Rattle.std.specs.Option.{option_map};
 ghost use Rattle.std.specs.Ordering.{nat_cmp};
 ghost use Rattle.cbor_det.specs.Adding.{IsAdded, is_above, put};
 ghost use Rattle.cbor_det.specs.Canonical.{canon};
-ghost use Rattle.cbor_det.specs.Lookup.{key_at, value_at, value_under, is_unsigned, is_one_of, other_than};
+ghost use Rattle.cbor_det.specs.Lookup.{key_at, value_at, value_under, is_unsigned, other_than};
 ghost use Rattle.cbor_det.specs.Places.{IsFound, IsUnder, front_length};
 ghost use Rattle.cbor_det.specs.Proper.{IsProper, IsProperMap};
 ghost use Rattle.cbor_det.specs.Spelling.{Rises};
@@ -97,22 +97,6 @@ impl Pairs {
         None
     }
 
-    /// A copy of the pairs whose keys are none of these unsigned integers; `Memory` where there is
-    /// no room for it.
-    pub fn without_keys(&self, keys: &[u32]) -> Result<Pairs, Memory>
-        ensures others { IfOk result (λ made. pairs_view made ≡ other_than keys.now (pairs_view self.now)) }
-    {
-        let mut others = List::new(self.pairs.allocator());
-        for pair in self.pairs.as_slice() {
-            if !is_one_of(&pair.key, keys) {
-                let key = pair.key.copy()?;
-                let value = pair.value.copy()?;
-                others.push(Pair { key, value })?;
-            }
-        }
-        Ok(Pairs { pairs: others })
-    }
-
     /// Takes the value under the key that is this unsigned integer out of the pairs; `None` exactly
     /// where there is no such key. No pair with this key is left. It takes no memory.
     pub fn take(&mut self, key: u32) -> Option<Item>
@@ -199,18 +183,6 @@ fn is_under(pair: &Pair, key: u32) -> bool
     ensures under { result ≡ is_unsigned key (view pair.now.key) }
 {
     is_unsigned(&pair.key, key as u64)
-}
-
-/// Whether the item is one of these unsigned integers.
-fn is_one_of(item: &Item, numbers: &[u32]) -> bool
-    ensures one { result ≡ is_one_of numbers.now (view item.now) }
-{
-    for number in numbers {
-        if is_unsigned(item, *number as u64) {
-            return true;
-        }
-    }
-    false
 }
 
 /// How many pairs at the start have keys below this one.

@@ -72,32 +72,27 @@ impl Mapped for MetaTable {
             + count(&meta.unspsc_code)
             + count(&meta.unspsc_version);
         others.put_head_with(out, more)?;
-        let place = key::ActivationStatus::spell_optional(out, others, 0, &meta.activation_status)?;
-        let place = key::ChannelType::spell_optional(out, others, place, &meta.channel_type)?;
-        let place = key::ColloquialVersion::spell_optional(
+        let at = key::ActivationStatus::spell_optional(out, others, 0, &meta.activation_status)?;
+        let at = key::ChannelType::spell_optional(out, others, at, &meta.channel_type)?;
+        let at = key::ColloquialVersion::spell_optional(out, others, at, &meta.colloquial_version)?;
+        let at = key::Description::spell_optional(out, others, at, &meta.description)?;
+        let at = key::Edition::spell_optional(out, others, at, &meta.edition)?;
+        let at = key::EntitlementDataRequired::spell_optional(
             out,
             others,
-            place,
-            &meta.colloquial_version,
-        )?;
-        let place = key::Description::spell_optional(out, others, place, &meta.description)?;
-        let place = key::Edition::spell_optional(out, others, place, &meta.edition)?;
-        let place = key::EntitlementDataRequired::spell_optional(
-            out,
-            others,
-            place,
+            at,
             &meta.entitlement_data_required,
         )?;
-        let place = key::EntitlementKey::spell_optional(out, others, place, &meta.entitlement_key)?;
-        let place = key::Generator::spell_optional(out, others, place, &meta.generator)?;
-        let place = key::PersistentId::spell_optional(out, others, place, &meta.persistent_id)?;
-        let place = key::Product::spell_optional(out, others, place, &meta.product)?;
-        let place = key::ProductFamily::spell_optional(out, others, place, &meta.product_family)?;
-        let place = key::Revision::spell_optional(out, others, place, &meta.revision)?;
-        let place = key::Summary::spell_optional(out, others, place, &meta.summary)?;
-        let place = key::UnspscCode::spell_optional(out, others, place, &meta.unspsc_code)?;
-        let place = key::UnspscVersion::spell_optional(out, others, place, &meta.unspsc_version)?;
-        Ok(others.put_from(out, place)?)
+        let at = key::EntitlementKey::spell_optional(out, others, at, &meta.entitlement_key)?;
+        let at = key::Generator::spell_optional(out, others, at, &meta.generator)?;
+        let at = key::PersistentId::spell_optional(out, others, at, &meta.persistent_id)?;
+        let at = key::Product::spell_optional(out, others, at, &meta.product)?;
+        let at = key::ProductFamily::spell_optional(out, others, at, &meta.product_family)?;
+        let at = key::Revision::spell_optional(out, others, at, &meta.revision)?;
+        let at = key::Summary::spell_optional(out, others, at, &meta.summary)?;
+        let at = key::UnspscCode::spell_optional(out, others, at, &meta.unspsc_code)?;
+        let at = key::UnspscVersion::spell_optional(out, others, at, &meta.unspsc_version)?;
+        Ok(others.put_from(out, at)?)
     }
 }
 
