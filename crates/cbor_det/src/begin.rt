@@ -1,20 +1,24 @@
 //! What begins or ends at an initial byte.
 
-ghost use Rattle.std.specs.Prelude.{◌≡◌, ◌<◌, IfOk};
+ghost use Rattle.std.specs.Prelude.{◌≡◌, ◌<◌, IfOk, None};
 ghost use Rattle.cbor_det.specs.FaultKinds.{fault_number};
 ghost use Rattle.cbor_det.specs.Faults.{Place};
 ghost use Rattle.cbor_det.specs.Standing.{inside, place};
 ghost use Rattle.cbor_det.specs.Frames.{state_of, StepFits, chunk_kind, low_kind, end_state, BeginFits};
-ghost use Rattle.cbor_det.specs.Machine.{begun, due, opened, step, is_string, string_head};
+ghost use Rattle.cbor_det.specs.Machine.{begun, due, item_ended, opened, step, is_string, string_head};
+ghost use Rattle.cbor_det.specs.View.{view};
 ghost use Rattle.cbor_det.specs.declared.initial.Initial.TheVariants as initial;
+ghost use Rattle.cbor_det.specs.declared.frame.Frame.TheVariants as frames;
 ghost use Rattle.cbor_det.specs.declared.frame.StepOutcome.TheVariants as step_outcome;
+ghost use Rattle.cbor_det.specs.declared.item.Item.TheVariants as code;
 
 use crate::fault::{CborFault, CborFaultKind};
 use crate::frame::{Frame, PartialHead, Phase, StepOutcome};
 use crate::head::item_from_head;
 use crate::initial::{Beginning, Initial, Major, initial_of};
-use crate::item::Item;
+use crate::item::{Item, Items};
 use crate::limits::Limits;
+use crate::members::Members;
 use crate::nesting::{close_item, open_frame};
 use crate::string::string_ended;
 use crate::string_kind::StringKind;
@@ -194,7 +198,8 @@ fn read_break(alloc: Global, taken: u64, stack: &mut Vec<Frame>) -> Result<StepO
     }
 }
 
-/// Ends `frame`, inside of what is open.
+/// Ends `frame`, inside of what is open. A break ends what has no count, and a map between two pairs
+/// alone.
 #[tactic(auto, unfolding(crate::specs::Machine::broken))]
 fn end_frame(
     alloc: Global,
@@ -207,26 +212,54 @@ fn end_frame(
 {
     match frame {
         Frame::Chunks { at, kind, joined } => string_ended(alloc, stack, at, kind, joined),
-        Frame::Elements { at, all, items } => {
-            if all.is_some() {
-                return Ok(unended(taken));
-            }
-            let mut items = items;
-            items.shrink_to_fit();
-            close_item(alloc, stack, at, Item::Array(items))
-        }
-        Frame::Map { at, all, members } => {
-            if all.is_some() {
-                return Ok(unended(taken));
-            }
-            if !members.is_key_due() {
-                return Ok(unended(taken));
-            }
-            let mut members = members;
-            close_item(alloc, stack, at, Item::Map(members.take_pairs(alloc)?))
-        }
-        Frame::Content { .. } => Ok(unended(taken)),
+        Frame::Elements {
+            at,
+            all: None,
+            items,
+        } => end_array(alloc, stack, at, items),
+        Frame::Map {
+            at,
+            all: None,
+            members,
+        } => end_map(alloc, taken, stack, at, members),
+        _ => Ok(unended(taken)),
     }
+}
+
+/// Ends an array without a count.
+#[tactic(auto, unfolding(crate::specs::Machine::broken))]
+fn end_array(
+    alloc: Global,
+    stack: &mut Vec<Frame>,
+    at: u64,
+    items: Items,
+) -> Result<StepOutcome, Memory>
+    ensures ended { IfOk result (λ came. state_of (place stack.new.items) came ≡ item_ended (place stack.old.items) at (view (code.Array items))) }
+    ensures fits { IfOk result StepFits }
+{
+    let mut items = items;
+    items.shrink_to_fit();
+    close_item(alloc, stack, at, Item::Array(items))
+}
+
+/// Ends a map without a count, where no key has come without its value.
+#[tactic(auto, unfolding(crate::specs::Machine::broken))]
+fn end_map(
+    alloc: Global,
+    taken: u64,
+    stack: &mut Vec<Frame>,
+    at: u64,
+    members: Members,
+) -> Result<StepOutcome, Memory>
+    ensures ended { IfOk result (λ came. state_of (place stack.new.items) came ≡ end_state taken (inside (place stack.old.items) (frames.Map at None members))) }
+    ensures fits { IfOk result StepFits }
+{
+    if !members.is_key_due() {
+        return Ok(unended(taken));
+    }
+    let mut members = members;
+    let pairs = members.take_pairs(alloc)?;
+    close_item(alloc, stack, at, Item::Map(pairs))
 }
 
 /// A break that ends nothing.

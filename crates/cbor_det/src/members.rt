@@ -150,10 +150,30 @@ impl Ordered {
         };
         let mut rest = pairs.into_vec();
         while let Some(pair) = rest.pop() {
-            let Pair { key, value } = pair;
-            ordered.insert(Key::new(alloc, key)?, value)?;
+            ordered.spell(alloc, pair)?;
         }
         Ok(ordered)
+    }
+
+    /// The same pairs, and a key where it is not held; whether it is not.
+    fn with_key(alloc: Global, pairs: List<Pair>, item: Item) -> Result<(Self, bool), Memory>
+        requires rises { Rises (listed pairs) }
+        ensures taken { IfOk result
+            (λ made. IsTaken (listed pairs) None (view item) made.1 (entries_view made.0.entries.entries) (option_map key_view made.0.key)) }
+    {
+        let mut ordered = Ordered::from_pairs(alloc, pairs)?;
+        let free = ordered.take(alloc, item)?;
+        Ok((ordered, free))
+    }
+
+    /// Puts a pair at its place, once its key is spelled.
+    fn spell(&mut self, alloc: Global, pair: Pair) -> Result<(), Memory>
+        ensures puts { OnOk result
+            (entries_view self.new.entries.entries ≡ insert (view pair.key) (view pair.value) (entries_view self.old.entries.entries)) }
+        ensures key { self.new.key ≡ self.old.key }
+    {
+        let Pair { key, value } = pair;
+        self.insert(Key::new(alloc, key)?, value)
     }
 
     /// Puts a pair at its place.
@@ -234,8 +254,7 @@ impl Members {
             Members::Ordered(ordered) => ordered.take(alloc, item),
             Members::Rising(rising) => {
                 let pairs = mem::replace(&mut rising.pairs, List::new(alloc));
-                let mut ordered = Ordered::from_pairs(alloc, pairs)?;
-                let free = ordered.take(alloc, item)?;
+                let (ordered, free) = Ordered::with_key(alloc, pairs, item)?;
                 *self = Members::Ordered(ordered);
                 Ok(free)
             }

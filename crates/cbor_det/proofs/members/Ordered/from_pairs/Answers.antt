@@ -2,9 +2,7 @@
 use Rattle.std.proofs.Common.{List, ap, ◌∙◌, refl}
 use Rattle.cbor_det.specs.declared.item.Pair.{Pair}
 use Rattle.cbor_det.specs.Open.{Entry, entries_view}
-use Rattle.cbor_det.specs.declared.item.Item.{Item}
-use Rattle.cbor_det.specs.Machine.{insert}
-use Rattle.cbor_det.specs.View.{view, listed}
+use Rattle.cbor_det.specs.View.{listed}
 use Rattle.cbor_det.proofs.Adds.{join}
 use Rattle.cbor_det.proofs.Rising.{join_nothing, moved}
 use Rattle.cbor_det.proofs.members.Ordered.from_pairs.Goals as goal
@@ -19,6 +17,6 @@ loop-pair-init c = record {
 pub loop-pair-preserved : goal.loop-pair-preserved
 loop-pair-preserved c = record {
   same = moved _ _ c.in-Some.pair.key c.in-Some.pair.value (entries_view c.loop-pair.ordered.entries.entries) _ (listed c.args.pairs) c.in-Some.ensures.items c.loop-pair.invariant.same c.requires.rises
-      (c.in_ok-insert.ensures.puts ∙ ap (λ (i : Item). insert (view i) (view c.in-Some.pair.value) (entries_view c.loop-pair.ordered.entries.entries)) c.in_ok-new.ensures.key);
-  key = c.in_ok-insert.ensures.key ∙ c.loop-pair.invariant.key;
+      c.in_ok-spell.ensures.puts;
+  key = c.in_ok-spell.ensures.key ∙ c.loop-pair.invariant.key;
 }
