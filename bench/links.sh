@@ -4,11 +4,12 @@
 #
 # usage: bench/links.sh [RUNS]     each row is run RUNS times, 3 if not given
 #
-# The program crates/bench is built first where that is needed, which proves it, and building is not
-# measured. `bench/link_tags.py` writes the inputs into a temporary folder, which is removed at the
-# end; it says what the shapes are. Needs python3, awk and GNU time (/usr/bin/time).
+# The programs crates/bench and crates/swid are built first where that is needed, which proves them,
+# and building is not measured. `bench/link_tags.py` and `bench/cbor_items.py` write the inputs into
+# a temporary folder, which is removed at the end; they say what the shapes are. Needs python3, awk
+# and GNU time (/usr/bin/time).
 #
-# The table has 1,000, 3,000 and 10,000 tags of each shape. In `apart` each pair of tags is a
+# The first table has 1,000, 3,000 and 10,000 tags of each shape. In `apart` each pair of tags is a
 # finding, 50 million of them at last, which alone take 1.2 GB.
 #
 # Columns:
@@ -24,6 +25,16 @@
 #
 # Checking is what is left of the second time without the first. Where that is nothing for 1,000
 # tags, `-` stands as growth.
+#
+# The second table has 64 MiB of tags, eight times one of 8 MiB, the most that is read of one. Its
+# shapes take much memory for each octet. `swid links` reads them once.
+#
+# Columns:
+#   shape     the shape
+#   octets    the size of the input
+#   KiB       the peak memory
+#   an octet  the octets of that memory for each octet of input
+#   status    the status of `swid links`: 4 where memory ran out
 
 set -u -o pipefail
 
@@ -43,6 +54,13 @@ fi
 (cd -- "$crate" && rt run -- links check) </dev/null >&2
 if [ ! -x "$program" ]; then
     echo "links.sh: the program was not built" >&2
+    exit 1
+fi
+
+"$top/swid" links </dev/null >/dev/null
+swid=$top/crates/swid/out/swid
+if [ ! -x "$swid" ]; then
+    echo "links.sh: swid was not built" >&2
     exit 1
 fi
 
@@ -92,3 +110,14 @@ done | awk -F '\t' -v runs="$runs" '
         printf "%-8s %6s %9s %9.1f %9.1f %9.2f %7s %9s%s\n", $1, $2, $8, $3 / 1000, $6 / 1000, each,
             (base > 0 ? sprintf("%.2f", each / base) : "-"), $7, ($5 == $2 ? "" : "  not read: " $5) ($8 == "" ? "  not checked" : "")
     }'
+
+printf '\n%-16s %9s %9s %9s %7s\n' shape octets KiB 'an octet' status
+for shape in tag-breaks tag-deep tag-directories tag-extras; do
+    python3 "$top/bench/cbor_items.py" "$shape" 8 "$folder/tag" || exit 1
+    for ((copy = 0; copy < 8; copy++)); do cat -- "$folder/tag"; done >"$input"
+    /usr/bin/time -q -f %M -o "$folder/kib" "$swid" links <"$input" >"$folder/output"
+    status=$?
+    octets=$(stat -c %s -- "$input")
+    kib=$(<"$folder/kib")
+    printf '%-16s %9s %9s %9.1f %7s\n' "$shape" "$octets" "$kib" "$(awk "BEGIN { print $kib * 1024 / $octets }")" "$status"
+done
