@@ -5,10 +5,10 @@ ghost use Rattle.session_door.specs.Serving.{IsWithin};
 ghost use Rattle.session_pool.specs.Stands.{AreReady};
 
 use crate::gates::{AfterSweeps, AfterTheOther, Counting, Resting, Shared};
-use crate::stands::{failing_stand, one, stand, two, was_given};
+use crate::stands::{failing_stand, one, stand, stand_of_three, two, was_given, were_given_twice};
 use book_lock::Shelf;
 use collector_core::Book;
-use session_core::{ServeConfig, SessionEnd};
+use session_core::{ServeConfig, SessionEnd, SessionRecord};
 use session_pool::{Ends, OpenGate, PoolConfig, Served, Stand, SweepStop, Watch, serve_all};
 use source_lines::LineSource;
 use source_set::{SourceSet, Sources, TagSource};
@@ -76,14 +76,18 @@ fn served<C: Clock + Send, W: Watch + Sync, R: Threads + Wait + Sync>(
     Some((all, closed.book.point(), closed.book.count()))
 }
 
-/// Whether there was one session, which wrote a report at this point and was closed by its peer.
+/// Whether a session wrote a report at this point and was closed by its peer.
+fn is_answered(noted: &(SessionRecord, SessionEnd), point: Point) -> bool {
+    let (record, end) = noted;
+    (record.points.as_slice() == [point].as_slice())
+        & (record.reports == 1)
+        & (*end == SessionEnd::PeerClosed)
+}
+
+/// Whether there was one session, which was answered so.
 fn is_one(ends: &Ends, point: Point) -> bool {
     match ends.as_slice() {
-        [(record, end)] => {
-            (record.points.as_slice() == [point].as_slice())
-                & (record.reports == 1)
-                & (*end == SessionEnd::PeerClosed)
-        }
+        [noted] => is_answered(noted, point),
         _ => false,
     }
 }
@@ -125,6 +129,37 @@ fn serves_one<R: Threads + Wait + Sync>(alloc: Global, rt: &R) -> Option<bool> {
 #[test]
 fn one_link_is_served(rt: HostRuntime) {
     assert!(rt; serves_one(rt.alloc(), &rt) == Some(true));
+}
+
+/// Whether there were two sessions, one after another, which were answered so.
+fn are_two(all: &Served, point: Point) -> bool {
+    match all.ends.as_slice() {
+        [ends] => match ends.as_slice() {
+            [first, second] => is_answered(first, point) & is_answered(second, point),
+            _ => false,
+        },
+        _ => false,
+    }
+}
+
+/// Whether a worker of two sessions takes two of three links, and gives both back.
+fn serves_two_of_three<R: Threads + Wait + Sync>(alloc: Global, rt: &R) -> Option<bool> {
+    let mut doors = one(alloc, stand_of_three(alloc, VALIDATOR).ok()?).ok()?;
+    let mut sources = no_source(alloc)?;
+    let mut clock = MemClock::new(List::new(alloc), 0);
+    let config = PoolConfig {
+        sessions: 2,
+        ..CONFIG
+    };
+    let at = doors.as_mut_slice();
+    let (all, _, _) = served(alloc, rt, at, &mut sources, &mut clock, &OpenGate, &config)?;
+    let point = Point { epoch: 7, eid: 0 };
+    Some(are_two(&all, point) & were_given_twice(doors.as_slice(), COLLECTOR))
+}
+
+#[test]
+fn a_worker_holds_as_many_sessions_as_it_is_told(rt: HostRuntime) {
+    assert!(rt; serves_two_of_three(rt.alloc(), &rt) == Some(true));
 }
 
 /// Whether the one session answered from the second of two sweeps, which left no record.

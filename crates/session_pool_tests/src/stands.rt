@@ -29,6 +29,17 @@ pub(crate) fn failing_stand(
     stand_of(alloc, links)
 }
 
+/// A stand at a door of three links, each of which gives these octets.
+pub(crate) fn stand_of_three(alloc: Global, octets: &[u8]) -> Result<Stand<MemDoor>, Memory>
+    ensures ready { IfOk result (λ stand. IsReady (λ door. door.out) stand) }
+{
+    let mut links = List::new(alloc);
+    links.push(link(alloc, octets, &[])?)?;
+    links.push(link(alloc, octets, &[])?)?;
+    links.push(link(alloc, octets, &[])?)?;
+    stand_of(alloc, links)
+}
+
 /// A stand at a door without a link.
 pub(crate) fn empty_stand(alloc: Global) -> Result<Stand<MemDoor>, Memory>
     ensures ready { IfOk result (λ stand. IsReady (λ door. door.out) stand) }
@@ -76,6 +87,17 @@ pub(crate) fn two(
 pub(crate) fn was_given(stand: &Stand<MemDoor>, octets: &[u8]) -> bool {
     match stand.door.returned() {
         [link] => link.given() == octets,
+        _ => false,
+    }
+}
+
+/// Whether there is one stand, whose door gave two links, and took both back given these octets.
+pub(crate) fn were_given_twice(stands: &[Stand<MemDoor>], octets: &[u8]) -> bool {
+    match stands {
+        [stand] => match stand.door.returned() {
+            [first, second] => (first.given() == octets) & (second.given() == octets),
+            _ => false,
+        },
         _ => false,
     }
 }
