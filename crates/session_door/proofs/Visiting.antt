@@ -12,7 +12,7 @@ use Rattle.session_core.specs.Driving.{is_link_fault}
 use Rattle.session_door.specs.declared.work.Stop.{Stop}
 use Rattle.session_door.specs.declared.work.Stop.TheVariants as stop
 use Rattle.session_door.specs.declared.work.Work.{Work}
-use Rattle.session_door.specs.Visits.{DoorState, Noted, Stops, Visit, VisitsEach, VisitsLink, VisitsNext, VisitsOne, Works, all_noted, is_failed, last_after, links_came, links_went, some_fault}
+use Rattle.session_door.specs.Visits.{DoorState, Noted, Notes, Stops, Visit, VisitsEach, VisitsLink, VisitsNext, VisitsOne, Works, all_noted, is_failed, last_after, links_came, links_went, some_fault}
 use Rattle.session_door.proofs.Counting.{calm, cause_then}
 
 -- What the last answer is, where it was a link after every visit so far.
@@ -107,6 +107,20 @@ module _ {O L : Type 0} (held : O → O → L → L → SessionRecord → Sessio
       faults_more : (es : List Noted) (n : Noted) → (some_fault es || is_link_fault n.1) ≡ some_fault (es ++ n ∷ [])
       faults_more es n = or_none (some_fault es) (is_link_fault n.1) ∙ sym (list_any-append (λ (noted : Noted). is_link_fault noted.1) es (n ∷ []))
 
+  -- None came, so none was noted.
+  pub none_came : (before after : O) (door later : DoorState L) (ends longer : List Noted) → longer ≡ ends → (why : Stop) → VisitsNext held faults before door after later (Err why)
+      → Notes held faults before door ends after later longer (Err why)
+  none_came before after door later ends longer same stop.Ended none = (none, same)
+  none_came before after door later ends longer same stop.Failed none = (none, same)
+  none_came before after door later ends longer same stop.Done none = absurd none
+  none_came before after door later ends longer same stop.Memory none = absurd none
+
+  -- One more was noted.
+  pub noted_more : (before mid after : O) (door between later : DoorState L) (ends longer : List Noted) → SoFar before door mid between ends
+      → ((noted : Noted) × VisitsLink held faults mid between after later noted × (longer ≡ ends ++ noted ∷ [])) → SoFar before door after later longer
+  noted_more before mid after door between later ends longer far more =
+      subst (SoFar before door after later) (sym more.2) (one_more before mid after door between later ends more.0 far more.1)
+
   counts : (visits : List (Visit L)) (ends : List Noted) → ends ≡ all_noted visits → length visits ≡ length ends
   counts visits ends is = sym (ap length is ∙ noted_length visits)
     where
@@ -178,10 +192,13 @@ module _ {O L : Type 0} (held : O → O → L → L → SessionRecord → Sessio
         rises : {a b c : ℕ} → a ≤ b → Rose b c → Rose a c
         rises up rose = omega (arith, up, rose)
 
-    -- None came, for this reason.
-    pub stopped_at : (after : O) (later : DoorState L) (why : Stop) → work.stop ≡ why → length ends < sessions → VisitsNext held faults mid between after later (Err why)
-        → Works held faults sessions before door after later work
-    stopped_at after later stop.Ended so fewer none = had_no_more after later so fewer none
-    stopped_at after later stop.Failed so fewer none = had_failed after later so fewer none
-    stopped_at after later stop.Done so fewer none = absurd none
-    stopped_at after later stop.Memory so fewer none = absurd none
+  module _ (sessions : ℕ) (before mid after : O) (door between later : DoorState L) (ends longer : List Noted) (far : SoFar before door mid between ends) (fewer : length ends < sessions) where
+    -- None was noted, for this reason.
+    pub noted_none : (why : Stop) → Notes held faults mid between ends after later longer (Err why) → Works held faults sessions before door after later (record { ends = longer; stop = why })
+    noted_none stop.Memory none =
+        subst (λ (o : O). Works held faults sessions before door o later (record { ends = longer; stop = stop.Memory })) (sym none.0)
+        (subst (λ (d : DoorState L). Works held faults sessions before door mid d (record { ends = longer; stop = stop.Memory })) (sym none.1)
+        (ran_out sessions before mid door between ends far (record { ends = longer; stop = stop.Memory }) none.2 refl fewer))
+    noted_none stop.Ended none = had_no_more sessions before mid door between ends far (record { ends = longer; stop = stop.Ended }) none.1 after later refl fewer none.0
+    noted_none stop.Failed none = had_failed sessions before mid door between ends far (record { ends = longer; stop = stop.Failed }) none.1 after later refl fewer none.0
+    noted_none stop.Done none = absurd none.0

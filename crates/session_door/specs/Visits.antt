@@ -1,6 +1,6 @@
 -- Links that a door gave, one after another: a session was held on each, and it went back before
 -- the next one came.
-use Rattle.std.specs.Prelude.{◌≡◌, ◌<◌, ◌||◌, ℕ, zero, suc, Bool, true, false, List, [], ◌∷◌, Option, Result, Ok, Err, length, map, nat_lt}
+use Rattle.std.specs.Prelude.{◌≡◌, ◌<◌, ◌||◌, ◌++◌, ℕ, zero, suc, Bool, true, false, List, [], ◌∷◌, Option, Result, Ok, Err, length, map, nat_lt}
 use Rattle.std.specs.List.{list_any}
 use Rattle.std.specs.Option.{option_map}
 use Rattle.wire_base.specs.Doors.{LastCame, LinkCame, NoMoreCame, FaultCame}
@@ -116,3 +116,10 @@ module _ {O L : Type 0} (held : O → O → L → L → SessionRecord → Sessio
   VisitsNext before door after later (Err stop.Failed) = (after ≡ before) × (later.left ≡ door.left) × (later.returned ≡ door.returned)
       × (later.last ≡ option_map (λ _. FaultCame) door.last) × HasCause door.faults later.faults true
   VisitsNext before door after later (Err other) = ⊥
+
+  -- The next link was visited, and what is noted of it comes after the others. Or none came. Or
+  -- there was no room for what is noted, and the door was not asked.
+  abbrev pub Notes : O → DoorState L → List Noted → O → DoorState L → List Noted → Result Unit Stop → Type 0
+  Notes before door ends after later longer (Ok done) = (noted : Noted) × VisitsLink before door after later noted × (longer ≡ ends ++ noted ∷ [])
+  Notes before door ends after later longer (Err stop.Memory) = (after ≡ before) × (later ≡ door) × (longer ≡ ends)
+  Notes before door ends after later longer (Err why) = VisitsNext before door after later (Err why) × (longer ≡ ends)

@@ -1,7 +1,7 @@
 //! The links of one door, one after another, for either end.
 
 ghost use Rattle.std.specs.Prelude.{◌≡◌, ◌<◌, ◌++◌, ◌∷◌, [], IsTrue, false, vec_capacity, vec_len};
-ghost use Rattle.session_door.specs.Visits.{VisitsNext, Works, door_state};
+ghost use Rattle.session_door.specs.Visits.{Notes, VisitsNext, Works, door_state};
 
 use crate::gate::Gate;
 use crate::session::Session;
@@ -30,17 +30,68 @@ pub(crate) fn work_door<O, D: Door, S: Session<O, D::L>, G: Gate>(
     ensures home { D.out door.new ≡ false }
 {
     let mut ends = Vec::new(alloc);
+    let stop = visit_all(
+        alloc, session, beside, door, worker, sessions, gate, &mut ends,
+    );
+    Work {
+        ends: List::from_vec(ends),
+        stop,
+    }
+}
+
+/// Holds the sessions, and puts what is noted of each at the end of `ends`. Gives why no further
+/// link was taken.
+fn visit_all<O, D: Door, S: Session<O, D::L>, G: Gate>(
+    alloc: Global,
+    session: &S,
+    beside: &mut O,
+    door: &mut D,
+    worker: u32,
+    sessions: u32,
+    gate: &G,
+    ends: &mut Vec<(SessionRecord, SessionEnd)>,
+) -> Stop
+    requires sound { S.sound session.now }
+    requires home { D.out door.old ≡ false }
+    requires some { 0 < sessions }
+    requires none { ends.old.items ≡ [] }
+    ensures works { Works (S.held session.now) D.L.faults sessions beside.old (door_state D.left D.returned D.last D.faults door.old)
+        beside.new (door_state D.left D.returned D.last D.faults door.new) (record { ends = ends.new.items; stop = result }) }
+    ensures home { D.out door.new ≡ false }
+{
     for done in 0..sessions {
-        let has_room = make_room(&mut ends);
-        if !has_room {
-            return work_of(ends, Stop::Memory);
-        }
-        match visit_next(alloc, session, beside, door, worker, done + 1, gate) {
-            Ok(noted) => put(&mut ends, noted),
-            Err(stop) => return work_of(ends, stop),
+        let visited = visit_and_note(alloc, session, beside, door, worker, done + 1, gate, ends);
+        if let Err(stop) = visited {
+            return stop;
         }
     }
-    work_of(ends, Stop::Done)
+    Stop::Done
+}
+
+/// Holds a session on the next link of a door, and puts what is noted of it at the end of `ends`.
+/// Where there is no room for that, no link is taken.
+fn visit_and_note<O, D: Door, S: Session<O, D::L>, G: Gate>(
+    alloc: Global,
+    session: &S,
+    beside: &mut O,
+    door: &mut D,
+    worker: u32,
+    number: u32,
+    gate: &G,
+    ends: &mut Vec<(SessionRecord, SessionEnd)>,
+) -> Result<(), Stop>
+    requires sound { S.sound session.now }
+    requires home { D.out door.old ≡ false }
+    ensures notes { Notes (S.held session.now) D.L.faults beside.old (door_state D.left D.returned D.last D.faults door.old) ends.old.items
+        beside.new (door_state D.left D.returned D.last D.faults door.new) ends.new.items result }
+    ensures home { D.out door.new ≡ false }
+{
+    if !make_room(ends) {
+        return Err(Stop::Memory);
+    }
+    let noted = visit_next(alloc, session, beside, door, worker, number, gate)?;
+    put(ends, noted);
+    Ok(())
 }
 
 /// Makes room for what is noted of one more session; whether there is room.
@@ -57,17 +108,6 @@ fn put(ends: &mut Vec<(SessionRecord, SessionEnd)>, noted: (SessionRecord, Sessi
     ensures appended { ends.new.items ≡ ends.old.items ++ noted ∷ [] }
 {
     ends.push(noted).unwrap();
-}
-
-/// What a worker did.
-fn work_of(ends: Vec<(SessionRecord, SessionEnd)>, stop: Stop) -> Work
-    ensures ends { result.ends ≡ ends.items }
-    ensures stop { result.stop ≡ stop }
-{
-    Work {
-        ends: List::from_vec(ends),
-        stop,
-    }
 }
 
 /// Holds a session on the next link of a door, where one comes.

@@ -2,7 +2,7 @@
 use Rattle.std.proofs.Common.{◌≡◌, false, length}
 use Rattle.session_door.specs.Visits.{door_state}
 use Rattle.session_door.proofs.Visiting.{SoFar}
-use Rattle.session_door.proofs.door.work_door.Given as goal
+use Rattle.session_door.proofs.door.visit_all.Given as goal
 
 abbrev pub invariant-loop-done : goal.invariant-loop-done
 invariant-loop-done g l = record {
