@@ -1,6 +1,7 @@
 //! The summary of a day.
 
-ghost use Rattle.std.specs.Prelude.{◌≡◌, ◌++◌, IfOk, OnOk};
+ghost use Rattle.command_text.specs.Text.{mirror_text, refusal};
+ghost use Rattle.std.specs.Prelude.{◌≡◌, ◌++◌, IfOk, OnOk, codes};
 ghost use Rattle.session_day.specs.Day.{IsCount, MakeTells, count_of, digest_line, is_full, is_report, point_line, summary};
 
 use crate::day::{Day, play_day};
@@ -9,8 +10,8 @@ use session_world::Telling;
 use sha2::{Digest, Sha256};
 use std::alloc::Global;
 use swima_model::Point;
-use validator_core::Taken;
-use wire_base::{Memory, Octets};
+use validator_core::{Mirror, Taken};
+use wire_base::{List, Memory, Octets};
 
 /// What is printed of a day of an endpoint with that many packages: a summary; `Memory` where there
 /// is no room.
@@ -27,17 +28,26 @@ fn summary(alloc: Global, count: u32, day: &Day) -> Result<Octets, Memory>
     ensures summary { IfOk result (λ made.
         made ≡ summary count day.now.told day.now.carried day.now.world.mirror) }
 {
-    let mirror = day.world.mirror();
-    let mut out = refusal(alloc, "make", u64::from(count))?;
-    let told = day.told.as_slice();
-    out.extend(refusal(alloc, "reports", reports(told))?.as_slice())?;
-    out.extend(refusal(alloc, "full", adopted(told))?.as_slice())?;
-    out.extend(point_line(alloc, mirror.point())?.as_slice())?;
-    out.extend(refusal(alloc, "records", u64::from(mirror.count()))?.as_slice())?;
-    put_digest(&mut out, "octets", day.carried.as_slice())?;
-    let text = mirror_text(alloc, mirror)?;
-    put_digest(&mut out, "digest", text.as_slice())?;
+    let mut out = List::new(alloc);
+    put_summary(alloc, count, day, &mut out)?;
     Ok(out)
+}
+
+/// Puts what is printed of that day, line by line.
+fn put_summary(alloc: Global, count: u32, day: &Day, out: &mut Octets) -> Result<(), Memory>
+    ensures appended { OnOk result (
+        out.new ≡ out.old ++ summary count day.now.told day.now.carried day.now.world.mirror) }
+{
+    let told = day.told.as_slice();
+    let mirror = day.world.mirror();
+    put_number(alloc, "make", u64::from(count), out)?;
+    put_number(alloc, "reports", reports(told), out)?;
+    put_number(alloc, "full", adopted(told), out)?;
+    put_point(alloc, mirror.point(), out)?;
+    put_number(alloc, "records", u64::from(mirror.count()), out)?;
+    put_digest(out, "octets", day.carried.as_slice())?;
+    put_mirror_digest(alloc, mirror, out)?;
+    Ok(())
 }
 
 /// How many reports were taken.
@@ -72,6 +82,22 @@ fn is_full(told: &Telling) -> bool
     )
 }
 
+/// Puts a line of a word and a number.
+fn put_number(alloc: Global, word: &str, number: u64, out: &mut Octets) -> Result<(), Memory>
+    ensures appended { OnOk result (out.new ≡ out.old ++ refusal word.now number) }
+{
+    let line = refusal(alloc, word, number)?;
+    out.extend(line.as_slice())
+}
+
+/// Puts the line of the mirror's point.
+fn put_point(alloc: Global, point: Option<Point>, out: &mut Octets) -> Result<(), Memory>
+    ensures appended { OnOk result (out.new ≡ out.old ++ point_line point) }
+{
+    let line = point_line(alloc, point)?;
+    out.extend(line.as_slice())
+}
+
 fn point_line(alloc: Global, point: Option<Point>) -> Result<Octets, Memory>
     ensures line { IfOk result (λ made. made ≡ point_line point) }
 {
@@ -83,6 +109,14 @@ fn point_line(alloc: Global, point: Option<Point>) -> Result<Octets, Memory>
             Ok(from_string(format!(in alloc; "point {epoch} {eid}\n")?))
         }
     }
+}
+
+/// Puts the digest of the mirror's text.
+fn put_mirror_digest(alloc: Global, mirror: &Mirror, out: &mut Octets) -> Result<(), Memory>
+    ensures appended { OnOk result (out.new ≡ out.old ++ digest_line (codes "digest") (mirror_text mirror.now)) }
+{
+    let text = mirror_text(alloc, mirror)?;
+    put_digest(out, "digest", text.as_slice())
 }
 
 /// Puts a word and the digest of octets.
