@@ -3,8 +3,7 @@ use Rattle.coswid_res.specs.Schema.{a_code, one_or_more}
 use Rattle.coswid_res.specs.Words.{OneOrMore}
 use Rattle.coswid_tag.specs.declared.value.CodeValue.{CodeValue}
 use Rattle.coswid_tag.specs.declared.value.CodeValue.TheVariants as code
-use Rattle.coswid_codec.specs.Forms.{Code}
-use Rattle.coswid_codec.specs.Items.{code_item, codes_item}
+use Rattle.coswid_codec.specs.Parts.{Code, code_item, codes_item}
 use Rattle.coswid_codec.proofs.Lawful.{Lawful}
 use Rattle.coswid_codec.proofs.Plain.{code_law}
 use Rattle.coswid_codec.proofs.Several.{IsAlone, several_law}

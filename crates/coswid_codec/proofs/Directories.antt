@@ -10,6 +10,7 @@ use Rattle.coswid_res.specs.declared.resources.directory.PathElements.{PathEleme
 use Rattle.coswid_res.specs.declared.resources.directory.DirEntry.TheOpen.{DirEntry-F, PathElements-F}
 use Rattle.coswid_res.specs.declared.resources.directory.DirEntry.TheViews as views
 use Rattle.coswid_res.specs.declared.resources.directory.DirEntry.TheViews.{roll-DirEntry, roll-PathElements}
+use Rattle.coswid_res.specs.Columns.{◌⨾◌}
 use Rattle.coswid_res.specs.Directories.{DirectoryKeys, PathKeys, DirectoryPairs, directory, PathUnder, no_path, path, PathPairs, path_elements, DirectoriesUnder, no_directories, alone, several, EachDirectory, no_more, one_more, DirectoryMap, PathMap}
 use Rattle.coswid_res.specs.DirectoryItems.{directory_pairs, path_pairs, directory_item, path_item, directories_item}
 use Rattle.coswid_res.specs.Fault.{field_fault, elements_fault, under, wrong_form}
@@ -26,7 +27,7 @@ use Rattle.coswid_codec.proofs.Lawful.{Told, Lawful, MapTold, MapLawful, under_n
 use Rattle.coswid_codec.proofs.Lines.{line_none, required_same, required_some, optional_again, optional_same, optional_some, again_by, pairs_told, map_law}
 use Rattle.coswid_codec.proofs.Plain.{boolean_law, text_law}
 use Rattle.coswid_codec.proofs.Several.{array_told, one_told, filled, several_law}
-use Rattle.coswid_codec.proofs.Facts.{◌⨾◌, Facts, required_fact, optional_fact, told_fact, under_within}
+use Rattle.coswid_codec.proofs.Facts.{Facts, required_fact, optional_fact, told_fact, under_within}
 use Rattle.coswid_codec.proofs.Tables.{made, made_told}
 
 -- What is known of a directory in an item, of what one holds, and of several.

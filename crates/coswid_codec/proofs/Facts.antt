@@ -34,11 +34,6 @@ Facts least ps [] [] = Unit {0}
 Facts least ps (line ∷ lines) (e ∷ es) = Fact line e least ps × Facts least ps lines es
 Facts least ps lines es = ⊥
 
--- a fact, and those after it
-infixr 4 ◌⨾◌
-abbrev pub ◌⨾◌ : {A B : Type 0} → A → B → A × B
-fact ⨾ facts = (fact, facts)
-
 pub there : {A : Type 0} (Is : A → Term → Type 0) (v : A) (o : Option Term) → Agree Is (Some v) o → (t : Term) × (o ≡ Some t) × Is v t
 there Is v (Some t) is = (t, refl, is)
 there Is v None is = absurd is

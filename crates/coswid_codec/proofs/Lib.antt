@@ -3,8 +3,6 @@ pub mod Codes
 pub mod Columns
 pub mod Depths
 pub mod Directories
-pub mod Entities
-pub mod EvidenceLaws
 pub mod Extras
 pub mod Facts
 pub mod Fields
@@ -12,13 +10,10 @@ pub mod Files
 pub mod Lawful
 pub mod Lengths
 pub mod Lines
-pub mod Links
-pub mod Metas
 pub mod Outcomes
-pub mod Payloads
+pub mod Parts
 pub mod Placed
 pub mod Plain
-pub mod Processes
 pub mod Resources
 pub mod Several
 pub mod Sizes

@@ -12,8 +12,7 @@ use Rattle.coswid_tag.specs.declared.value.CodeValue.{CodeValue}
 use Rattle.coswid_tag.specs.declared.value.CodeValue.TheVariants as code
 use Rattle.coswid_tag.specs.declared.value.TagId.{TagId}
 use Rattle.coswid_tag.specs.declared.value.TagId.TheVariants as identifier
-use Rattle.coswid_codec.specs.Forms.{Identifier, Code}
-use Rattle.coswid_codec.specs.Items.{identifier_item, code_item}
+use Rattle.coswid_codec.specs.Parts.{Identifier, identifier_item, Code, code_item}
 use Rattle.coswid_codec.proofs.Lawful.{Told, Lawful, wrong, right}
 
 -- what is written just as it is read

@@ -13,13 +13,15 @@ use Rattle.coswid_res.specs.declared.resources.evidence.Evidence.{Evidence}
 use Rattle.coswid_res.specs.declared.resources.file.FileEntry.{FileEntry}
 use Rattle.coswid_res.specs.declared.resources.payload.Payload.{Payload}
 use Rattle.coswid_res.specs.Directories.{DirectoryPairs, directory, PathUnder, no_path, path, PathPairs, path_elements, DirectoriesUnder, no_directories, alone, several, EachDirectory, no_more, one_more, DirectoryMap}
-use Rattle.coswid_res.specs.Files.{FileKeys, FileMap}
-use Rattle.coswid_res.specs.Resources.{PayloadKeys, PayloadMap, EvidenceKeys, EvidenceMap}
+use Rattle.coswid_res.specs.Columns.{KeysOf, MapOf}
+use Rattle.coswid_res.specs.Files.{file_table}
+use Rattle.coswid_res.specs.Keys as keys
+use Rattle.coswid_res.specs.Resources.{payload_table, PayloadMap, evidence_table, EvidenceMap}
 use Rattle.coswid_res.specs.Sizes.{SizeFits, SizesFit, DirectorySizesFit, PathSizesFit, PayloadSizesFit, EvidenceSizesFit}
-use Rattle.coswid_res.specs.Words.{Agree, Each, IsMap, OneOrMore, OptionalAt, Unsigned}
+use Rattle.coswid_res.specs.Words.{Agree, Each, IsMap, OneOrMore, Optional, OptionalAt, Unsigned}
 use Rattle.coswid_res.proofs.Sizes.{directory_fits, path_fits}
 use Rattle.coswid_tag.specs.declared.tag.Tag.{Tag}
-use Rattle.coswid_codec.specs.Forms.{TagKeys}
+use Rattle.coswid_codec.specs.Forms.{tag_table}
 use Rattle.coswid_codec.specs.SizesFit as whole
 use Rattle.coswid_codec.proofs.Facts.{there, under_proper}
 
@@ -55,11 +57,11 @@ map_fits Are Fits one v t is proper = absurd is
 size_fits : (n : ℕ) (t : Term) → Unsigned n t → IsProper t → n < 2 ^ 63
 size_fits n t is proper = subst IsProper is proper
 
-file_fits : (f : FileEntry) (ps : Pairs) → FileKeys f ps → ArePairsProper ps → SizeFits f
-file_fits f ps keys proper = some_fits Unsigned (λ (n : ℕ). n < 2 ^ 63) size_fits 20 f.size ps keys.size proper
+file_fits : (f : FileEntry) (ps : Pairs) → KeysOf file_table f ps → ArePairsProper ps → SizeFits f
+file_fits f ps is proper = some_fits Unsigned (λ (n : ℕ). n < 2 ^ 63) size_fits 20 f.size ps is.keys.1.0 proper
 
-files_fit : (fs : List FileEntry) (t : Term) → OneOrMore FileMap fs t → IsProper t → SizesFit fs
-files_fit = several_fit FileMap SizeFits (map_fits FileKeys SizeFits file_fits)
+files_fit : (fs : List FileEntry) (t : Term) → OneOrMore (MapOf file_table) fs t → IsProper t → SizesFit fs
+files_fit = several_fit (MapOf file_table) SizeFits (map_fits (KeysOf file_table) SizeFits file_fits)
 
 one_fits : {A : Type 0} (Fits : A → Type 0) (v : A) → Fits v → ForSome (Some v) Fits
 one_fits {A} Fits v fit w some =
@@ -78,7 +80,7 @@ mutual
 
   path_read : (p : PathElements) (ps : Pairs) → PathPairs p ps → ArePairsProper ps → PathSizesFit p
   path_read p ps (path_elements q qs keys inside) proper =
-      path_fits q (some_fits (OneOrMore FileMap) SizesFit files_fit 17 (out-PathElements q).file qs keys.file proper)
+      path_fits q (some_fits (OneOrMore (MapOf file_table)) SizesFit files_fit 17 (out-PathElements q).file qs keys.file proper)
       (directories_under (out-PathElements q).directory (value_under 16 qs) inside (λ t some. under_proper 16 qs t some proper))
 
   directories_under : (x : Option (List DirEntry)) (o : Option Term) → DirectoriesUnder x o → ForSome o IsProper → ForSome x (All DirectorySizesFit)
@@ -94,24 +96,30 @@ mutual
 directories_fit : (ds : List DirEntry) (t : Term) → OneOrMore DirectoryMap ds t → IsProper t → All DirectorySizesFit ds
 directories_fit = several_fit DirectoryMap DirectorySizesFit (map_fits DirectoryPairs DirectorySizesFit directory_read)
 
-payload_fits : (p : Payload) (ps : Pairs) → PayloadKeys p ps → ArePairsProper ps → PayloadSizesFit p
-payload_fits p ps keys proper = record {
-  directory = some_fits (OneOrMore DirectoryMap) (All DirectorySizesFit) directories_fit 16 p.directory ps keys.directory proper;
-  file = some_fits (OneOrMore FileMap) SizesFit files_fit 17 p.file ps keys.file proper;
+payload_fits : (p : Payload) (ps : Pairs) → KeysOf payload_table p ps → ArePairsProper ps → PayloadSizesFit p
+payload_fits p ps is proper = record {
+  directory = some_fits (OneOrMore DirectoryMap) (All DirectorySizesFit) directories_fit 16 p.directory ps is.keys.0 proper;
+  file = some_fits (OneOrMore (MapOf file_table)) SizesFit files_fit 17 p.file ps is.keys.1.0 proper;
 }
 
-evidence_fits : (e : Evidence) (ps : Pairs) → EvidenceKeys e ps → ArePairsProper ps → EvidenceSizesFit e
-evidence_fits e ps keys proper = record {
-  directory = some_fits (OneOrMore DirectoryMap) (All DirectorySizesFit) directories_fit 16 e.directory ps keys.directory proper;
-  file = some_fits (OneOrMore FileMap) SizesFit files_fit 17 e.file ps keys.file proper;
+evidence_fits : (e : Evidence) (ps : Pairs) → KeysOf evidence_table e ps → ArePairsProper ps → EvidenceSizesFit e
+evidence_fits e ps is proper = record {
+  directory = some_fits (OneOrMore DirectoryMap) (All DirectorySizesFit) directories_fit 16 e.directory ps is.keys.0 proper;
+  file = some_fits (OneOrMore (MapOf file_table)) SizesFit files_fit 17 e.file ps is.keys.1.0 proper;
 }
 
-tag_fits : (g : Tag) (ps : Pairs) → TagKeys g ps → ArePairsProper ps → whole.SizesFit g
-tag_fits g ps keys proper = record {
-  payload = some_fits PayloadMap PayloadSizesFit (map_fits PayloadKeys PayloadSizesFit payload_fits) 6 g.payload ps keys.payload proper;
-  evidence = some_fits EvidenceMap EvidenceSizesFit (map_fits EvidenceKeys EvidenceSizesFit evidence_fits) 3 g.evidence ps keys.evidence proper;
+pub evidence_under : (g : Tag) (ps : Pairs) → KeysOf tag_table g ps → Optional keys.evidence EvidenceMap g.evidence ps
+evidence_under g ps is = is.keys.1.1.1.0
+
+pub payload_under : (g : Tag) (ps : Pairs) → KeysOf tag_table g ps → Optional keys.payload PayloadMap g.payload ps
+payload_under g ps is = is.keys.1.1.1.1.1.1.0
+
+tag_fits : (g : Tag) (ps : Pairs) → KeysOf tag_table g ps → ArePairsProper ps → whole.SizesFit g
+tag_fits g ps is proper = record {
+  payload = some_fits PayloadMap PayloadSizesFit (map_fits (KeysOf payload_table) PayloadSizesFit payload_fits) 6 g.payload ps (payload_under g ps is) proper;
+  evidence = some_fits EvidenceMap EvidenceSizesFit (map_fits (KeysOf evidence_table) EvidenceSizesFit evidence_fits) 3 g.evidence ps (evidence_under g ps is) proper;
 }
 
 -- A tag that is read from a proper item.
-pub read_fits : (g : Tag) (t : Term) → IsMap (TagKeys g) t → IsProper t → whole.SizesFit g
-read_fits = map_fits TagKeys whole.SizesFit tag_fits
+pub read_fits : (g : Tag) (t : Term) → MapOf tag_table g t → IsProper t → whole.SizesFit g
+read_fits = map_fits (KeysOf tag_table) whole.SizesFit tag_fits

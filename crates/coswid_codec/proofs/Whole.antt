@@ -8,27 +8,23 @@ use Rattle.cbor_det.specs.Proper.{IsProper}
 use Rattle.cbor_det.specs.Term.{Term, array, map, tagged, depth}
 use Rattle.cbor_det.proofs.Counts.{most, spelled_most}
 use Rattle.cbor_det.proofs.Written.{few_same, spelled_proper, written_begins}
+use Rattle.coswid_res.specs.Columns.{MapOf, map_of}
 use Rattle.coswid_res.specs.Fault.{field_fault, fault}
 use Rattle.coswid_res.specs.Schema.{one, a_map}
 use Rattle.coswid_res.specs.Schema as schema
-use Rattle.coswid_res.specs.Words.{Agree, IsMap}
+use Rattle.coswid_res.specs.Words.{Agree}
 use Rattle.coswid_res.specs.Resources.{PayloadMap, EvidenceMap}
 use Rattle.coswid_tag.specs.declared.tag.Tag.{Tag}
 use Rattle.coswid_codec.specs.Answers.{limits, BeginsTag}
-use Rattle.coswid_codec.specs.Forms.{TagKeys, TagForm}
-use Rattle.coswid_codec.specs.Items.{tag_pairs, tag_item}
+use Rattle.coswid_codec.specs.Forms.{tag_table, TagForm}
+use Rattle.coswid_codec.specs.Items.{tag_item}
 use Rattle.coswid_codec.specs.HasItem.{IsItemOf, HasItem}
 use Rattle.coswid_codec.specs.SizesFit.{SizesFit}
 use Rattle.coswid_codec.specs.Laws.{NoFaultOrNoTag, OneTag, HasItemWhereSome, ReadHasItem, WrittenIsRead, ReadIsWritten, OneTagOneSpelling}
 use Rattle.coswid_codec.specs.Marked.{coswid, content, has_both, is_deep}
 use Rattle.coswid_codec.specs.TagFault.{tag_fault}
-use Rattle.coswid_codec.proofs.Lawful.{Lawful}
-use Rattle.coswid_codec.proofs.Lines.{map_law}
-use Rattle.coswid_codec.proofs.Sizes.{read_fits}
-use Rattle.coswid_codec.proofs.Tags.{tag_law}
-
-law : Lawful (one (a_map schema.tag)) (λ (g : Tag). IsMap (TagKeys g)) (λ (g : Tag). map (tag_pairs g)) 5
-law = map_law schema.tag TagKeys tag_pairs 4 tag_law
+use Rattle.coswid_codec.proofs.Sizes.{evidence_under, payload_under, read_fits}
+use Rattle.coswid_codec.proofs.Tags.{tag_law as law}
 
 -- What a tag is read from has no fault.
 pub form_none : (g : Tag) (t : Term) → TagForm g t → tag_fault t ≡ None
@@ -52,10 +48,10 @@ agrees Is None (Some t) is = absurd is
 agrees Is (Some v) None is = absurd is
 agrees Is x o is = refl
 
-both_of : (g : Tag) (t : Term) → IsMap (TagKeys g) t → has_both t ≡ (is_some g.evidence && is_some g.payload)
+both_of : (g : Tag) (t : Term) → MapOf tag_table g t → has_both t ≡ (is_some g.evidence && is_some g.payload)
 both_of g (map ps) is =
-    ap (λ (b : Bool). b && is_some (value_under 6 ps)) (agrees EvidenceMap g.evidence (value_under 3 ps) is.evidence)
-    ∙ ap (λ (b : Bool). is_some g.evidence && b) (agrees PayloadMap g.payload (value_under 6 ps) is.payload)
+    ap (λ (b : Bool). b && is_some (value_under 6 ps)) (agrees EvidenceMap g.evidence (value_under 3 ps) (evidence_under g ps is))
+    ∙ ap (λ (b : Bool). is_some g.evidence && b) (agrees PayloadMap g.payload (value_under 6 ps) (payload_under g ps is))
 both_of g t is = absurd is
 
 -- How deep the written item is.
@@ -72,7 +68,7 @@ content_depth t shallow deep = omega arith
 
 pub written_depth : (g : Tag) (t : Term) → depth t ≤ 64 → TagForm g t → depth (tag_item g) ≤ 64
 written_depth g t deep form =
-    let l : depth (map (tag_pairs g)) ≤ 63 = (law.told g (content t) form.keys).within 63 (omega arith) (content_depth t form.shallow deep) in
+    let l : depth (map_of tag_table g) ≤ 63 = (law.told g (content t) form.keys).within 63 (omega arith) (content_depth t form.shallow deep) in
     omega (arith, l)
 
 -- What is written is read again.
@@ -96,7 +92,7 @@ read_sizes g t input len begins form = read_fits g (content t) form.keys (conten
 pub written_form : (g : Tag) (t : Term) → TagForm g t → TagForm g (tag_item g)
 written_form g t form =
     let again = (law.told g (content t) form.keys).again in
-    record { keys = again; one_of_them = both_of g (map (tag_pairs g)) again ∙ sym (both_of g (content t) form.keys) ∙ form.one_of_them; shallow = refl }
+    record { keys = again; one_of_them = both_of g (map_of tag_table g) again ∙ sym (both_of g (content t) form.keys) ∙ form.one_of_them; shallow = refl }
 
 written_item : (g : Tag) (t : Term) → IsItemOf g t → HasItem g
 written_item g t is = record {
@@ -135,7 +131,7 @@ written_few : (g : Tag) (n : ℕ) (input : List ℕ) → BeginsTag input g n →
 written_few g n input is =
     let read : most is.item ≤ length (take n input) = spelled_most is.item (take n input) is.begins.spelled in
     let short : n ≤ 8388608 = is.begins.short in
-    let all : most (map (tag_pairs g)) ≤ 8388608 + 16 =
+    let all : most (map_of tag_table g) ≤ 8388608 + 16 =
     (law.told g (content is.item) is.form.keys).few 8388608 (omega (arith, content_most is.item, read, short, length-take n input)) in
     omega (arith, all)
 

@@ -1,17 +1,17 @@
--- The lines of the two wide maps in groups of five, as they are read: RFC 9393, sections 2.3 and 2.8.
+-- The columns of the two wide maps in groups of five, as they are read: RFC 9393, sections 2.3 and
+-- 2.8.
 use Rattle.std.specs.Prelude.{List, take, drop}
 use Rattle.cbor_det.specs.Term.{Pairs}
-use Rattle.coswid_res.specs.Keys as keys
-use Rattle.coswid_res.specs.Resources.{PayloadMap, EvidenceMap}
+use Rattle.coswid_res.specs.Columns.{Values, Are, ◌⨾◌}
 use Rattle.coswid_res.specs.Schema.{Name, Line, table}
-use Rattle.coswid_res.specs.Words.{Text, Boolean, Integer, OneOrMore, Required, Optional}
 use Rattle.coswid_codec.specs.declared.meta.FirstFields as meta_first
 use Rattle.coswid_codec.specs.declared.meta.SecondFields as meta_second
 use Rattle.coswid_codec.specs.declared.meta.ThirdFields as meta_third
 use Rattle.coswid_codec.specs.declared.tag.FirstFields as tag_first
 use Rattle.coswid_codec.specs.declared.tag.SecondFields as tag_second
 use Rattle.coswid_codec.specs.declared.tag.ThirdFields as tag_third
-use Rattle.coswid_codec.specs.Forms.{Identifier, Code, EntityMap, LinkMap, MetaMap}
+use Rattle.coswid_codec.specs.Forms.{tag_table}
+use Rattle.coswid_codec.specs.Parts.{meta_table}
 
 abbrev pub first_lines : Name → List Line
 first_lines name = take 5 (table name)
@@ -22,44 +22,42 @@ second_lines name = take 5 (drop 5 (table name))
 abbrev pub third_lines : Name → List Line
 third_lines name = drop 10 (table name)
 
-pub record FirstTagKeys (f : tag_first.FirstFields) (ps : Pairs) : Type 0 where
-  pub tag_id : Required keys.tag_id Identifier f.tag_id ps
-  pub software_name : Required keys.software_name Text f.software_name ps
-  pub entity : Required keys.entity (OneOrMore EntityMap) f.entity ps
-  pub evidence : Optional keys.evidence EvidenceMap f.evidence ps
-  pub link : Optional keys.link (OneOrMore LinkMap) f.link ps
+-- of a tag
 
-pub record SecondTagKeys (f : tag_second.SecondFields) (ps : Pairs) : Type 0 where
-  pub software_meta : Optional keys.software_meta (OneOrMore MetaMap) f.software_meta ps
-  pub payload : Optional keys.payload PayloadMap f.payload ps
-  pub corpus : Optional keys.corpus Boolean f.corpus ps
-  pub patch : Optional keys.patch Boolean f.patch ps
-  pub media : Optional keys.media Text f.media ps
+abbrev pub first_tag_values : tag_first.FirstFields → Values (take 5 tag_table.columns)
+first_tag_values f = f.tag_id ⨾ f.software_name ⨾ f.entity ⨾ f.evidence ⨾ f.link ⨾ tt
 
-pub record ThirdTagKeys (f : tag_third.ThirdFields) (ps : Pairs) : Type 0 where
-  pub supplemental : Optional keys.supplemental Boolean f.supplemental ps
-  pub tag_version : Required keys.tag_version Integer f.tag_version ps
-  pub software_version : Optional keys.software_version Text f.software_version ps
-  pub version_scheme : Optional keys.version_scheme Code f.version_scheme ps
-  pub lang : Optional keys.lang Text f.lang ps
+abbrev pub second_tag_values : tag_second.SecondFields → Values (take 5 (drop 5 tag_table.columns))
+second_tag_values f = f.software_meta ⨾ f.payload ⨾ f.corpus ⨾ f.patch ⨾ f.media ⨾ tt
 
-pub record FirstMetaKeys (f : meta_first.FirstFields) (ps : Pairs) : Type 0 where
-  pub activation_status : Optional keys.activation_status Text f.activation_status ps
-  pub channel_type : Optional keys.channel_type Text f.channel_type ps
-  pub colloquial_version : Optional keys.colloquial_version Text f.colloquial_version ps
-  pub description : Optional keys.description Text f.description ps
-  pub edition : Optional keys.edition Text f.edition ps
+abbrev pub third_tag_values : tag_third.ThirdFields → Values (drop 10 tag_table.columns)
+third_tag_values f = f.supplemental ⨾ f.tag_version ⨾ f.software_version ⨾ f.version_scheme ⨾ f.lang ⨾ tt
 
-pub record SecondMetaKeys (f : meta_second.SecondFields) (ps : Pairs) : Type 0 where
-  pub entitlement_data_required : Optional keys.entitlement_data_required Boolean f.entitlement_data_required ps
-  pub entitlement_key : Optional keys.entitlement_key Text f.entitlement_key ps
-  pub generator : Optional keys.generator Identifier f.generator ps
-  pub persistent_id : Optional keys.persistent_id Text f.persistent_id ps
-  pub product : Optional keys.product Text f.product ps
+abbrev pub FirstTagKeys : tag_first.FirstFields → Pairs → Type 0
+FirstTagKeys f = Are (take 5 tag_table.columns) (first_tag_values f)
 
-pub record ThirdMetaKeys (f : meta_third.ThirdFields) (ps : Pairs) : Type 0 where
-  pub product_family : Optional keys.product_family Text f.product_family ps
-  pub revision : Optional keys.revision Text f.revision ps
-  pub summary : Optional keys.summary Text f.summary ps
-  pub unspsc_code : Optional keys.unspsc_code Text f.unspsc_code ps
-  pub unspsc_version : Optional keys.unspsc_version Text f.unspsc_version ps
+abbrev pub SecondTagKeys : tag_second.SecondFields → Pairs → Type 0
+SecondTagKeys f = Are (take 5 (drop 5 tag_table.columns)) (second_tag_values f)
+
+abbrev pub ThirdTagKeys : tag_third.ThirdFields → Pairs → Type 0
+ThirdTagKeys f = Are (drop 10 tag_table.columns) (third_tag_values f)
+
+-- of a description
+
+abbrev pub first_meta_values : meta_first.FirstFields → Values (take 5 meta_table.columns)
+first_meta_values f = f.activation_status ⨾ f.channel_type ⨾ f.colloquial_version ⨾ f.description ⨾ f.edition ⨾ tt
+
+abbrev pub second_meta_values : meta_second.SecondFields → Values (take 5 (drop 5 meta_table.columns))
+second_meta_values f = f.entitlement_data_required ⨾ f.entitlement_key ⨾ f.generator ⨾ f.persistent_id ⨾ f.product ⨾ tt
+
+abbrev pub third_meta_values : meta_third.ThirdFields → Values (drop 10 meta_table.columns)
+third_meta_values f = f.product_family ⨾ f.revision ⨾ f.summary ⨾ f.unspsc_code ⨾ f.unspsc_version ⨾ tt
+
+abbrev pub FirstMetaKeys : meta_first.FirstFields → Pairs → Type 0
+FirstMetaKeys f = Are (take 5 meta_table.columns) (first_meta_values f)
+
+abbrev pub SecondMetaKeys : meta_second.SecondFields → Pairs → Type 0
+SecondMetaKeys f = Are (take 5 (drop 5 meta_table.columns)) (second_meta_values f)
+
+abbrev pub ThirdMetaKeys : meta_third.ThirdFields → Pairs → Type 0
+ThirdMetaKeys f = Are (drop 10 meta_table.columns) (third_meta_values f)

@@ -6,8 +6,7 @@ use Rattle.cbor_det.specs.Canonical.{canon}
 use Rattle.cbor_det.specs.Proper.{IsProper}
 use Rattle.cbor_det.specs.Term.{Term, depth}
 use Rattle.coswid_res.specs.Fault.{field_fault}
-use Rattle.coswid_res.specs.ResourceItems.{payload_item, evidence_item}
-use Rattle.coswid_res.specs.Resources.{PayloadMap, EvidenceMap}
+use Rattle.coswid_res.specs.Resources.{payload_item, evidence_item, PayloadMap, EvidenceMap}
 use Rattle.coswid_res.specs.Schema.{Field, one, a_map, payload, evidence}
 use Rattle.coswid_tag.specs.declared.tag.Tag.{Tag}
 use Rattle.coswid_codec.specs.declared.read.TagRefused.{TagRefused}

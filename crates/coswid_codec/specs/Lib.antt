@@ -1,4 +1,5 @@
 pub mod Marked
+pub mod Parts
 pub mod Forms
 pub mod Items
 pub mod TagFault

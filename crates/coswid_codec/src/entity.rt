@@ -1,7 +1,7 @@
 //! Entities: RFC 9393, section 2.6.
 
-ghost use Rattle.coswid_codec.specs.Forms.{EntityKeys};
-ghost use Rattle.coswid_codec.specs.Items.{entity_pairs};
+ghost use Rattle.coswid_codec.specs.Parts.{entity_table};
+ghost use Rattle.coswid_res.specs.Columns.{KeysOf, pairs_of};
 ghost use Rattle.coswid_res.specs.Schema as schema;
 
 use crate::key;
@@ -19,9 +19,9 @@ impl Mapped for EntityTable {
 
     ghost name = { schema.entity };
 
-    ghost keys = { EntityKeys };
+    ghost keys = { KeysOf entity_table };
 
-    ghost written = { entity_pairs };
+    ghost written = { pairs_of entity_table };
 
     #[tactic(auto, using(crate::proofs::Takes::still, crate::proofs::Takes::others_of))]
     fn read(alloc: Global, pairs: Pairs) -> Result<Entity, FormRefused> {

@@ -1,7 +1,6 @@
 //! The forms of identifiers and codes.
 
-ghost use Rattle.coswid_codec.specs.Forms.{Identifier, Code};
-ghost use Rattle.coswid_codec.specs.Items.{identifier_item, code_item};
+ghost use Rattle.coswid_codec.specs.Parts.{Identifier, identifier_item, Code, code_item};
 ghost use Rattle.coswid_res.specs.Schema.{an_identifier, a_code};
 ghost use Rattle.std.specs.Prelude.{◌==◌, length};
 ghost use Rattle.cbor_det.specs.Term.{octets as octets_item};

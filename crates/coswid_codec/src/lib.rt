@@ -27,7 +27,7 @@
 //! | file | what it says |
 //! |---|---|
 //! | `Answers` | what octets begin with, and what is answered |
-//! | `Forms`, `Groups` | the items that a tag is read from, key by key |
+//! | `Parts`, `Forms`, `Groups` | the tables of tags and of what is in them, key by key |
 //! | `Marked`, `TagFault` | items under the tag of CoSWID tags; the first form fault |
 //! | `Items`, `HasItem`, `SizesFit` | the item that a tag is written as; which tags have one |
 //! | `TagText` | the lines of the command `tag` |

@@ -1,7 +1,7 @@
 //! Links: RFC 9393, section 2.7.
 
-ghost use Rattle.coswid_codec.specs.Forms.{LinkKeys};
-ghost use Rattle.coswid_codec.specs.Items.{link_pairs};
+ghost use Rattle.coswid_codec.specs.Parts.{link_table};
+ghost use Rattle.coswid_res.specs.Columns.{KeysOf, pairs_of};
 ghost use Rattle.coswid_res.specs.Schema as schema;
 
 use crate::key;
@@ -19,9 +19,9 @@ impl Mapped for LinkTable {
 
     ghost name = { schema.link };
 
-    ghost keys = { LinkKeys };
+    ghost keys = { KeysOf link_table };
 
-    ghost written = { link_pairs };
+    ghost written = { pairs_of link_table };
 
     #[tactic(auto, using(crate::proofs::Takes::still, crate::proofs::Takes::others_of))]
     fn read(alloc: Global, pairs: Pairs) -> Result<LinkEntry, FormRefused> {

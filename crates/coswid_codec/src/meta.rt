@@ -3,9 +3,9 @@
 ghost use Rattle.std.specs.Prelude.{◌≡◌, OnOk};
 ghost use Rattle.cbor_det.specs.Lookup.{other_than};
 ghost use Rattle.cbor_det.specs.View.{pairs_view};
-ghost use Rattle.coswid_codec.specs.Forms.{MetaKeys};
+ghost use Rattle.coswid_codec.specs.Parts.{meta_table};
 ghost use Rattle.coswid_codec.specs.Groups.{FirstMetaKeys, SecondMetaKeys, ThirdMetaKeys, first_lines, second_lines, third_lines};
-ghost use Rattle.coswid_codec.specs.Items.{meta_pairs};
+ghost use Rattle.coswid_res.specs.Columns.{KeysOf, pairs_of};
 ghost use Rattle.coswid_res.specs.Reading.{Gives, lines_fault};
 ghost use Rattle.coswid_res.specs.Schema as schema;
 ghost use Rattle.coswid_res.specs.Schema.{keys_of};
@@ -25,9 +25,9 @@ impl Mapped for MetaTable {
 
     ghost name = { schema.software_meta };
 
-    ghost keys = { MetaKeys };
+    ghost keys = { KeysOf meta_table };
 
-    ghost written = { meta_pairs };
+    ghost written = { pairs_of meta_table };
 
     fn read(alloc: Global, pairs: Pairs) -> Result<SoftwareMeta, FormRefused> {
         let mut pairs = pairs;

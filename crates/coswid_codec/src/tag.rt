@@ -3,9 +3,9 @@
 ghost use Rattle.std.specs.Prelude.{◌≡◌, OnOk};
 ghost use Rattle.cbor_det.specs.Lookup.{other_than};
 ghost use Rattle.cbor_det.specs.View.{pairs_view};
-ghost use Rattle.coswid_codec.specs.Forms.{TagKeys};
+ghost use Rattle.coswid_codec.specs.Forms.{tag_table};
 ghost use Rattle.coswid_codec.specs.Groups.{FirstTagKeys, SecondTagKeys, ThirdTagKeys, first_lines, second_lines, third_lines};
-ghost use Rattle.coswid_codec.specs.Items.{tag_pairs};
+ghost use Rattle.coswid_res.specs.Columns.{KeysOf, pairs_of};
 ghost use Rattle.coswid_res.specs.Fault.{missing};
 ghost use Rattle.coswid_res.specs.Reading.{Gives, lines_fault};
 ghost use Rattle.coswid_res.specs.Schema as schema;
@@ -26,9 +26,9 @@ impl Mapped for TagTable {
 
     ghost name = { schema.tag };
 
-    ghost keys = { TagKeys };
+    ghost keys = { KeysOf tag_table };
 
-    ghost written = { tag_pairs };
+    ghost written = { pairs_of tag_table };
 
     fn read(alloc: Global, pairs: Pairs) -> Result<Tag, FormRefused> {
         expect_required(alloc, &pairs)?;

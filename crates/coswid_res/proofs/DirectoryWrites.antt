@@ -6,7 +6,8 @@ use Rattle.cbor_det.specs.View.{pairs_view}
 use Rattle.coswid_res.specs.declared.resources.directory.DirEntry.{DirEntry, out-DirEntry, the_lemmas}
 use Rattle.coswid_res.specs.declared.resources.directory.PathElements.{PathElements, out-PathElements}
 use Rattle.coswid_res.specs.DirectoryItems.{directory_pairs, path_pairs, directory_item, path_item, directories_item}
-use Rattle.coswid_res.specs.Files.{files_item}
+use Rattle.coswid_res.specs.Columns.{maps_of}
+use Rattle.coswid_res.specs.Files.{file_table}
 use Rattle.coswid_res.specs.Items.{row_item, required_pair, optional_pair}
 use Rattle.coswid_res.specs.Keys as keys
 use Rattle.std.specs.Option.{option_map}
@@ -28,7 +29,7 @@ directory_rows d =
 abbrev pub path_rows : PathElements → List Row
 path_rows p =
     optional_pair keys.directory directories_item (out-PathElements p).directory
-    ∷ optional_pair keys.file files_item (out-PathElements p).file
+    ∷ optional_pair keys.file (maps_of file_table) (out-PathElements p).file
     ∷ []
 
 -- all rows but the last
@@ -58,10 +59,10 @@ some_rows (Some ds) = ap (λ (ts : List Term). Some (row_item ts)) (items ds)
 
 path_folded : (p : PathElements) → path_pairs p ≡ put_rows (
     optional_pair keys.directory (λ (qs : List Pairs). row_item (map_list map qs)) (option_map (λ (ds : List DirEntry). map_list directory_pairs ds) (out-PathElements p).directory)
-    ∷ optional_pair keys.file files_item (out-PathElements p).file
+    ∷ optional_pair keys.file (maps_of file_table) (out-PathElements p).file
     ∷ []) (pairs_view (out-PathElements p).extras)
 path_folded p = search (rules, the_lemmas)
 
 pub path_written : (p : PathElements) → path_pairs p ≡ put_rows (path_rows p) (pairs_view (out-PathElements p).extras)
 path_written p =
-    path_folded p ∙ ap (λ (o : Option Term). put_row (17, option_map files_item (out-PathElements p).file) (put_row (16, o) (pairs_view (out-PathElements p).extras))) (some_rows (out-PathElements p).directory)
+    path_folded p ∙ ap (λ (o : Option Term). put_row (17, option_map (maps_of file_table) (out-PathElements p).file) (put_row (16, o) (pairs_view (out-PathElements p).extras))) (some_rows (out-PathElements p).directory)

@@ -5,7 +5,8 @@ use Rattle.cbor_det.specs.Term.{Term, Terms, Pairs, array, map, no_terms, term}
 use Rattle.coswid_res.specs.declared.resources.directory.DirEntry.{DirEntry, out-DirEntry}
 use Rattle.coswid_res.specs.declared.resources.directory.PathElements.{PathElements, out-PathElements}
 use Rattle.coswid_res.specs.declared.resources.directory.DirEntry.TheOpen.{DirEntry-F, PathElements-F}
-use Rattle.coswid_res.specs.Files.{FileMap}
+use Rattle.coswid_res.specs.Columns.{MapOf}
+use Rattle.coswid_res.specs.Files.{file_table}
 use Rattle.coswid_res.specs.Keys as keys
 use Rattle.coswid_res.specs.Keys.{number}
 use Rattle.coswid_res.specs.Schema as schema
@@ -21,7 +22,7 @@ pub record DirectoryKeys (d : DirEntry-F DirEntry PathElements) (ps : Pairs) : T
 
 -- The lines of what it holds except for the directories in it.
 pub record PathKeys (p : PathElements-F DirEntry PathElements) (ps : Pairs) : Type 0 where
-  pub file : Optional keys.file (OneOrMore FileMap) p.file ps
+  pub file : Optional keys.file (OneOrMore (MapOf file_table)) p.file ps
   pub extras : Rest schema.path_elements p.extras ps
 
 -- Each level has the lines above and one more, under whose key the next level stands.

@@ -6,7 +6,8 @@ use Rattle.cbor_det.specs.View.{pairs_view}
 use Rattle.coswid_res.specs.declared.resources.directory.DirEntry.{DirEntry, fold-DirEntry}
 use Rattle.coswid_res.specs.declared.resources.directory.PathElements.{PathElements, fold-PathElements}
 use Rattle.coswid_res.specs.declared.resources.directory.DirEntry.TheOpen as layer
-use Rattle.coswid_res.specs.Files.{files_item}
+use Rattle.coswid_res.specs.Columns.{maps_of}
+use Rattle.coswid_res.specs.Files.{file_table}
 use Rattle.coswid_res.specs.Items.{row_item, required_pair, optional_pair}
 use Rattle.coswid_res.specs.Keys as keys
 
@@ -26,7 +27,7 @@ abbrev pub path_step : layer.PathElements-F Pairs Pairs → Pairs
 path_step p =
     put_rows (
     optional_pair keys.directory (λ ds. row_item (map_list map ds)) p.directory
-    ∷ optional_pair keys.file files_item p.file
+    ∷ optional_pair keys.file (maps_of file_table) p.file
     ∷ []) (pairs_view p.extras)
 
 abbrev pub directory_pairs : DirEntry → Pairs

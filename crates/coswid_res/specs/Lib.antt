@@ -6,11 +6,11 @@ pub mod FaultKinds
 pub mod Words
 pub mod Reading
 pub mod Items
+pub mod Columns
 pub mod Spelled
 pub mod Files
 pub mod Sizes
 pub mod Resources
-pub mod ResourceItems
 pub mod Directories
 pub mod DirectoryItems
 pub mod Listing

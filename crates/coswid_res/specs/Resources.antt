@@ -1,52 +1,69 @@
--- The items that payload and evidence are read from, key by key: RFC 9393, section 2.9.
-use Rattle.cbor_det.specs.Term.{Term, Pairs}
+-- Payload, evidence, and the processes and other resources in them: RFC 9393, section 2.9.
+use Rattle.std.specs.Prelude.{[], ◌∷◌}
+use Rattle.cbor_det.specs.Term.{Term, integer, text}
 use Rattle.coswid_res.specs.declared.resources.evidence.Evidence.{Evidence}
 use Rattle.coswid_res.specs.declared.resources.payload.Payload.{Payload}
 use Rattle.coswid_res.specs.declared.resources.process.ProcessEntry.{ProcessEntry}
 use Rattle.coswid_res.specs.declared.resources.resource.ResourceEntry.{ResourceEntry}
+use Rattle.coswid_res.specs.Columns.{Table, required, optional, MapOf, map_of, maps_of}
 use Rattle.coswid_res.specs.Directories.{DirectoryMap}
-use Rattle.coswid_res.specs.Files.{FileMap}
+use Rattle.coswid_res.specs.DirectoryItems.{directories_item}
+use Rattle.coswid_res.specs.Files.{file_table}
+use Rattle.coswid_res.specs.Items.{time_item}
 use Rattle.coswid_res.specs.Keys as keys
-use Rattle.coswid_res.specs.Schema as schema
-use Rattle.coswid_res.specs.Words.{Text, Integer, Time, OneOrMore, IsMap, Required, Optional, Rest}
+use Rattle.coswid_res.specs.Words.{Text, Integer, Time, OneOrMore}
 
 -- Section 2.9.2.
-pub record ProcessKeys (p : ProcessEntry) (ps : Pairs) : Type 0 where
-  pub process_name : Required keys.process_name Text p.process_name ps
-  pub pid : Optional keys.pid Integer p.pid ps
-  pub extras : Rest schema.process p.extras ps
+abbrev pub process_table : Table ProcessEntry
+process_table = record {
+  columns =
+      required keys.process_name Text text (λ p. p.process_name)
+      ∷ optional keys.pid Integer integer (λ p. p.pid)
+      ∷ [];
+  extras = λ p. p.extras;
+}
 
-abbrev pub ProcessMap : ProcessEntry → Term → Type 0
-ProcessMap p = IsMap (ProcessKeys p)
-
-pub record ResourceKeys (r : ResourceEntry) (ps : Pairs) : Type 0 where
-  pub resource_type : Required keys.resource_type Text r.resource_type ps
-  pub extras : Rest schema.resource r.extras ps
-
-abbrev pub ResourceMap : ResourceEntry → Term → Type 0
-ResourceMap r = IsMap (ResourceKeys r)
+abbrev pub resource_table : Table ResourceEntry
+resource_table = record {
+  columns = required keys.resource_type Text text (λ r. r.resource_type) ∷ [];
+  extras = λ r. r.extras;
+}
 
 -- Section 2.9.3.
-pub record PayloadKeys (p : Payload) (ps : Pairs) : Type 0 where
-  pub directory : Optional keys.directory (OneOrMore DirectoryMap) p.directory ps
-  pub file : Optional keys.file (OneOrMore FileMap) p.file ps
-  pub process : Optional keys.process (OneOrMore ProcessMap) p.process ps
-  pub resource : Optional keys.resource (OneOrMore ResourceMap) p.resource ps
-  pub extras : Rest schema.payload p.extras ps
+abbrev pub payload_table : Table Payload
+payload_table = record {
+  columns =
+      optional keys.directory (OneOrMore DirectoryMap) directories_item (λ p. p.directory)
+      ∷ optional keys.file (OneOrMore (MapOf file_table)) (maps_of file_table) (λ p. p.file)
+      ∷ optional keys.process (OneOrMore (MapOf process_table)) (maps_of process_table) (λ p. p.process)
+      ∷ optional keys.resource (OneOrMore (MapOf resource_table)) (maps_of resource_table) (λ p. p.resource)
+      ∷ [];
+  extras = λ p. p.extras;
+}
 
 abbrev pub PayloadMap : Payload → Term → Type 0
-PayloadMap p = IsMap (PayloadKeys p)
+PayloadMap = MapOf payload_table
+
+abbrev pub payload_item : Payload → Term
+payload_item = map_of payload_table
 
 -- Section 2.9.4.
-pub record EvidenceKeys (e : Evidence) (ps : Pairs) : Type 0 where
-  pub directory : Optional keys.directory (OneOrMore DirectoryMap) e.directory ps
-  pub file : Optional keys.file (OneOrMore FileMap) e.file ps
-  pub process : Optional keys.process (OneOrMore ProcessMap) e.process ps
-  pub resource : Optional keys.resource (OneOrMore ResourceMap) e.resource ps
-  pub location : Optional keys.location Text e.location ps
-  pub date : Optional keys.date Time e.date ps
-  pub device_id : Optional keys.device_id Text e.device_id ps
-  pub extras : Rest schema.evidence e.extras ps
+abbrev pub evidence_table : Table Evidence
+evidence_table = record {
+  columns =
+      optional keys.directory (OneOrMore DirectoryMap) directories_item (λ e. e.directory)
+      ∷ optional keys.file (OneOrMore (MapOf file_table)) (maps_of file_table) (λ e. e.file)
+      ∷ optional keys.process (OneOrMore (MapOf process_table)) (maps_of process_table) (λ e. e.process)
+      ∷ optional keys.resource (OneOrMore (MapOf resource_table)) (maps_of resource_table) (λ e. e.resource)
+      ∷ optional keys.location Text text (λ e. e.location)
+      ∷ optional keys.date Time time_item (λ e. e.date)
+      ∷ optional keys.device_id Text text (λ e. e.device_id)
+      ∷ [];
+  extras = λ e. e.extras;
+}
 
 abbrev pub EvidenceMap : Evidence → Term → Type 0
-EvidenceMap e = IsMap (EvidenceKeys e)
+EvidenceMap = MapOf evidence_table
+
+abbrev pub evidence_item : Evidence → Term
+evidence_item = map_of evidence_table

@@ -16,14 +16,14 @@
 //! |---|---|---|
 //! | `tables/form.rt`, `value_forms.rt` | the forms of values | `Fields`, `Words`, `Items` |
 //! | `tables/key.rt` | a number with its form; a field of a map | `Words`, `Reading`, `Spelled` |
-//! | `tables/map_form.rt` | values that are written as maps | `Schema`, `Reading` |
+//! | `tables/map_form.rt` | values that are written as maps | `Columns`, `Schema`, `Reading` |
 //! | `tables/rows.rt` | one or more values: an array, or one alone | `Words`, `Items` |
 //! | `tables/missing_key.rt`, `fault.rt` | the first form fault, with its path | `Fault` |
 //! | `fault_kind.rt` | the kinds of form faults, by name | `FaultKinds` |
 //! | `resources/table.rt` | the keys of payload and evidence | `Keys`, `Schema` |
 //! | `resources/file.rt` | files | `Files`, `Sizes` |
 //! | `resources/directory*.rt` | directories, read, spelled and written | `Directories`, `DirectoryItems` |
-//! | the others of `resources/` | the other values | `Resources`, `ResourceItems` |
+//! | the others of `resources/` | the other values | `Resources` |
 //! | `verification/directory_path.rt` | the paths of files | `Listing` |
 //! | `verification/verdict.rt`, `verify.rt` | the verdict on each file | `Verify` |
 //! | `laws.rt` | what the definitions mean, proved | |

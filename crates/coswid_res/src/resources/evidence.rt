@@ -2,10 +2,10 @@
 
 ghost use Rattle.std.specs.Prelude.{◌≡◌, IfOk};
 ghost use Rattle.cbor_det.specs.View.{view};
+ghost use Rattle.coswid_res.specs.Columns.{KeysOf, pairs_of};
 ghost use Rattle.coswid_res.specs.Fault.{field_fault};
 ghost use Rattle.coswid_res.specs.Reading.{Gives};
-ghost use Rattle.coswid_res.specs.Resources.{EvidenceKeys, EvidenceMap};
-ghost use Rattle.coswid_res.specs.ResourceItems.{evidence_pairs, evidence_item};
+ghost use Rattle.coswid_res.specs.Resources.{evidence_table, EvidenceMap, evidence_item};
 ghost use Rattle.coswid_res.specs.Sizes.{EvidenceSizesFit};
 ghost use Rattle.coswid_res.specs.Schema as schema;
 
@@ -51,9 +51,9 @@ impl Mapped for EvidenceTable {
 
     ghost name = { schema.evidence };
 
-    ghost keys = { EvidenceKeys };
+    ghost keys = { KeysOf evidence_table };
 
-    ghost written = { evidence_pairs };
+    ghost written = { pairs_of evidence_table };
 
     #[tactic(auto, using(crate::proofs::Takes::still, crate::proofs::Takes::others_of))]
     fn read(alloc: Global, pairs: Pairs) -> Result<Evidence, FormRefused> {

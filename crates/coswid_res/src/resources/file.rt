@@ -1,6 +1,7 @@
 //! Files of a payload or of evidence: RFC 9393, section 2.9.2.
 
-ghost use Rattle.coswid_res.specs.Files.{FileKeys, file_pairs};
+ghost use Rattle.coswid_res.specs.Columns.{KeysOf, pairs_of};
+ghost use Rattle.coswid_res.specs.Files.{file_table};
 ghost use Rattle.coswid_res.specs.Sizes.{SizeFits};
 ghost use Rattle.coswid_res.specs.Schema as schema;
 
@@ -45,9 +46,9 @@ impl Mapped for FileTable {
 
     ghost name = { schema.file };
 
-    ghost keys = { FileKeys };
+    ghost keys = { KeysOf file_table };
 
-    ghost written = { file_pairs };
+    ghost written = { pairs_of file_table };
 
     #[tactic(auto, using(crate::proofs::Takes::still, crate::proofs::Takes::others_of))]
     fn read(alloc: Global, pairs: Pairs) -> Result<FileEntry, FormRefused> {

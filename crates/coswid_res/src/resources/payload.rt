@@ -2,10 +2,10 @@
 
 ghost use Rattle.std.specs.Prelude.{◌≡◌, IfOk};
 ghost use Rattle.cbor_det.specs.View.{view};
+ghost use Rattle.coswid_res.specs.Columns.{KeysOf, pairs_of};
 ghost use Rattle.coswid_res.specs.Fault.{field_fault};
 ghost use Rattle.coswid_res.specs.Reading.{Gives};
-ghost use Rattle.coswid_res.specs.Resources.{PayloadKeys, PayloadMap};
-ghost use Rattle.coswid_res.specs.ResourceItems.{payload_pairs, payload_item};
+ghost use Rattle.coswid_res.specs.Resources.{payload_table, PayloadMap, payload_item};
 ghost use Rattle.coswid_res.specs.Sizes.{PayloadSizesFit};
 ghost use Rattle.coswid_res.specs.Schema as schema;
 
@@ -45,9 +45,9 @@ impl Mapped for PayloadTable {
 
     ghost name = { schema.payload };
 
-    ghost keys = { PayloadKeys };
+    ghost keys = { KeysOf payload_table };
 
-    ghost written = { payload_pairs };
+    ghost written = { pairs_of payload_table };
 
     #[tactic(auto, using(crate::proofs::Takes::still, crate::proofs::Takes::others_of))]
     fn read(alloc: Global, pairs: Pairs) -> Result<Payload, FormRefused> {

@@ -1,7 +1,7 @@
 //! Processes of a payload or of evidence: RFC 9393, section 2.9.2.
 
-ghost use Rattle.coswid_res.specs.Resources.{ProcessKeys};
-ghost use Rattle.coswid_res.specs.ResourceItems.{process_pairs};
+ghost use Rattle.coswid_res.specs.Columns.{KeysOf, pairs_of};
+ghost use Rattle.coswid_res.specs.Resources.{process_table};
 ghost use Rattle.coswid_res.specs.Schema as schema;
 
 use crate::fault::FormRefused;
@@ -34,9 +34,9 @@ impl Mapped for ProcessTable {
 
     ghost name = { schema.process };
 
-    ghost keys = { ProcessKeys };
+    ghost keys = { KeysOf process_table };
 
-    ghost written = { process_pairs };
+    ghost written = { pairs_of process_table };
 
     #[tactic(auto, using(crate::proofs::Takes::still, crate::proofs::Takes::others_of))]
     fn read(alloc: Global, pairs: Pairs) -> Result<ProcessEntry, FormRefused> {

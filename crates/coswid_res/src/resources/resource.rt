@@ -1,8 +1,8 @@
 //! Resources of a payload or of evidence that are neither directories nor files nor processes:
 //! RFC 9393, section 2.9.2.
 
-ghost use Rattle.coswid_res.specs.Resources.{ResourceKeys};
-ghost use Rattle.coswid_res.specs.ResourceItems.{resource_pairs};
+ghost use Rattle.coswid_res.specs.Columns.{KeysOf, pairs_of};
+ghost use Rattle.coswid_res.specs.Resources.{resource_table};
 ghost use Rattle.coswid_res.specs.Schema as schema;
 
 use crate::fault::FormRefused;
@@ -32,9 +32,9 @@ impl Mapped for ResourceTable {
 
     ghost name = { schema.resource };
 
-    ghost keys = { ResourceKeys };
+    ghost keys = { KeysOf resource_table };
 
-    ghost written = { resource_pairs };
+    ghost written = { pairs_of resource_table };
 
     #[tactic(auto, using(crate::proofs::Takes::still, crate::proofs::Takes::others_of))]
     fn read(alloc: Global, pairs: Pairs) -> Result<ResourceEntry, FormRefused> {

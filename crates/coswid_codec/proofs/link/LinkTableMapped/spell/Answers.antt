@@ -1,6 +1,7 @@
 -- The rows are spelled in key order, each after the other pairs below it.
 use Rattle.cbor_det.specs.Term.{text}
-use Rattle.coswid_codec.specs.Items.{link_rows, code_item}
+use Rattle.coswid_res.specs.Columns.{rows_of}
+use Rattle.coswid_codec.specs.Parts.{link_table, code_item}
 use Rattle.coswid_res.proofs.Rows.{◌≡◌, ◌+◌, List, drop, refl, ◌∙◌, arith, octets_of, Row, present, pairs_view, map_laid}
 use Rattle.coswid_codec.proofs.link.LinkTableMapped.spell.Goals as goal
 
@@ -8,7 +9,7 @@ pub returns : goal.returns
 unfolding octets_of
 returns c =
     let l = c.args.link.now in
-    let rows : List Row = link_rows l in
+    let rows : List Row = rows_of link_table l in
     let n : 2 + c.count.result + c.count-2.result + c.count-3.result + c.count-4.result + c.count-5.result ≡ present rows = omega (arith, c.count.ensures.count text, c.count-2.ensures.count text, c.count-3.ensures.count code_item, c.count-4.ensures.count text, c.count-5.ensures.count code_item) in
     record {
       appended = map_laid rows (pairs_view l.extras) _ _ _ _ refl n c.in_ok-put_head_with.ensures.appended

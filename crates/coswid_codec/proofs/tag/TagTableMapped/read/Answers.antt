@@ -1,16 +1,15 @@
 -- The groups of keys, one after another.
-use Rattle.std.proofs.Common.{◌≡◌, ◌++◌, ◌∙◌, Option, Some, refl, ap, arith, w64, to_z, of_z, to_z-of_z}
+use Rattle.std.proofs.Common.{◌≡◌, ◌++◌, ◌∙◌, Option, take, drop, refl, ap, arith, w64, to_z, of_z, to_z-of_z}
 use Rattle.std.proofs.lemmas.Result.{err_from_is_err_and}
 use Rattle.cbor_det.specs.View.{pairs_view}
 use Rattle.coswid_res.specs.declared.fault.FormFault.{FormFault}
 use Rattle.coswid_res.specs.Fault.{or_else}
-use Rattle.coswid_res.specs.Resources.{PayloadMap}
 use Rattle.coswid_res.specs.Reading.{lines_fault}
 use Rattle.coswid_res.specs.Schema.{tag, table}
-use Rattle.coswid_res.specs.Words.{Text, Boolean, Integer, OneOrMore}
-use Rattle.coswid_res.proofs.Takes.{after_none, earlier, Taken, told, more, agrees}
-use Rattle.coswid_codec.specs.Forms.{Code, MetaMap}
-use Rattle.coswid_codec.specs.Groups.{first_lines, second_lines, third_lines}
+use Rattle.coswid_res.proofs.Grouped.{groups_read}
+use Rattle.coswid_res.proofs.Takes.{after_none, earlier, Taken, told, more}
+use Rattle.coswid_codec.specs.Forms.{tag_table}
+use Rattle.coswid_codec.specs.Groups.{first_lines, second_lines, third_lines, first_tag_values, second_tag_values, third_tag_values}
 use Rattle.coswid_codec.proofs.tag.TagTableMapped.read.Goals as goal
 
 pub returns-in_err-first : goal.returns-in_err-first
@@ -38,26 +37,7 @@ returns c =
     let two = more (first_lines tag) (second_lines tag) _ _ refl one _ c.in_ok-second.ensures.told.0 c.in_ok-second.ensures.left in
     let all = more _ (third_lines tag) _ _ refl two _ c.in_ok-third.ensures.told.0 c.in_ok-third.ensures.left in
     let back : to_z w64 (of_z w64 c.in_ok-third.third.tag_version) ≡ c.in_ok-third.third.tag_version = grind (arith, to_z-of_z) in
-    record {
-      told = (
-        ap (λ (o : Option FormFault). or_else o (lines_fault (table tag) (pairs_view c.args.pairs))) c.in_ok-expect_required.ensures.told.0 ∙ all.none,
-        record {
-          tag_id = c.in_ok-first.ensures.told.1.tag_id;
-          software_name = c.in_ok-first.ensures.told.1.software_name;
-          entity = c.in_ok-first.ensures.told.1.entity;
-          evidence = c.in_ok-first.ensures.told.1.evidence;
-          link = c.in_ok-first.ensures.told.1.link;
-          software_meta = agrees (OneOrMore MetaMap) _ _ 5 _ _ one refl c.in_ok-second.ensures.told.1.software_meta;
-          payload = agrees PayloadMap _ _ 6 _ _ one refl c.in_ok-second.ensures.told.1.payload;
-          corpus = agrees Boolean _ _ 8 _ _ one refl c.in_ok-second.ensures.told.1.corpus;
-          patch = agrees Boolean _ _ 9 _ _ one refl c.in_ok-second.ensures.told.1.patch;
-          media = agrees Text _ _ 10 _ _ one refl c.in_ok-second.ensures.told.1.media;
-          supplemental = agrees Boolean _ _ 11 _ _ two refl c.in_ok-third.ensures.told.1.supplemental;
-          tag_version = rw back (agrees Integer (Some c.in_ok-third.third.tag_version) _ 12 _ _ two refl c.in_ok-third.ensures.told.1.tag_version);
-          software_version = agrees Text _ _ 13 _ _ two refl c.in_ok-third.ensures.told.1.software_version;
-          version_scheme = agrees Code _ _ 14 _ _ two refl c.in_ok-third.ensures.told.1.version_scheme;
-          lang = agrees Text _ _ 15 _ _ two refl c.in_ok-third.ensures.told.1.lang;
-          extras = all.left;
-        },
-      );
-    }
+    let cs = tag_table.columns in
+    let keys = groups_read (take 5 cs) (take 5 (drop 5 cs)) (drop 10 cs) (first_tag_values c.in_ok-first.first) (second_tag_values c.in_ok-second.second) (third_tag_values c.in_ok-third.third) _ _ _ refl refl one two c.in_ok-first.ensures.told.1 c.in_ok-second.ensures.told.1 c.in_ok-third.ensures.told.1 in
+    let none = ap (λ (o : Option FormFault). or_else o (lines_fault (table tag) (pairs_view c.args.pairs))) c.in_ok-expect_required.ensures.told.0 ∙ all.none in
+    record { told = (none, record { keys = rw back keys; extras = all.left }) }

@@ -7,7 +7,8 @@ use Rattle.cbor_det.proofs.Writes.{value_more, values_end}
 use Rattle.coswid_res.specs.declared.resources.directory.DirEntry.{DirEntry, out-DirEntry}
 use Rattle.coswid_res.specs.declared.resources.directory.PathElements.{out-PathElements}
 use Rattle.coswid_res.specs.DirectoryItems.{directory_item, directories_item, path_item}
-use Rattle.coswid_res.specs.Files.{files_item}
+use Rattle.coswid_res.specs.Columns.{maps_of}
+use Rattle.coswid_res.specs.Files.{file_table}
 use Rattle.coswid_res.proofs.DirectoryWrites.{directory_rows, path_rows, directory_written, path_written}
 use Rattle.coswid_res.proofs.Rows.{◌≡◌, ◌+◌, List, drop, refl, ◌∙◌, arith, octets_of, Row, present, pairs_view, map_laid}
 use Rattle.coswid_res.proofs.resources.directory_spell.+spell.Goals as goal
@@ -29,7 +30,7 @@ unfolding octets_of
 spell_path-returns t c =
     let p = c.args.path.now in
     let rows : List Row = path_rows p in
-    let n : c.count.result + c.count-2.result ≡ present rows = omega (arith, c.count.ensures.count directories_item, c.count-2.ensures.count files_item) in
+    let n : c.count.result + c.count-2.result ≡ present rows = omega (arith, c.count.ensures.count directories_item, c.count-2.ensures.count (maps_of file_table)) in
     record {
       appended = map_laid rows (pairs_view (out-PathElements p).extras) _ _ _ _ refl n c.in_ok-put_head_with.ensures.appended
           (c.in_ok-put_from.ensures.appended ∙ c.in_ok-place-2.ensures.spelled (drop 2 rows) ∙ c.in_ok-place.ensures.spelled (drop 1 rows))

@@ -1,6 +1,7 @@
 -- The rows are spelled in key order, each after the other pairs below it.
 use Rattle.cbor_det.specs.Term.{text, boolean}
-use Rattle.coswid_res.specs.Files.{file_rows}
+use Rattle.coswid_res.specs.Columns.{rows_of}
+use Rattle.coswid_res.specs.Files.{file_table}
 use Rattle.coswid_res.specs.Items.{hash_item, unsigned_item}
 use Rattle.coswid_res.proofs.Rows.{◌≡◌, ◌+◌, List, drop, refl, ◌∙◌, arith, octets_of, Row, present, pairs_view, map_laid}
 use Rattle.coswid_res.proofs.resources.file.FileTableMapped.spell.Goals as goal
@@ -9,7 +10,7 @@ pub returns : goal.returns
 unfolding octets_of
 returns c =
     let f = c.args.file.now in
-    let rows : List Row = file_rows f in
+    let rows : List Row = rows_of file_table f in
     let n : 1 + c.count.result + c.count-2.result + c.count-3.result + c.count-4.result + c.count-5.result + c.count-6.result ≡ present rows = omega (arith, c.count.ensures.count hash_item, c.count-2.ensures.count unsigned_item, c.count-3.ensures.count text, c.count-4.ensures.count boolean, c.count-5.ensures.count text, c.count-6.ensures.count text) in
     record {
       appended = map_laid rows (pairs_view f.extras) _ _ _ _ refl n c.in_ok-put_head_with.ensures.appended
