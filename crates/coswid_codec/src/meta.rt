@@ -1,11 +1,12 @@
 //! Descriptions of software: RFC 9393, section 2.8.
 
-ghost use Rattle.std.specs.Prelude.{◌≡◌, OnOk};
+ghost use Rattle.std.specs.Prelude.{◌≡◌, IfOk, OnOk};
+ghost use Rattle.cbor_det.specs.Laid.{from, present};
 ghost use Rattle.cbor_det.specs.Lookup.{other_than};
 ghost use Rattle.cbor_det.specs.View.{pairs_view};
+ghost use Rattle.coswid_codec.specs.Groups.{FirstMetaKeys, SecondMetaKeys, ThirdMetaKeys, SpellsRows, first_lines, second_lines, third_lines, first_rows, second_rows, third_rows};
 ghost use Rattle.coswid_codec.specs.Parts.{meta_table};
-ghost use Rattle.coswid_codec.specs.Groups.{FirstMetaKeys, SecondMetaKeys, ThirdMetaKeys, first_lines, second_lines, third_lines};
-ghost use Rattle.coswid_res.specs.Columns.{KeysOf, pairs_of};
+ghost use Rattle.coswid_res.specs.Columns.{KeysOf, pairs_of, rows_of};
 ghost use Rattle.coswid_res.specs.Reading.{Gives, lines_fault};
 ghost use Rattle.coswid_res.specs.Schema as schema;
 ghost use Rattle.coswid_res.specs.Schema.{keys_of};
@@ -56,43 +57,11 @@ impl Mapped for MetaTable {
 
     fn spell(out: &mut Octets, meta: &SoftwareMeta) -> Result<(), Memory> {
         let others = &meta.extras;
-        let more = count(&meta.activation_status)
-            + count(&meta.channel_type)
-            + count(&meta.colloquial_version)
-            + count(&meta.description)
-            + count(&meta.edition)
-            + count(&meta.entitlement_data_required)
-            + count(&meta.entitlement_key)
-            + count(&meta.generator)
-            + count(&meta.persistent_id)
-            + count(&meta.product)
-            + count(&meta.product_family)
-            + count(&meta.revision)
-            + count(&meta.summary)
-            + count(&meta.unspsc_code)
-            + count(&meta.unspsc_version);
-        others.put_head_with(out, more)?;
-        let at = key::ActivationStatus::spell_optional(out, others, 0, &meta.activation_status)?;
-        let at = key::ChannelType::spell_optional(out, others, at, &meta.channel_type)?;
-        let at = key::ColloquialVersion::spell_optional(out, others, at, &meta.colloquial_version)?;
-        let at = key::Description::spell_optional(out, others, at, &meta.description)?;
-        let at = key::Edition::spell_optional(out, others, at, &meta.edition)?;
-        let at = key::EntitlementDataRequired::spell_optional(
-            out,
-            others,
-            at,
-            &meta.entitlement_data_required,
-        )?;
-        let at = key::EntitlementKey::spell_optional(out, others, at, &meta.entitlement_key)?;
-        let at = key::Generator::spell_optional(out, others, at, &meta.generator)?;
-        let at = key::PersistentId::spell_optional(out, others, at, &meta.persistent_id)?;
-        let at = key::Product::spell_optional(out, others, at, &meta.product)?;
-        let at = key::ProductFamily::spell_optional(out, others, at, &meta.product_family)?;
-        let at = key::Revision::spell_optional(out, others, at, &meta.revision)?;
-        let at = key::Summary::spell_optional(out, others, at, &meta.summary)?;
-        let at = key::UnspscCode::spell_optional(out, others, at, &meta.unspsc_code)?;
-        let at = key::UnspscVersion::spell_optional(out, others, at, &meta.unspsc_version)?;
-        Ok(others.put_from(out, at)?)
+        others.put_head_with(out, count_keys(meta))?;
+        let place = spell_first(out, meta, 0)?;
+        let place = spell_second(out, meta, place)?;
+        let place = spell_third(out, meta, place)?;
+        Ok(others.put_from(out, place)?)
     }
 }
 
@@ -172,4 +141,74 @@ fn read_third(alloc: Global, pairs: &mut Pairs) -> Result<ThirdFields, FormRefus
         unspsc_code: key::UnspscCode::optional(alloc, pairs)?,
         unspsc_version: key::UnspscVersion::optional(alloc, pairs)?,
     })
+}
+
+/// How many of the keys of section 2.8 the description has.
+fn count_keys(meta: &SoftwareMeta) -> u8
+    ensures count { result ≡ present (rows_of meta_table meta.now) }
+{
+    count(&meta.activation_status)
+        + count(&meta.channel_type)
+        + count(&meta.colloquial_version)
+        + count(&meta.description)
+        + count(&meta.edition)
+        + count(&meta.entitlement_data_required)
+        + count(&meta.entitlement_key)
+        + count(&meta.generator)
+        + count(&meta.persistent_id)
+        + count(&meta.product)
+        + count(&meta.product_family)
+        + count(&meta.revision)
+        + count(&meta.summary)
+        + count(&meta.unspsc_code)
+        + count(&meta.unspsc_version)
+}
+
+/// Puts the spelling of the first fields, and of the other pairs from `place` on that are below
+/// them. Gives the place of the first that is not; `Memory` where there is no room.
+fn spell_first(out: &mut Octets, meta: &SoftwareMeta, place: usize) -> Result<usize, Memory>
+    ensures spelled { IfOk result (λ next. SpellsRows out.old out.new (first_rows (rows_of meta_table meta.now)) (from place (pairs_view meta.now.extras)) (from next (pairs_view meta.now.extras))) }
+{
+    let others = &meta.extras;
+    let place = key::ActivationStatus::spell_optional(out, others, place, &meta.activation_status)?;
+    let place = key::ChannelType::spell_optional(out, others, place, &meta.channel_type)?;
+    let place = key::ColloquialVersion::spell_optional(
+        out,
+        others,
+        place,
+        &meta.colloquial_version,
+    )?;
+    let place = key::Description::spell_optional(out, others, place, &meta.description)?;
+    key::Edition::spell_optional(out, others, place, &meta.edition)
+}
+
+/// Puts the spelling of the second fields, and of the other pairs from `place` on that are below
+/// them. Gives the place of the first that is not; `Memory` where there is no room.
+fn spell_second(out: &mut Octets, meta: &SoftwareMeta, place: usize) -> Result<usize, Memory>
+    ensures spelled { IfOk result (λ next. SpellsRows out.old out.new (second_rows (rows_of meta_table meta.now)) (from place (pairs_view meta.now.extras)) (from next (pairs_view meta.now.extras))) }
+{
+    let others = &meta.extras;
+    let place = key::EntitlementDataRequired::spell_optional(
+        out,
+        others,
+        place,
+        &meta.entitlement_data_required,
+    )?;
+    let place = key::EntitlementKey::spell_optional(out, others, place, &meta.entitlement_key)?;
+    let place = key::Generator::spell_optional(out, others, place, &meta.generator)?;
+    let place = key::PersistentId::spell_optional(out, others, place, &meta.persistent_id)?;
+    key::Product::spell_optional(out, others, place, &meta.product)
+}
+
+/// Puts the spelling of the third fields, and of the other pairs from `place` on that are below
+/// them. Gives the place of the first that is not; `Memory` where there is no room.
+fn spell_third(out: &mut Octets, meta: &SoftwareMeta, place: usize) -> Result<usize, Memory>
+    ensures spelled { IfOk result (λ next. SpellsRows out.old out.new (third_rows (rows_of meta_table meta.now)) (from place (pairs_view meta.now.extras)) (from next (pairs_view meta.now.extras))) }
+{
+    let others = &meta.extras;
+    let place = key::ProductFamily::spell_optional(out, others, place, &meta.product_family)?;
+    let place = key::Revision::spell_optional(out, others, place, &meta.revision)?;
+    let place = key::Summary::spell_optional(out, others, place, &meta.summary)?;
+    let place = key::UnspscCode::spell_optional(out, others, place, &meta.unspsc_code)?;
+    key::UnspscVersion::spell_optional(out, others, place, &meta.unspsc_version)
 }
