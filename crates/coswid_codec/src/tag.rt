@@ -1,11 +1,12 @@
 //! The map of a tag: RFC 9393, section 2.3.
 
-ghost use Rattle.std.specs.Prelude.{◌≡◌, OnOk};
+ghost use Rattle.std.specs.Prelude.{◌≡◌, IfOk, OnOk};
+ghost use Rattle.cbor_det.specs.Laid.{from, present};
 ghost use Rattle.cbor_det.specs.Lookup.{other_than};
 ghost use Rattle.cbor_det.specs.View.{pairs_view};
 ghost use Rattle.coswid_codec.specs.Forms.{tag_table};
-ghost use Rattle.coswid_codec.specs.Groups.{FirstTagKeys, SecondTagKeys, ThirdTagKeys, first_lines, second_lines, third_lines};
-ghost use Rattle.coswid_res.specs.Columns.{KeysOf, pairs_of};
+ghost use Rattle.coswid_codec.specs.Groups.{FirstTagKeys, SecondTagKeys, ThirdTagKeys, SpellsRows, first_lines, second_lines, third_lines, first_rows, second_rows, third_rows};
+ghost use Rattle.coswid_res.specs.Columns.{KeysOf, pairs_of, rows_of};
 ghost use Rattle.coswid_res.specs.Fault.{missing};
 ghost use Rattle.coswid_res.specs.Reading.{Gives, lines_fault};
 ghost use Rattle.coswid_res.specs.Schema as schema;
@@ -58,39 +59,10 @@ impl Mapped for TagTable {
 
     fn spell(out: &mut Octets, tag: &Tag) -> Result<(), Memory> {
         let others = &tag.extras;
-        let more = 4
-            + count(&tag.evidence)
-            + count(&tag.link)
-            + count(&tag.software_meta)
-            + count(&tag.payload)
-            + count(&tag.corpus)
-            + count(&tag.patch)
-            + count(&tag.media)
-            + count(&tag.supplemental)
-            + count(&tag.software_version)
-            + count(&tag.version_scheme)
-            + count(&tag.lang);
-        others.put_head_with(out, more)?;
-        let place = key::TagId::spell(out, others, 0, &tag.tag_id)?;
-        let place = key::SoftwareName::spell(out, others, place, &tag.software_name)?;
-        let place = key::Entity::spell_row(out, others, place, &tag.entity)?;
-        let place = key::Evidence::spell_optional(out, others, place, &tag.evidence)?;
-        let place = key::Link::spell_optional_row(out, others, place, &tag.link)?;
-        let place = key::SoftwareMeta::spell_optional_row(out, others, place, &tag.software_meta)?;
-        let place = key::Payload::spell_optional(out, others, place, &tag.payload)?;
-        let place = key::Corpus::spell_optional(out, others, place, &tag.corpus)?;
-        let place = key::Patch::spell_optional(out, others, place, &tag.patch)?;
-        let place = key::Media::spell_optional(out, others, place, &tag.media)?;
-        let place = key::Supplemental::spell_optional(out, others, place, &tag.supplemental)?;
-        let place = key::TagVersion::spell(out, others, place, &tag.tag_version)?;
-        let place = key::SoftwareVersion::spell_optional(
-            out,
-            others,
-            place,
-            &tag.software_version,
-        )?;
-        let place = key::VersionScheme::spell_optional(out, others, place, &tag.version_scheme)?;
-        let place = key::Lang::spell_optional(out, others, place, &tag.lang)?;
+        others.put_head_with(out, count_keys(tag))?;
+        let place = spell_first(out, tag, 0)?;
+        let place = spell_second(out, tag, place)?;
+        let place = spell_third(out, tag, place)?;
         Ok(others.put_from(out, place)?)
     }
 }
@@ -182,4 +154,63 @@ fn read_third(alloc: Global, pairs: &mut Pairs) -> Result<ThirdFields, FormRefus
         version_scheme: key::VersionScheme::optional(alloc, pairs)?,
         lang: key::Lang::optional(alloc, pairs)?,
     })
+}
+
+/// How many of the keys of section 2.3 the tag has.
+fn count_keys(tag: &Tag) -> u8
+    ensures count { result ≡ present (rows_of tag_table tag.now) }
+{
+    4 + count(&tag.evidence)
+        + count(&tag.link)
+        + count(&tag.software_meta)
+        + count(&tag.payload)
+        + count(&tag.corpus)
+        + count(&tag.patch)
+        + count(&tag.media)
+        + count(&tag.supplemental)
+        + count(&tag.software_version)
+        + count(&tag.version_scheme)
+        + count(&tag.lang)
+}
+
+/// Puts the spelling of the fields from `tag-id` to `link`, and of the other pairs from
+/// `place` on that are below them. Gives the place of the first that is not; `Memory` where there
+/// is no room.
+fn spell_first(out: &mut Octets, tag: &Tag, place: usize) -> Result<usize, Memory>
+    ensures spelled { IfOk result (λ next. SpellsRows out.old out.new (first_rows (rows_of tag_table tag.now)) (from place (pairs_view tag.now.extras)) (from next (pairs_view tag.now.extras))) }
+{
+    let others = &tag.extras;
+    let place = key::TagId::spell(out, others, place, &tag.tag_id)?;
+    let place = key::SoftwareName::spell(out, others, place, &tag.software_name)?;
+    let place = key::Entity::spell_row(out, others, place, &tag.entity)?;
+    let place = key::Evidence::spell_optional(out, others, place, &tag.evidence)?;
+    key::Link::spell_optional_row(out, others, place, &tag.link)
+}
+
+/// Puts the spelling of the fields from `software-meta` to `media`, and of the other pairs from
+/// `place` on that are below them. Gives the place of the first that is not; `Memory` where there
+/// is no room.
+fn spell_second(out: &mut Octets, tag: &Tag, place: usize) -> Result<usize, Memory>
+    ensures spelled { IfOk result (λ next. SpellsRows out.old out.new (second_rows (rows_of tag_table tag.now)) (from place (pairs_view tag.now.extras)) (from next (pairs_view tag.now.extras))) }
+{
+    let others = &tag.extras;
+    let place = key::SoftwareMeta::spell_optional_row(out, others, place, &tag.software_meta)?;
+    let place = key::Payload::spell_optional(out, others, place, &tag.payload)?;
+    let place = key::Corpus::spell_optional(out, others, place, &tag.corpus)?;
+    let place = key::Patch::spell_optional(out, others, place, &tag.patch)?;
+    key::Media::spell_optional(out, others, place, &tag.media)
+}
+
+/// Puts the spelling of the fields from `supplemental` to `lang`, and of the other pairs from
+/// `place` on that are below them. Gives the place of the first that is not; `Memory` where there
+/// is no room.
+fn spell_third(out: &mut Octets, tag: &Tag, place: usize) -> Result<usize, Memory>
+    ensures spelled { IfOk result (λ next. SpellsRows out.old out.new (third_rows (rows_of tag_table tag.now)) (from place (pairs_view tag.now.extras)) (from next (pairs_view tag.now.extras))) }
+{
+    let others = &tag.extras;
+    let place = key::Supplemental::spell_optional(out, others, place, &tag.supplemental)?;
+    let place = key::TagVersion::spell(out, others, place, &tag.tag_version)?;
+    let place = key::SoftwareVersion::spell_optional(out, others, place, &tag.software_version)?;
+    let place = key::VersionScheme::spell_optional(out, others, place, &tag.version_scheme)?;
+    key::Lang::spell_optional(out, others, place, &tag.lang)
 }
