@@ -12,6 +12,7 @@ pub mod Files
 pub mod Sizes
 pub mod Resources
 pub mod Directories
+pub mod Groups
 pub mod DirectoryItems
 pub mod Listing
 pub mod Verify

@@ -21,6 +21,7 @@
 //! | `tables/missing_key.rt`, `fault.rt` | the first form fault, with its path | `Fault` |
 //! | `fault_kind.rt` | the kinds of form faults, by name | `FaultKinds` |
 //! | `resources/table.rt` | the keys of payload and evidence | `Keys`, `Schema` |
+//! | `resources/filesystem_item.rt` | what files and directories have in common | `Groups` |
 //! | `resources/file.rt` | files | `Files`, `Sizes` |
 //! | `resources/directory*.rt` | directories, read, spelled and written | `Directories`, `DirectoryItems` |
 //! | the others of `resources/` | the other values | `Resources` |

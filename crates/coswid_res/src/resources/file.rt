@@ -6,6 +6,7 @@ ghost use Rattle.coswid_res.specs.Sizes.{SizeFits};
 ghost use Rattle.coswid_res.specs.Schema as schema;
 
 use crate::fault::FormRefused;
+use crate::resources::filesystem_item::read_filesystem_item;
 use crate::resources::hash::HashEntry;
 use crate::resources::table;
 use crate::tables::key::count;
@@ -57,18 +58,15 @@ impl Mapped for FileTable {
         let hash = table::Hash::optional(alloc, &mut pairs)?;
         let size = table::Size::optional(alloc, &mut pairs)?;
         let file_version = table::FileVersion::optional(alloc, &mut pairs)?;
-        let key = table::IsKey::optional(alloc, &mut pairs)?;
-        let location = table::Location::optional(alloc, &mut pairs)?;
-        let fs_name = table::FsName::required(alloc, &mut pairs)?;
-        let root = table::Root::optional(alloc, &mut pairs)?;
+        let item = read_filesystem_item(alloc, &mut pairs)?;
         Ok(FileEntry {
             hash,
             size,
             file_version,
-            key,
-            location,
-            fs_name,
-            root,
+            key: item.key,
+            location: item.location,
+            fs_name: item.fs_name,
+            root: item.root,
             extras: pairs,
         })
     }
