@@ -150,7 +150,7 @@ impl Ordered {
         };
         let mut rest = pairs.into_vec();
         while let Some(pair) = rest.pop() {
-            ordered.spell(alloc, pair)?;
+            ordered.insert_pair(alloc, pair)?;
         }
         Ok(ordered)
     }
@@ -167,7 +167,7 @@ impl Ordered {
     }
 
     /// Puts a pair at its place, once its key is spelled.
-    fn spell(&mut self, alloc: Global, pair: Pair) -> Result<(), Memory>
+    fn insert_pair(&mut self, alloc: Global, pair: Pair) -> Result<(), Memory>
         ensures puts { OnOk result
             (entries_view self.new.entries.entries ≡ insert (view pair.key) (view pair.value) (entries_view self.old.entries.entries)) }
         ensures key { self.new.key ≡ self.old.key }

@@ -17,6 +17,6 @@ loop-pair-init c = record {
 pub loop-pair-preserved : goal.loop-pair-preserved
 loop-pair-preserved c = record {
   same = moved _ _ c.in-Some.pair.key c.in-Some.pair.value (entries_view c.loop-pair.ordered.entries.entries) _ (listed c.args.pairs) c.in-Some.ensures.items c.loop-pair.invariant.same c.requires.rises
-      c.in_ok-spell.ensures.puts;
-  key = c.in_ok-spell.ensures.key ∙ c.loop-pair.invariant.key;
+      c.in_ok-insert_pair.ensures.puts;
+  key = c.in_ok-insert_pair.ensures.key ∙ c.loop-pair.invariant.key;
 }
