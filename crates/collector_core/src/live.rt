@@ -19,7 +19,7 @@ use std::alloc::Global;
 use std::collections::BTreeSet;
 use std::marker::Model;
 use swima_model::{Content, Record};
-use wire_base::Memory;
+use wire_base::{Memory, TryCopy};
 
 /// The place of an identifier, and the record there; `None` where it was removed.
 #[derive(Debug, Drop)]
@@ -103,6 +103,36 @@ impl Live {
     {
         let _next = self.next();
         &self.index
+    }
+
+    /// Adds a record of the next identifier with a copy of the content, and gives another copy, for
+    /// the event.
+    pub(crate) fn add(&mut self, content: &Content) -> Result<Content, Memory>
+        requires next { self.old.next < 2 ^ 32 - 1 }
+        ensures copy { IfOk result (λ copy. copy ≡ content.now) }
+        ensures added { OnOk result (self.new ≡ record {
+          next = self.old.next + 1;
+          records = self.old.records ++ record { id = self.old.next; content = content.now } ∷ [];
+        }) }
+        ensures unchanged { OnErr result (self.new ≡ self.old) }
+    {
+        let copy = content.copy()?;
+        self.push(content.copy()?)?;
+        Ok(copy)
+    }
+
+    /// Replaces the content of a record by a copy of this one, and gives another copy, for the
+    /// event.
+    pub(crate) fn replace(&mut self, id: u32, content: &Content) -> Result<Content, Memory>
+        requires held { IsSome (record_of id self.old.records) }
+        ensures copy { IfOk result (λ copy. copy ≡ content.now) }
+        ensures put { OnOk result (Puts id content.now self.old.records self.new.records) }
+        ensures next { OnOk result (self.new.next ≡ self.old.next) }
+        ensures unchanged { OnErr result (self.new ≡ self.old) }
+    {
+        let copy = content.copy()?;
+        self.put(id, content.copy()?)?;
+        Ok(copy)
     }
 
     /// Puts a record of the next identifier at the end.

@@ -18,7 +18,7 @@ use super::Book;
 use crate::error::BookError;
 use crate::records::within_limits;
 use swima_model::{Action, Content, Event, MOST_RECORDS, MOST_RECORDS_OCTETS, Record};
-use wire_base::{Memory, TryCopy};
+use wire_base::Memory;
 
 impl Book {
     /// Creates a record where nothing refuses it. Its clauses are of the book alone.
@@ -177,19 +177,15 @@ impl Book {
         ensures fits { OnOk result (are_large self.new.records ≡ false) }
     {
         let id = self.records.next();
+        let octets = self.octet_count + content.octets();
+        let content = self.records.add(content)?;
+        self.octet_count = octets;
         let event = Event {
             eid: self.log.last() + 1,
             stamp: *stamp,
             action: Action::Creation,
-            subject: Record {
-                id,
-                content: content.copy()?,
-            },
+            subject: Record { id, content },
         };
-        let content = content.copy()?;
-        let octets = self.octet_count + content.octets();
-        self.records.push(content)?;
-        self.octet_count = octets;
         let _oldest = self.log.push(event);
         Ok(id)
     }
@@ -212,18 +208,14 @@ impl Book {
         ensures unchanged { OnErr result (self.new ≡ self.old) }
         ensures fits { OnOk result (are_large self.new.records ≡ false) }
     {
+        let content = self.records.replace(id, content)?;
+        self.octet_count = octets;
         let event = Event {
             eid: self.log.last() + 1,
             stamp: *stamp,
             action: Action::Alteration,
-            subject: Record {
-                id,
-                content: content.copy()?,
-            },
+            subject: Record { id, content },
         };
-        let content = content.copy()?;
-        self.records.put(id, content)?;
-        self.octet_count = octets;
         let _oldest = self.log.push(event);
         Ok(())
     }
