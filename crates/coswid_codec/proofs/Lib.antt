@@ -19,5 +19,4 @@ pub mod Several
 pub mod Sizes
 pub mod Tables
 pub mod Tags
-pub mod Takes
 pub mod Whole

@@ -6,10 +6,19 @@ ghost use Rattle.coswid_res.specs.Schema as schema;
 
 use crate::key;
 use cbor_det::Pairs;
-use coswid_res::{FormRefused, Mapped, count};
+use coswid_res::{FormRefused, Mapped, Optional, Required, RequiredRow, count, read_map};
 use coswid_tag::Entity;
 use std::alloc::Global;
 use wire_base::{Memory, Octets};
+
+/// The keys of entities.
+type Keys = (
+    Required<key::EntityName>,
+    (
+        Optional<key::RegId>,
+        (RequiredRow<key::Role>, (Optional<key::Thumbprint>, ())),
+    ),
+);
 
 /// The table of entities.
 pub(crate) struct EntityTable;
@@ -23,15 +32,10 @@ impl Mapped for EntityTable {
 
     ghost written = { pairs_of entity_table };
 
-    #[tactic(auto, using(crate::proofs::Takes::still, crate::proofs::Takes::others_of))]
     fn read(alloc: Global, pairs: Pairs) -> Result<Entity, FormRefused> {
-        key::EntityName::expect(alloc, &pairs)?;
-        key::Role::expect(alloc, &pairs)?;
         let mut pairs = pairs;
-        let entity_name = key::EntityName::required(alloc, &mut pairs)?;
-        let reg_id = key::RegId::optional(alloc, &mut pairs)?;
-        let role = key::Role::required_row(alloc, &mut pairs)?;
-        let thumbprint = key::Thumbprint::optional(alloc, &mut pairs)?;
+        let values = read_map::<Keys>(alloc, &mut pairs)?;
+        let (entity_name, (reg_id, (role, (thumbprint, ())))) = values;
         Ok(Entity {
             entity_name,
             reg_id,

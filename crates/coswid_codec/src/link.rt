@@ -6,10 +6,20 @@ ghost use Rattle.coswid_res.specs.Schema as schema;
 
 use crate::key;
 use cbor_det::Pairs;
-use coswid_res::{FormRefused, Mapped, count};
+use coswid_res::{FormRefused, Mapped, Optional, Required, count, read_map};
 use coswid_tag::LinkEntry;
 use std::alloc::Global;
 use wire_base::{Memory, Octets};
+
+/// The keys of links.
+type Keys = (
+    Optional<key::Media>,
+    Optional<key::Artifact>,
+    Required<key::Href>,
+    Optional<key::Ownership>,
+    Required<key::Rel>,
+    (Optional<key::MediaType>, (Optional<key::LinkUse>, ())),
+);
 
 /// The table of links.
 pub(crate) struct LinkTable;
@@ -23,18 +33,10 @@ impl Mapped for LinkTable {
 
     ghost written = { pairs_of link_table };
 
-    #[tactic(auto, using(crate::proofs::Takes::still, crate::proofs::Takes::others_of))]
     fn read(alloc: Global, pairs: Pairs) -> Result<LinkEntry, FormRefused> {
-        key::Href::expect(alloc, &pairs)?;
-        key::Rel::expect(alloc, &pairs)?;
         let mut pairs = pairs;
-        let media = key::Media::optional(alloc, &mut pairs)?;
-        let artifact = key::Artifact::optional(alloc, &mut pairs)?;
-        let href = key::Href::required(alloc, &mut pairs)?;
-        let ownership = key::Ownership::optional(alloc, &mut pairs)?;
-        let rel = key::Rel::required(alloc, &mut pairs)?;
-        let media_type = key::MediaType::optional(alloc, &mut pairs)?;
-        let link_use = key::LinkUse::optional(alloc, &mut pairs)?;
+        let values = read_map::<Keys>(alloc, &mut pairs)?;
+        let (media, artifact, href, ownership, rel, (media_type, (link_use, ()))) = values;
         Ok(LinkEntry {
             media,
             artifact,

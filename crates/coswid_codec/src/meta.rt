@@ -1,22 +1,49 @@
 //! Descriptions of software: RFC 9393, section 2.8.
 
-ghost use Rattle.std.specs.Prelude.{◌≡◌, IfOk, OnOk};
+ghost use Rattle.std.specs.Prelude.{◌≡◌, IfOk};
 ghost use Rattle.cbor_det.specs.Laid.{from, present};
-ghost use Rattle.cbor_det.specs.Lookup.{other_than};
 ghost use Rattle.cbor_det.specs.View.{pairs_view};
-ghost use Rattle.coswid_codec.specs.Groups.{FirstMetaKeys, SecondMetaKeys, ThirdMetaKeys, SpellsRows, first_lines, second_lines, third_lines, first_rows, second_rows, third_rows};
+ghost use Rattle.coswid_codec.specs.Groups.{SpellsRows, first_rows, second_rows, third_rows};
 ghost use Rattle.coswid_codec.specs.Parts.{meta_table};
 ghost use Rattle.coswid_res.specs.Columns.{KeysOf, pairs_of, rows_of};
-ghost use Rattle.coswid_res.specs.Reading.{Gives, lines_fault};
 ghost use Rattle.coswid_res.specs.Schema as schema;
-ghost use Rattle.coswid_res.specs.Schema.{keys_of};
 
 use crate::key;
 use cbor_det::Pairs;
-use coswid_res::{FormRefused, Mapped, count};
-use coswid_tag::{SoftwareMeta, TagId};
+use coswid_res::{FormRefused, Mapped, Optional, count, read_map};
+use coswid_tag::SoftwareMeta;
 use std::alloc::Global;
-use wire_base::{Memory, Octets, Text};
+use wire_base::{Memory, Octets};
+
+/// The keys of descriptions.
+type Keys = (
+    Optional<key::ActivationStatus>,
+    Optional<key::ChannelType>,
+    Optional<key::ColloquialVersion>,
+    Optional<key::Description>,
+    Optional<key::Edition>,
+    SecondKeys,
+);
+
+/// Those from `entitlement-data-required` on.
+type SecondKeys = (
+    Optional<key::EntitlementDataRequired>,
+    Optional<key::EntitlementKey>,
+    Optional<key::Generator>,
+    Optional<key::PersistentId>,
+    Optional<key::Product>,
+    ThirdKeys,
+);
+
+/// Those from `product-family` on.
+type ThirdKeys = (
+    Optional<key::ProductFamily>,
+    Optional<key::Revision>,
+    Optional<key::Summary>,
+    Optional<key::UnspscCode>,
+    Optional<key::UnspscVersion>,
+    (),
+);
 
 /// The table of descriptions of software.
 pub(crate) struct MetaTable;
@@ -32,25 +59,28 @@ impl Mapped for MetaTable {
 
     fn read(alloc: Global, pairs: Pairs) -> Result<SoftwareMeta, FormRefused> {
         let mut pairs = pairs;
-        let first = read_first(alloc, &mut pairs)?;
-        let second = read_second(alloc, &mut pairs)?;
-        let third = read_third(alloc, &mut pairs)?;
+        let values = read_map::<Keys>(alloc, &mut pairs)?;
+        let (activation_status, channel_type, colloquial_version, description, edition, later) =
+            values;
+        let (entitlement_data_required, entitlement_key, generator, persistent_id, product, later) =
+            later;
+        let (product_family, revision, summary, unspsc_code, unspsc_version, ()) = later;
         Ok(SoftwareMeta {
-            activation_status: first.activation_status,
-            channel_type: first.channel_type,
-            colloquial_version: first.colloquial_version,
-            description: first.description,
-            edition: first.edition,
-            entitlement_data_required: second.entitlement_data_required,
-            entitlement_key: second.entitlement_key,
-            generator: second.generator,
-            persistent_id: second.persistent_id,
-            product: second.product,
-            product_family: third.product_family,
-            revision: third.revision,
-            summary: third.summary,
-            unspsc_code: third.unspsc_code,
-            unspsc_version: third.unspsc_version,
+            activation_status,
+            channel_type,
+            colloquial_version,
+            description,
+            edition,
+            entitlement_data_required,
+            entitlement_key,
+            generator,
+            persistent_id,
+            product,
+            product_family,
+            revision,
+            summary,
+            unspsc_code,
+            unspsc_version,
             extras: pairs,
         })
     }
@@ -63,84 +93,6 @@ impl Mapped for MetaTable {
         let place = spell_third(out, meta, place)?;
         Ok(others.put_from(out, place)?)
     }
-}
-
-/// The first fields of a description.
-#[derive(Drop)]
-struct FirstFields {
-    activation_status: Option<Text>,
-    channel_type: Option<Text>,
-    colloquial_version: Option<Text>,
-    description: Option<Text>,
-    edition: Option<Text>,
-}
-
-/// The first fields, taken out of the pairs; `Form` with the first form fault under them; `Memory`
-/// where there is no room.
-#[tactic(auto, using(crate::proofs::Takes::still, crate::proofs::Takes::others_of))]
-fn read_first(alloc: Global, pairs: &mut Pairs) -> Result<FirstFields, FormRefused>
-    ensures told { Gives (λ fields. FirstMetaKeys fields (pairs_view pairs.old)) (lines_fault (first_lines schema.software_meta) (pairs_view pairs.old)) result }
-    ensures left { OnOk result (pairs_view pairs.new ≡ other_than (keys_of (first_lines schema.software_meta)) (pairs_view pairs.old)) }
-{
-    Ok(FirstFields {
-        activation_status: key::ActivationStatus::optional(alloc, pairs)?,
-        channel_type: key::ChannelType::optional(alloc, pairs)?,
-        colloquial_version: key::ColloquialVersion::optional(alloc, pairs)?,
-        description: key::Description::optional(alloc, pairs)?,
-        edition: key::Edition::optional(alloc, pairs)?,
-    })
-}
-
-/// The second fields of a description.
-#[derive(Drop)]
-struct SecondFields {
-    entitlement_data_required: Option<bool>,
-    entitlement_key: Option<Text>,
-    generator: Option<TagId>,
-    persistent_id: Option<Text>,
-    product: Option<Text>,
-}
-
-/// The second fields, taken out of the pairs; `Form` with the first form fault under them; `Memory`
-/// where there is no room.
-#[tactic(auto, using(crate::proofs::Takes::still, crate::proofs::Takes::others_of))]
-fn read_second(alloc: Global, pairs: &mut Pairs) -> Result<SecondFields, FormRefused>
-    ensures told { Gives (λ fields. SecondMetaKeys fields (pairs_view pairs.old)) (lines_fault (second_lines schema.software_meta) (pairs_view pairs.old)) result }
-    ensures left { OnOk result (pairs_view pairs.new ≡ other_than (keys_of (second_lines schema.software_meta)) (pairs_view pairs.old)) }
-{
-    Ok(SecondFields {
-        entitlement_data_required: key::EntitlementDataRequired::optional(alloc, pairs)?,
-        entitlement_key: key::EntitlementKey::optional(alloc, pairs)?,
-        generator: key::Generator::optional(alloc, pairs)?,
-        persistent_id: key::PersistentId::optional(alloc, pairs)?,
-        product: key::Product::optional(alloc, pairs)?,
-    })
-}
-
-/// The third fields of a description.
-#[derive(Drop)]
-struct ThirdFields {
-    product_family: Option<Text>,
-    revision: Option<Text>,
-    summary: Option<Text>,
-    unspsc_code: Option<Text>,
-    unspsc_version: Option<Text>,
-}
-
-/// The third fields, taken out of the pairs; `Form` with the first form fault under them; `Memory`
-/// where there is no room.
-#[tactic(auto, using(crate::proofs::Takes::still, crate::proofs::Takes::others_of))]
-fn read_third(alloc: Global, pairs: &mut Pairs) -> Result<ThirdFields, FormRefused>
-    ensures told { Gives (λ fields. ThirdMetaKeys fields (pairs_view pairs.old)) (lines_fault (third_lines schema.software_meta) (pairs_view pairs.old)) result }
-    ensures left { OnOk result (pairs_view pairs.new ≡ other_than (keys_of (third_lines schema.software_meta)) (pairs_view pairs.old)) }
-{
-    Ok(ThirdFields {
-        product_family: key::ProductFamily::optional(alloc, pairs)?,
-        revision: key::Revision::optional(alloc, pairs)?,
-        summary: key::Summary::optional(alloc, pairs)?,
-        unspsc_code: key::UnspscCode::optional(alloc, pairs)?,
-        unspsc_version: key::UnspscVersion::optional(alloc, pairs)?,
-    })
 }
 
 /// How many of the keys of section 2.8 the description has.

@@ -1,23 +1,51 @@
 //! The map of a tag: RFC 9393, section 2.3.
 
-ghost use Rattle.std.specs.Prelude.{◌≡◌, IfOk, OnOk};
+ghost use Rattle.std.specs.Prelude.{◌≡◌, IfOk};
 ghost use Rattle.cbor_det.specs.Laid.{from, present};
-ghost use Rattle.cbor_det.specs.Lookup.{other_than};
 ghost use Rattle.cbor_det.specs.View.{pairs_view};
 ghost use Rattle.coswid_codec.specs.Forms.{tag_table};
-ghost use Rattle.coswid_codec.specs.Groups.{FirstTagKeys, SecondTagKeys, ThirdTagKeys, SpellsRows, first_lines, second_lines, third_lines, first_rows, second_rows, third_rows};
+ghost use Rattle.coswid_codec.specs.Groups.{SpellsRows, first_rows, second_rows, third_rows};
 ghost use Rattle.coswid_res.specs.Columns.{KeysOf, pairs_of, rows_of};
-ghost use Rattle.coswid_res.specs.Fault.{missing};
-ghost use Rattle.coswid_res.specs.Reading.{Gives, lines_fault};
 ghost use Rattle.coswid_res.specs.Schema as schema;
-ghost use Rattle.coswid_res.specs.Schema.{keys_of, table, required_keys};
 
 use crate::key;
 use cbor_det::Pairs;
-use coswid_res::{Evidence, FormRefused, Mapped, Payload, count};
-use coswid_tag::{CodeValue, Entity, LinkEntry, SoftwareMeta, Tag, TagId};
+use coswid_res::{
+    FormRefused, Mapped, Optional, OptionalRow, Required, RequiredRow, count, read_map,
+};
+use coswid_tag::Tag;
 use std::alloc::Global;
-use wire_base::{List, Memory, Octets, Text};
+use wire_base::{Memory, Octets};
+
+/// The keys of tags.
+type Keys = (
+    Required<key::TagId>,
+    Required<key::SoftwareName>,
+    RequiredRow<key::Entity>,
+    Optional<key::Evidence>,
+    OptionalRow<key::Link>,
+    SecondKeys,
+);
+
+/// Those from `software-meta` on.
+type SecondKeys = (
+    OptionalRow<key::SoftwareMeta>,
+    Optional<key::Payload>,
+    Optional<key::Corpus>,
+    Optional<key::Patch>,
+    Optional<key::Media>,
+    ThirdKeys,
+);
+
+/// Those from `supplemental` on.
+type ThirdKeys = (
+    Optional<key::Supplemental>,
+    Required<key::TagVersion>,
+    Optional<key::SoftwareVersion>,
+    Optional<key::VersionScheme>,
+    Optional<key::Lang>,
+    (),
+);
 
 /// The table of tags.
 pub(crate) struct TagTable;
@@ -32,27 +60,27 @@ impl Mapped for TagTable {
     ghost written = { pairs_of tag_table };
 
     fn read(alloc: Global, pairs: Pairs) -> Result<Tag, FormRefused> {
-        expect_required(alloc, &pairs)?;
         let mut pairs = pairs;
-        let first = read_first(alloc, &mut pairs)?;
-        let second = read_second(alloc, &mut pairs)?;
-        let third = read_third(alloc, &mut pairs)?;
+        let values = read_map::<Keys>(alloc, &mut pairs)?;
+        let (tag_id, software_name, entity, evidence, link, later) = values;
+        let (software_meta, payload, corpus, patch, media, later) = later;
+        let (supplemental, tag_version, software_version, version_scheme, lang, ()) = later;
         Ok(Tag {
-            tag_id: first.tag_id,
-            software_name: first.software_name,
-            entity: first.entity,
-            evidence: first.evidence,
-            link: first.link,
-            software_meta: second.software_meta,
-            payload: second.payload,
-            corpus: second.corpus,
-            patch: second.patch,
-            media: second.media,
-            supplemental: third.supplemental,
-            tag_version: third.tag_version,
-            software_version: third.software_version,
-            version_scheme: third.version_scheme,
-            lang: third.lang,
+            tag_id,
+            software_name,
+            entity,
+            evidence,
+            link,
+            software_meta,
+            payload,
+            corpus,
+            patch,
+            media,
+            supplemental,
+            tag_version,
+            software_version,
+            version_scheme,
+            lang,
             extras: pairs,
         })
     }
@@ -65,95 +93,6 @@ impl Mapped for TagTable {
         let place = spell_third(out, tag, place)?;
         Ok(others.put_from(out, place)?)
     }
-}
-
-/// Nothing where each key is there that must be; else `Form` with the fault that the lowest that is
-/// not is missing; `Memory` where there is no room.
-fn expect_required(alloc: Global, pairs: &Pairs) -> Result<(), FormRefused>
-    ensures told { Gives (λ done. Unit {0}) (missing (required_keys (table schema.tag)) (pairs_view pairs.now)) result }
-{
-    key::TagId::expect(alloc, pairs)?;
-    key::SoftwareName::expect(alloc, pairs)?;
-    key::Entity::expect(alloc, pairs)?;
-    key::TagVersion::expect(alloc, pairs)
-}
-
-/// The fields of a tag from `tag-id` to `link`.
-#[derive(Drop)]
-struct FirstFields {
-    tag_id: TagId,
-    software_name: Text,
-    entity: List<Entity>,
-    evidence: Option<Evidence>,
-    link: Option<List<LinkEntry>>,
-}
-
-/// The fields from `tag-id` to `link`, taken out of the pairs; `Form` with the first form
-/// fault under them; `Memory` where there is no room.
-#[tactic(auto, using(crate::proofs::Takes::still, crate::proofs::Takes::others_of))]
-fn read_first(alloc: Global, pairs: &mut Pairs) -> Result<FirstFields, FormRefused>
-    ensures told { Gives (λ fields. FirstTagKeys fields (pairs_view pairs.old)) (lines_fault (first_lines schema.tag) (pairs_view pairs.old)) result }
-    ensures left { OnOk result (pairs_view pairs.new ≡ other_than (keys_of (first_lines schema.tag)) (pairs_view pairs.old)) }
-{
-    Ok(FirstFields {
-        tag_id: key::TagId::required(alloc, pairs)?,
-        software_name: key::SoftwareName::required(alloc, pairs)?,
-        entity: key::Entity::required_row(alloc, pairs)?,
-        evidence: key::Evidence::optional(alloc, pairs)?,
-        link: key::Link::optional_row(alloc, pairs)?,
-    })
-}
-
-/// The fields of a tag from `software-meta` to `media`.
-#[derive(Drop)]
-struct SecondFields {
-    software_meta: Option<List<SoftwareMeta>>,
-    payload: Option<Payload>,
-    corpus: Option<bool>,
-    patch: Option<bool>,
-    media: Option<Text>,
-}
-
-/// The fields from `software-meta` to `media`, taken out of the pairs; `Form` with the first form
-/// fault under them; `Memory` where there is no room.
-#[tactic(auto, using(crate::proofs::Takes::still, crate::proofs::Takes::others_of))]
-fn read_second(alloc: Global, pairs: &mut Pairs) -> Result<SecondFields, FormRefused>
-    ensures told { Gives (λ fields. SecondTagKeys fields (pairs_view pairs.old)) (lines_fault (second_lines schema.tag) (pairs_view pairs.old)) result }
-    ensures left { OnOk result (pairs_view pairs.new ≡ other_than (keys_of (second_lines schema.tag)) (pairs_view pairs.old)) }
-{
-    Ok(SecondFields {
-        software_meta: key::SoftwareMeta::optional_row(alloc, pairs)?,
-        payload: key::Payload::optional(alloc, pairs)?,
-        corpus: key::Corpus::optional(alloc, pairs)?,
-        patch: key::Patch::optional(alloc, pairs)?,
-        media: key::Media::optional(alloc, pairs)?,
-    })
-}
-
-/// The fields of a tag from `supplemental` to `lang`.
-#[derive(Drop)]
-struct ThirdFields {
-    supplemental: Option<bool>,
-    tag_version: i64,
-    software_version: Option<Text>,
-    version_scheme: Option<CodeValue>,
-    lang: Option<Text>,
-}
-
-/// The fields from `supplemental` to `lang`, taken out of the pairs; `Form` with the first form
-/// fault under them; `Memory` where there is no room.
-#[tactic(auto, using(crate::proofs::Takes::still, crate::proofs::Takes::others_of))]
-fn read_third(alloc: Global, pairs: &mut Pairs) -> Result<ThirdFields, FormRefused>
-    ensures told { Gives (λ fields. ThirdTagKeys fields (pairs_view pairs.old)) (lines_fault (third_lines schema.tag) (pairs_view pairs.old)) result }
-    ensures left { OnOk result (pairs_view pairs.new ≡ other_than (keys_of (third_lines schema.tag)) (pairs_view pairs.old)) }
-{
-    Ok(ThirdFields {
-        supplemental: key::Supplemental::optional(alloc, pairs)?,
-        tag_version: key::TagVersion::required(alloc, pairs)?,
-        software_version: key::SoftwareVersion::optional(alloc, pairs)?,
-        version_scheme: key::VersionScheme::optional(alloc, pairs)?,
-        lang: key::Lang::optional(alloc, pairs)?,
-    })
 }
 
 /// How many of the keys of section 2.3 the tag has.

@@ -10,7 +10,6 @@ pub mod DirectoryReads
 pub mod DirectoryWrites
 pub mod Sizes
 pub mod Takes
-pub mod Grouped
 pub mod Listings
 pub mod FileVerdicts
 pub mod FileReads

@@ -7,12 +7,12 @@ pub mod Words
 pub mod Reading
 pub mod Items
 pub mod Columns
+pub mod ColumnLaws
 pub mod Spelled
 pub mod Files
 pub mod Sizes
 pub mod Resources
 pub mod Directories
-pub mod Groups
 pub mod DirectoryItems
 pub mod Listing
 pub mod Verify

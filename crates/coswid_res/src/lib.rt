@@ -17,11 +17,11 @@
 //! | `tables/form.rt`, `value_forms.rt` | the forms of values | `Fields`, `Words`, `Items` |
 //! | `tables/key.rt` | a number with its form; a field of a map | `Words`, `Reading`, `Spelled` |
 //! | `tables/map_form.rt` | values that are written as maps | `Columns`, `Schema`, `Reading` |
+//! | `tables/columns.rt` | the keys of one map in their order, and their reader | `Columns`, `ColumnLaws` |
 //! | `tables/rows.rt` | one or more values: an array, or one alone | `Words`, `Items` |
 //! | `tables/missing_key.rt`, `fault.rt` | the first form fault, with its path | `Fault` |
 //! | `fault_kind.rt` | the kinds of form faults, by name | `FaultKinds` |
 //! | `resources/table.rt` | the keys of payload and evidence | `Keys`, `Schema` |
-//! | `resources/filesystem_item.rt` | what files and directories have in common | `Groups` |
 //! | `resources/file.rt` | files | `Files`, `Sizes` |
 //! | `resources/directory*.rt` | directories, read, spelled and written | `Directories`, `DirectoryItems` |
 //! | the others of `resources/` | the other values | `Resources` |
@@ -46,6 +46,9 @@ pub use resources::hash::HashEntry;
 pub use resources::payload::{Payload, PayloadTable, payload_item, payload_of};
 pub use resources::process::{ProcessEntries, ProcessEntry};
 pub use resources::resource::{ResourceEntries, ResourceEntry};
+pub use tables::columns::{
+    Column, Columns, Optional, OptionalRow, Required, RequiredRow, read_map,
+};
 pub use tables::form::{Form, ItemForm};
 pub use tables::key::{Key, count};
 pub use tables::map_form::{ItemMapped, MapForm, Mapped};

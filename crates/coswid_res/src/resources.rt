@@ -6,7 +6,6 @@ pub(crate) mod directory_spell;
 pub(crate) mod directory_write;
 pub(crate) mod evidence;
 pub(crate) mod file;
-pub(crate) mod filesystem_item;
 pub(crate) mod hash;
 pub(crate) mod payload;
 pub(crate) mod process;

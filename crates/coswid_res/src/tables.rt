@@ -1,6 +1,7 @@
 //! The tables of maps: forms of values, keys, and how a field is taken out of a map and put into
 //! one.
 
+pub(crate) mod columns;
 pub(crate) mod form;
 pub(crate) mod key;
 pub(crate) mod map_form;

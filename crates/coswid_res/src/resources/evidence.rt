@@ -15,6 +15,7 @@ use crate::resources::file::FileEntries;
 use crate::resources::process::ProcessEntries;
 use crate::resources::resource::ResourceEntries;
 use crate::resources::table;
+use crate::tables::columns::{Optional, OptionalRow, read_map};
 use crate::tables::form::{Form, ItemForm};
 use crate::tables::key::count;
 use crate::tables::map_form::{ItemMapped, MapForm, Mapped};
@@ -43,6 +44,16 @@ pub struct Evidence {
     pub extras: Pairs,
 }
 
+/// The keys of evidence.
+type Keys = (
+    OptionalRow<table::Directory>,
+    OptionalRow<table::File>,
+    OptionalRow<table::Process>,
+    OptionalRow<table::Resource>,
+    Optional<table::Location>,
+    (Optional<table::Date>, (Optional<table::DeviceId>, ())),
+);
+
 /// The table of evidence.
 pub struct EvidenceTable;
 
@@ -55,16 +66,10 @@ impl Mapped for EvidenceTable {
 
     ghost written = { pairs_of evidence_table };
 
-    #[tactic(auto, using(crate::proofs::Takes::still, crate::proofs::Takes::others_of))]
     fn read(alloc: Global, pairs: Pairs) -> Result<Evidence, FormRefused> {
         let mut pairs = pairs;
-        let directory = table::Directory::optional_row(alloc, &mut pairs)?;
-        let file = table::File::optional_row(alloc, &mut pairs)?;
-        let process = table::Process::optional_row(alloc, &mut pairs)?;
-        let resource = table::Resource::optional_row(alloc, &mut pairs)?;
-        let location = table::Location::optional(alloc, &mut pairs)?;
-        let date = table::Date::optional(alloc, &mut pairs)?;
-        let device_id = table::DeviceId::optional(alloc, &mut pairs)?;
+        let values = read_map::<Keys>(alloc, &mut pairs)?;
+        let (directory, file, process, resource, location, (date, (device_id, ()))) = values;
         Ok(Evidence {
             directory,
             file,

@@ -6,9 +6,9 @@ ghost use Rattle.coswid_res.specs.Sizes.{SizeFits};
 ghost use Rattle.coswid_res.specs.Schema as schema;
 
 use crate::fault::FormRefused;
-use crate::resources::filesystem_item::read_filesystem_item;
 use crate::resources::hash::HashEntry;
 use crate::resources::table;
+use crate::tables::columns::{Optional, Required, read_map};
 use crate::tables::key::count;
 use crate::tables::map_form::{ItemMapped, Mapped};
 use cbor_det::Pairs;
@@ -39,6 +39,16 @@ pub struct FileEntry {
     pub extras: Pairs,
 }
 
+/// The keys of files.
+type Keys = (
+    Optional<table::Hash>,
+    Optional<table::Size>,
+    Optional<table::FileVersion>,
+    Optional<table::IsKey>,
+    Optional<table::Location>,
+    (Required<table::FsName>, (Optional<table::Root>, ())),
+);
+
 /// The table of files.
 pub(crate) struct FileTable;
 
@@ -51,22 +61,18 @@ impl Mapped for FileTable {
 
     ghost written = { pairs_of file_table };
 
-    #[tactic(auto, using(crate::proofs::Takes::still, crate::proofs::Takes::others_of))]
     fn read(alloc: Global, pairs: Pairs) -> Result<FileEntry, FormRefused> {
-        table::FsName::expect(alloc, &pairs)?;
         let mut pairs = pairs;
-        let hash = table::Hash::optional(alloc, &mut pairs)?;
-        let size = table::Size::optional(alloc, &mut pairs)?;
-        let file_version = table::FileVersion::optional(alloc, &mut pairs)?;
-        let item = read_filesystem_item(alloc, &mut pairs)?;
+        let values = read_map::<Keys>(alloc, &mut pairs)?;
+        let (hash, size, file_version, key, location, (fs_name, (root, ()))) = values;
         Ok(FileEntry {
             hash,
             size,
             file_version,
-            key: item.key,
-            location: item.location,
-            fs_name: item.fs_name,
-            root: item.root,
+            key,
+            location,
+            fs_name,
+            root,
             extras: pairs,
         })
     }

@@ -15,6 +15,7 @@ use crate::resources::file::FileEntries;
 use crate::resources::process::ProcessEntries;
 use crate::resources::resource::ResourceEntries;
 use crate::resources::table;
+use crate::tables::columns::{OptionalRow, read_map};
 use crate::tables::form::{Form, ItemForm};
 use crate::tables::key::count;
 use crate::tables::map_form::{ItemMapped, MapForm, Mapped};
@@ -37,6 +38,18 @@ pub struct Payload {
     pub extras: Pairs,
 }
 
+/// The keys of payload.
+type Keys = (
+    OptionalRow<table::Directory>,
+    (
+        OptionalRow<table::File>,
+        (
+            OptionalRow<table::Process>,
+            (OptionalRow<table::Resource>, ()),
+        ),
+    ),
+);
+
 /// The table of payloads.
 pub struct PayloadTable;
 
@@ -49,13 +62,10 @@ impl Mapped for PayloadTable {
 
     ghost written = { pairs_of payload_table };
 
-    #[tactic(auto, using(crate::proofs::Takes::still, crate::proofs::Takes::others_of))]
     fn read(alloc: Global, pairs: Pairs) -> Result<Payload, FormRefused> {
         let mut pairs = pairs;
-        let directory = table::Directory::optional_row(alloc, &mut pairs)?;
-        let file = table::File::optional_row(alloc, &mut pairs)?;
-        let process = table::Process::optional_row(alloc, &mut pairs)?;
-        let resource = table::Resource::optional_row(alloc, &mut pairs)?;
+        let values = read_map::<Keys>(alloc, &mut pairs)?;
+        let (directory, (file, (process, (resource, ())))) = values;
         Ok(Payload {
             directory,
             file,

@@ -6,6 +6,7 @@ ghost use Rattle.coswid_res.specs.Schema as schema;
 
 use crate::fault::FormRefused;
 use crate::resources::table;
+use crate::tables::columns::{Optional, Required, read_map};
 use crate::tables::key::count;
 use crate::tables::map_form::{ItemMapped, Mapped};
 use cbor_det::Pairs;
@@ -26,6 +27,9 @@ pub struct ProcessEntry {
     pub extras: Pairs,
 }
 
+/// The keys of processes.
+type Keys = (Required<table::ProcessName>, (Optional<table::Pid>, ()));
+
 /// The table of processes.
 pub(crate) struct ProcessTable;
 
@@ -38,12 +42,9 @@ impl Mapped for ProcessTable {
 
     ghost written = { pairs_of process_table };
 
-    #[tactic(auto, using(crate::proofs::Takes::still, crate::proofs::Takes::others_of))]
     fn read(alloc: Global, pairs: Pairs) -> Result<ProcessEntry, FormRefused> {
-        table::ProcessName::expect(alloc, &pairs)?;
         let mut pairs = pairs;
-        let process_name = table::ProcessName::required(alloc, &mut pairs)?;
-        let pid = table::Pid::optional(alloc, &mut pairs)?;
+        let (process_name, (pid, ())) = read_map::<Keys>(alloc, &mut pairs)?;
         Ok(ProcessEntry {
             process_name,
             pid,

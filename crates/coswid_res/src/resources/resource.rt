@@ -7,6 +7,7 @@ ghost use Rattle.coswid_res.specs.Schema as schema;
 
 use crate::fault::FormRefused;
 use crate::resources::table;
+use crate::tables::columns::{Required, read_map};
 use crate::tables::map_form::{ItemMapped, Mapped};
 use cbor_det::Pairs;
 use std::alloc::Global;
@@ -24,6 +25,9 @@ pub struct ResourceEntry {
     pub extras: Pairs,
 }
 
+/// The keys of resources.
+type Keys = (Required<table::ResourceType>, ());
+
 /// The table of resources.
 pub(crate) struct ResourceTable;
 
@@ -36,11 +40,9 @@ impl Mapped for ResourceTable {
 
     ghost written = { pairs_of resource_table };
 
-    #[tactic(auto, using(crate::proofs::Takes::still, crate::proofs::Takes::others_of))]
     fn read(alloc: Global, pairs: Pairs) -> Result<ResourceEntry, FormRefused> {
-        table::ResourceType::expect(alloc, &pairs)?;
         let mut pairs = pairs;
-        let resource_type = table::ResourceType::required(alloc, &mut pairs)?;
+        let (resource_type, ()) = read_map::<Keys>(alloc, &mut pairs)?;
         Ok(ResourceEntry {
             resource_type,
             extras: pairs,
