@@ -21,7 +21,7 @@ use Rattle.session_pool.specs.declared.pool.Served.{Served}
 use Rattle.session_pool.specs.declared.stand.Stand.{Stand}
 use Rattle.session_pool.specs.Outcomes.{one_ran_out}
 use Rattle.session_pool.specs.Rooms.{ArePassed, GivePasses}
-use Rattle.session_pool.specs.Servers.{AnswersServed, ServesAndSweeps}
+use Rattle.session_pool.specs.Servers.{AnswersServed, LeavesOutcome, ServesAndSweeps}
 use Rattle.session_pool.specs.Stands.{AtEach, ServesAt}
 use Rattle.session_pool.proofs.Serving.{all_readers, served_all}
 use Rattle.session_pool.proofs.Sweeping.{Went, all_cause, went_all}
@@ -33,29 +33,26 @@ lacked works total stopped (Err memory) failed out = out
 
 -- Of any doors, of which `state` is what they expose, and any links and sources.
 module _ {D L B : Type 0} (taken : L → Option (List Turn)) (given : L → Option (List ℕ)) (faults : L → ℕ) (state : D → DoorState L) (out : D → Bool) (reports : B → List Told → Type 0) (source_faults : B → ℕ)
-    (c : PoolConfig) (set one two : SetView B) (pass whole first clerk last done met : PassView) (start middle end : Option Moments) (before seated after left : List (Stand D)) (swept total : Swept) (firstly stopped : Option SweepStop)
-    (passes : List PassView) (outcome : Outcome) (whole_is : whole ≡ pass) (clerk_is : clerk ≡ first) (done_is : done ≡ last)
-    (once : SweepsOnce reports source_faults PassStands PassWent (sweeping set whole start) (sweeping one first middle) swept firstly) (once_cause : HasCause set.faults one.faults (stopped_failed firstly))
-    (others : GoesOn reports source_faults PassStands PassWent c.sweeps (sweeping one clerk middle) swept firstly (sweeping two last end) total stopped)
+    (c : PoolConfig) (set one two : SetView B) (pass first kept last met : PassView) (start middle end : Option Moments) (before seated after left : List (Stand D)) (swept total : Swept) (firstly stopped : Option SweepStop)
+    (passes : List PassView) (outcome : Outcome) (kept_is : kept ≡ first)
+    (once : SweepsOnce reports source_faults PassStands PassWent (sweeping set pass start) (sweeping one first middle) swept firstly) (once_cause : HasCause set.faults one.faults (stopped_failed firstly))
+    (others : GoesOn reports source_faults PassStands PassWent c.sweeps (sweeping one kept middle) swept firstly (sweeping two last end) total stopped)
     (others_cause : firstly ≡ None → HasCause one.faults two.faults (stopped_failed stopped)) (put : ArePassed (split_from first false) before seated)
-    (far : AtEach (ServesAt taken given faults state out c.serve c.sessions) seated after) (gives : GivePasses after passes left outcome) (readers_grow : AreReaders passes → Grows done met) (begin : AllBegin passes met.seen) where
-  -- The first sweep began over the pass of the call, and the others over what it came to.
-  from_pass : SweepsOnce reports source_faults PassStands PassWent (sweeping set pass start) (sweeping one first middle) swept firstly
-  from_pass = subst (λ (p : PassView). SweepsOnce reports source_faults PassStands PassWent (sweeping set p start) (sweeping one first middle) swept firstly) whole_is once
-
+    (far : AtEach (ServesAt taken given faults state out c.serve c.sessions) seated after) (gives : GivePasses after passes left outcome) (readers_grow : AreReaders passes → Grows last met) (begin : AllBegin passes met.seen) where
+  -- The others began over what the first sweep came to.
   from_first : GoesOn reports source_faults PassStands PassWent c.sweeps (sweeping one first middle) swept firstly (sweeping two last end) total stopped
-  from_first = subst (λ (p : PassView). GoesOn reports source_faults PassStands PassWent c.sweeps (sweeping one p middle) swept firstly (sweeping two last end) total stopped) clerk_is others
+  from_first = subst (λ (p : PassView). GoesOn reports source_faults PassStands PassWent c.sweeps (sweeping one p middle) swept firstly (sweeping two last end) total stopped) kept_is others
 
   grows : Grows last met
-  grows = subst (λ (p : PassView). Grows p met) done_is (readers_grow (all_readers taken given faults state out c seated after far first passes before left outcome put gives))
+  grows = readers_grow (all_readers taken given faults state out c seated after far first passes before left outcome put gives)
 
   all_sweeps : SweepsAll reports source_faults PassStands PassWent c.sweeps (sweeping set pass start) (sweeping one first middle) (sweeping two last end) total stopped
-  all_sweeps = record { swept = swept; firstly = firstly; once = from_pass; others = from_first }
+  all_sweeps = record { swept = swept; firstly = firstly; once = once; others = from_first }
 
   to_last : Went reports source_faults (sweeping set pass start) (sweeping two last end)
   to_last = went_all reports source_faults c.sweeps (sweeping set pass start) (sweeping one first middle) (sweeping two last end) total stopped all_sweeps
 
-  pub during : (result : Result Served Memory) → AnswersServed gives.works total stopped result
+  during : (result : Result Served Memory) → AnswersServed gives.works total stopped result
       → ServesAndSweeps taken given faults state reports source_faults c (sweeping set pass start) before (sweeping two met end) left result
   during result answers = record {
     first = sweeping one first middle;
@@ -73,3 +70,6 @@ module _ {D L B : Type 0} (taken : L → Option (List Turn)) (given : L → Opti
     serves = served_all taken given faults state out c seated after far first passes before left outcome put gives met begin;
     answers = answers;
   }
+
+  pub leaves : LeavesOutcome taken given faults state reports source_faults c (sweeping set pass start) before (sweeping two met end) left total stopped outcome
+  leaves = record { works = gives.works; came = gives.came; answered = during }

@@ -15,9 +15,11 @@ use Rattle.session_door.specs.declared.work.Work.{Work}
 use Rattle.session_door.specs.Serving.{Serves}
 use Rattle.session_door.specs.Visits.{DoorState}
 use Rattle.session_pool.specs.declared.config.PoolConfig.{PoolConfig}
+use Rattle.session_pool.specs.declared.outcome.Outcome.{Outcome}
 use Rattle.session_pool.specs.declared.pool.Served.{Served}
 use Rattle.session_pool.specs.declared.stand.Stand.{Stand}
 use Rattle.session_pool.specs.Outcomes.{CameOf, one_ran_out}
+use Rattle.session_pool.specs.Rooms.{IsOutcomeOf}
 
 -- What came of the workers and of the sweeps is answered, unless memory ran out for a worker.
 abbrev pub AnswersServed : List Work → Swept → Option SweepStop → Result Served Memory → Type 0
@@ -68,3 +70,10 @@ module _ {D L : Type 0} (taken : L → Option (List Turn)) (given : L → Option
     abbrev pub ServesAll : PoolConfig → SweepState B PassView → List (Stand D) → SweepState B PassView → List (Stand D) → Result Served Memory → Type 0
     ServesAll c old before new after result =
         ServesAndSweeps c old before new after result ⊎ ((is_err result ≡ true) × (new ≡ old) × (after ≡ before))
+
+    -- The pool served, and the outcome is that of its workers. What answers the workers and the
+    -- sweeps, answers for the pool.
+    pub record LeavesOutcome (c : PoolConfig) (old : SweepState B PassView) (before : List (Stand D)) (new : SweepState B PassView) (after : List (Stand D)) (total : Swept) (stopped : Option SweepStop) (outcome : Outcome) : Type 0 where
+      pub works : List Work
+      pub came : IsOutcomeOf works outcome
+      pub answered : (result : Result Served Memory) → AnswersServed works total stopped result → ServesAndSweeps c old before new after result

@@ -8,6 +8,7 @@
 //! | file | what it holds |
 //! |---|---|
 //! | `pool.rt`, `follow_pool.rt` | a pool that serves, and one that follows |
+//! | `beside.rt` | workers in threads, with sweeps beside them |
 //! | `at_stand.rt` | a worker at its stand |
 //! | `stand.rt` | a door, and room for what its worker works with |
 //! | `outcome.rt` | what came of all workers |
@@ -23,6 +24,7 @@
 #![tactic(auto)]
 
 mod at_stand;
+mod beside;
 mod config;
 mod follow_pool;
 mod outcome;

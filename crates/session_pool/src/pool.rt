@@ -1,29 +1,29 @@
 //! An inventory that is served at several doors at once, while sources change it.
 
 ghost use Rattle.std.specs.List.{All};
-ghost use Rattle.std.specs.Prelude.{◌≡◌, ◌<◌, ◌≤◌, ◌+◌, ◌^◌, ◌++◌, ◌∷◌, [], IfSome, IsSome, None, Some, false, true, length, vec_capacity, vec_len};
+ghost use Rattle.std.specs.Prelude.{◌≡◌, ◌<◌, ◌≤◌, ◌+◌, ◌^◌, ◌++◌, ◌∷◌, [], IsSome, Some, false, true, length, vec_capacity, vec_len};
 ghost use Rattle.book_lock.specs.Passes.{PassStands, PassWent, split_from};
 ghost use Rattle.session_door.specs.Serving.{IsWithin};
 ghost use Rattle.session_door.specs.Visits.{door_state};
 ghost use Rattle.session_pool.specs.Rooms.{ArePassed, GivePasses, GivesPass, HasRoom, IsOutcomeOf};
-ghost use Rattle.session_pool.specs.Servers.{ServesAll};
-ghost use Rattle.session_pool.specs.Stands.{AreReady, AtEach, ServesAt};
-ghost use Rattle.source_sweeps.specs.Sweepings.{GoesOn, SweepsOnce, stopped_failed, sweeping};
+ghost use Rattle.session_pool.specs.Servers.{LeavesOutcome, ServesAll};
+ghost use Rattle.session_pool.specs.Stands.{AreReady};
+ghost use Rattle.source_sweeps.specs.Sweepings.{SweepsOnce, stopped_failed, sweeping};
 ghost use Rattle.wire_base.specs.Outside.{HasCause};
 
-use crate::at_stand::serve_stand;
+use crate::beside::work_over;
 use crate::config::PoolConfig;
 use crate::outcome::{Bools, DoorEnds, Outcome};
 use crate::stand::Stand;
-use crate::watch::{Watch, tell_stop};
-use book_lock::{Clerk, Pass, Shelf};
-use session_door::{Gate, Work};
+use crate::watch::Watch;
+use book_lock::{Pass, Shelf};
+use session_door::Work;
 use source_set::{Sources, Swept, TagSource};
-use source_sweeps::{SweepStop, Tally, sweep_beside, sweep_once};
+use source_sweeps::{SweepStop, Tally, sweep_once};
 use std::alloc::Global;
+use std::mem;
 use std::sync::Wait;
-use std::thread::{Threads, join_mut};
-use std::{mem, thread};
+use std::thread::Threads;
 use wire_base::{Clock, Door, Memory};
 
 /// What came of a pool that serves.
@@ -77,20 +77,21 @@ where
     ensures here { pass.new.shelf ≡ shelf.now }
     ensures may { pass.new.may_change ≡ true }
 {
+    let passes = Vec::with_capacity(alloc, doors.len())?;
     let mut outcome = Outcome::with_room(alloc, doors.len())?;
-    let mut passes = Vec::with_capacity(alloc, doors.len())?;
-    let reader = shelf.split(pass, false);
-    let whole = mem::replace(pass, reader);
-    let (mut first, mut tally) = sweep_first(rt, shelf, whole, sources, clock);
-    seat(shelf, &mut first, doors);
-    let mut clerk = shelf.clerk(rt, first);
-    work_beside(
-        alloc, rt, shelf, doors, watch, config, &mut clerk, sources, clock, &mut tally,
+    let tally = serve_with_room(
+        alloc,
+        rt,
+        shelf,
+        pass,
+        doors,
+        sources,
+        clock,
+        watch,
+        config,
+        passes,
+        &mut outcome,
     );
-    let mut last = clerk.done();
-    clear(doors, &mut passes, &mut outcome);
-    shelf.meet_all(&mut last, passes);
-    *pass = last;
     let (ends, door_failed) = outcome.whole()?;
     Ok(Served {
         ends,
@@ -98,6 +99,105 @@ where
         swept: tally.swept,
         stopped: tally.stopped,
     })
+}
+
+/// Serves an inventory at each door, where there is room for what comes of it: for the passes of the
+/// workers, and for the outcome. Gives what all sweeps did.
+fn serve_with_room<
+    D: Door + Send,
+    C: Clock + Send,
+    W: Watch + Sync,
+    S: TagSource + Send,
+    R: Threads + Wait + Sync,
+>(
+    alloc: Global,
+    rt: &R,
+    shelf: &Shelf,
+    pass: &mut Pass,
+    doors: &mut [Stand<D>],
+    sources: &mut Sources<S>,
+    clock: &mut C,
+    watch: &W,
+    config: &PoolConfig,
+    passes: Vec<Pass>,
+    outcome: &mut Outcome,
+) -> Tally
+where
+    D::L: Send,
+    requires within { IsWithin config.now.serve }
+    requires sessions { 0 < config.now.sessions }
+    requires sweeps { 0 < config.now.sweeps }
+    requires here { pass.old.shelf ≡ shelf.now }
+    requires may { pass.old.may_change ≡ true }
+    requires few { length doors.old < 2 ^ 32 }
+    requires ready { AreReady D.out doors.old }
+    requires empty { (passes.items ≡ []) × (vec_len passes ≡ 0) }
+    requires spare { length doors.old ≤ vec_capacity passes }
+    requires none { IsOutcomeOf [] outcome.old }
+    requires room { HasRoom (length doors.old) outcome.old }
+    ensures leaves { LeavesOutcome D.L.taken D.L.given D.L.faults (door_state D.left D.returned D.last D.faults) S.reports S.faults config.now
+        (sweeping sources.old pass.old (C.moments clock.old)) doors.old (sweeping sources.new pass.new (C.moments clock.new)) doors.new result.swept result.stopped outcome.new }
+    ensures ready { AreReady D.out doors.new }
+    ensures here { pass.new.shelf ≡ shelf.now }
+    ensures may { pass.new.may_change ≡ true }
+{
+    let reader = shelf.split(pass, false);
+    let whole = mem::replace(pass, reader);
+    let (last, tally) = serve_over(
+        alloc, rt, shelf, whole, doors, sources, clock, watch, config, passes, outcome,
+    );
+    *pass = last;
+    tally
+}
+
+/// Serves an inventory at each door, over the pass, which is given back. It has met the passes of
+/// the workers.
+fn serve_over<
+    D: Door + Send,
+    C: Clock + Send,
+    W: Watch + Sync,
+    S: TagSource + Send,
+    R: Threads + Wait + Sync,
+>(
+    alloc: Global,
+    rt: &R,
+    shelf: &Shelf,
+    pass: Pass,
+    doors: &mut [Stand<D>],
+    sources: &mut Sources<S>,
+    clock: &mut C,
+    watch: &W,
+    config: &PoolConfig,
+    mut passes: Vec<Pass>,
+    outcome: &mut Outcome,
+) -> (Pass, Tally)
+where
+    D::L: Send,
+    requires within { IsWithin config.now.serve }
+    requires sessions { 0 < config.now.sessions }
+    requires sweeps { 0 < config.now.sweeps }
+    requires here { pass.shelf ≡ shelf.now }
+    requires may { pass.may_change ≡ true }
+    requires few { length doors.old < 2 ^ 32 }
+    requires ready { AreReady D.out doors.old }
+    requires empty { (passes.items ≡ []) × (vec_len passes ≡ 0) }
+    requires spare { length doors.old ≤ vec_capacity passes }
+    requires none { IsOutcomeOf [] outcome.old }
+    requires room { HasRoom (length doors.old) outcome.old }
+    ensures leaves { LeavesOutcome D.L.taken D.L.given D.L.faults (door_state D.left D.returned D.last D.faults) S.reports S.faults config.now
+        (sweeping sources.old pass (C.moments clock.old)) doors.old (sweeping sources.new result.0 (C.moments clock.new)) doors.new result.1.swept result.1.stopped outcome.new }
+    ensures ready { AreReady D.out doors.new }
+    ensures here { result.0.shelf ≡ shelf.now }
+    ensures may { result.0.may_change ≡ true }
+{
+    let (mut first, mut tally) = sweep_first(rt, shelf, pass, sources, clock);
+    seat(shelf, &mut first, doors);
+    let mut last = work_over(
+        alloc, rt, shelf, first, doors, watch, config, sources, clock, &mut tally,
+    );
+    clear(doors, &mut passes, outcome);
+    shelf.meet_all(&mut last, passes);
+    (last, tally)
 }
 
 /// Makes the first sweep, over a clerk of the pass. Gives the pass back, with what was done.
@@ -139,106 +239,6 @@ fn seat_one<D>(shelf: &Shelf, pass: &mut Pass, stand: &mut Stand<D>)
     ensures passed { stand.new ≡ record stand.old { pass = Some (split_from pass.old false) } }
 {
     stand.pass = Some(shelf.split(pass, false));
-}
-
-/// Makes the sweeps after the first beside the workers, which serve at each stand.
-fn work_beside<
-    D: Door + Send,
-    C: Clock + Send,
-    W: Watch + Sync,
-    S: TagSource + Send,
-    R: Threads + Wait + Sync,
->(
-    alloc: Global,
-    rt: &R,
-    shelf: &Shelf,
-    doors: &mut [Stand<D>],
-    watch: &W,
-    config: &PoolConfig,
-    clerk: &mut Clerk<'_, R>,
-    sources: &mut Sources<S>,
-    clock: &mut C,
-    tally: &mut Tally,
-)
-where
-    D::L: Send,
-    requires within { IsWithin config.now.serve }
-    requires sessions { 0 < config.now.sessions }
-    requires sweeps { 0 < config.now.sweeps }
-    requires few { length doors.old < 2 ^ 32 }
-    requires home { All (λ stand. D.out stand.door ≡ false) doors.old }
-    requires passes { All (λ stand. IsSome stand.pass) doors.old }
-    requires here { All (λ stand. IfSome stand.pass (λ pass. pass.shelf ≡ shelf.now)) doors.old }
-    requires may { clerk.old.may_change ≡ true }
-    ensures on { GoesOn S.reports S.faults PassStands PassWent config.now.sweeps (sweeping sources.old clerk.old (C.moments clock.old)) tally.old.swept tally.old.stopped
-        (sweeping sources.new clerk.new (C.moments clock.new)) tally.new.swept tally.new.stopped }
-    ensures cause { tally.old.stopped ≡ None → HasCause sources.old.faults sources.new.faults (stopped_failed tally.new.stopped) }
-    ensures may { clerk.new.may_change ≡ true }
-    ensures serves { AtEach (ServesAt D.L.taken D.L.given D.L.faults (door_state D.left D.returned D.last D.faults) D.out config.now.serve config.now.sessions) doors.old doors.new }
-{
-    join_mut(
-        rt,
-        &mut || sweep_on(clerk, sources, clock, config.sweeps, tally, watch),
-        &mut ||
-            requires { IsWithin config.now.serve × (0 < config.now.sessions) × (length doors.now < 2 ^ 32) × All (λ stand. D.out stand.door ≡ false) doors.now
-                × All (λ stand. IsSome stand.pass) doors.now × All (λ stand. IfSome stand.pass (λ pass. pass.shelf ≡ shelf.now)) doors.now }
-            ensures { AtEach (ServesAt D.L.taken D.L.given D.L.faults (door_state D.left D.returned D.last D.faults) D.out config.entry.now.serve config.entry.now.sessions) doors.entry.now doors.exit.now }
-        { serve_stands(alloc, rt, shelf, doors, watch, config) },
-    );
-}
-
-/// Makes the sweeps after the first, unless that one stopped the sweeping. Then tells why it stopped,
-/// if it did.
-fn sweep_on<C: Clock, W: Watch, S: TagSource, R: Wait>(
-    clerk: &mut Clerk<'_, R>,
-    sources: &mut Sources<S>,
-    clock: &mut C,
-    sweeps: u32,
-    tally: &mut Tally,
-    watch: &W,
-)
-    requires some { 0 < sweeps }
-    requires may { clerk.old.may_change ≡ true }
-    ensures on { GoesOn S.reports S.faults PassStands PassWent sweeps (sweeping sources.old clerk.old (C.moments clock.old)) tally.old.swept tally.old.stopped
-        (sweeping sources.new clerk.new (C.moments clock.new)) tally.new.swept tally.new.stopped }
-    ensures cause { tally.old.stopped ≡ None → HasCause sources.old.faults sources.new.faults (stopped_failed tally.new.stopped) }
-    ensures may { clerk.new.may_change ≡ true }
-{
-    sweep_beside(clerk, sources, clock, sweeps, tally);
-    tell_stop(watch, tally.stopped);
-}
-
-/// Serves at each stand, in a thread each where one can be made.
-fn serve_stands<D: Door + Send, G: Gate + Sync, R: Threads + Wait + Sync>(
-    alloc: Global,
-    rt: &R,
-    shelf: &Shelf,
-    doors: &mut [Stand<D>],
-    gate: &G,
-    config: &PoolConfig,
-)
-where
-    D::L: Send,
-    requires within { IsWithin config.now.serve }
-    requires sessions { 0 < config.now.sessions }
-    requires few { length doors.old < 2 ^ 32 }
-    requires home { All (λ stand. D.out stand.door ≡ false) doors.old }
-    requires passes { All (λ stand. IsSome stand.pass) doors.old }
-    requires here { All (λ stand. IfSome stand.pass (λ pass. pass.shelf ≡ shelf.now)) doors.old }
-    ensures serves { AtEach (ServesAt D.L.taken D.L.given D.L.faults (door_state D.left D.returned D.last D.faults) D.out config.now.serve config.now.sessions) doors.old doors.new }
-{
-    // At least one is asked for, also for no doors.
-    let threads = doors.len().max(1);
-    thread::for_each_mut(
-        rt,
-        doors,
-        threads,
-        &|place: usize, stand: &mut Stand<D>|
-            requires { (place + 1 < 2 ^ 32) × IsWithin config.now.serve × (0 < config.now.sessions) × (D.out stand.old.door ≡ false) × IsSome stand.old.pass
-                × IfSome stand.old.pass (λ pass. pass.shelf ≡ shelf.now) }
-            ensures { ServesAt D.L.taken D.L.given D.L.faults (door_state D.left D.returned D.last D.faults) D.out config.entry.now.serve config.entry.now.sessions stand.old stand.new }
-        { serve_stand(alloc, rt, shelf, stand, place as u32 + 1, gate, config) },
-    );
 }
 
 /// Takes the passes out of the stands, and what came of their workers.
