@@ -17,3 +17,5 @@ pub mod OneText
 pub mod OneList
 pub mod ReplayTelling
 pub mod Counting
+pub mod Commanded
+pub mod Wording

@@ -6,18 +6,17 @@ use Rattle.wire_base.specs.NamedFile.{Read, with_reads}
 use Rattle.wire_base.specs.Passing.{Fills}
 use Rattle.wire_base.specs.declared.outside.stopped.Stopped.{Stopped}
 use Rattle.wire_base.specs.declared.outside.stopped.Stopped.TheVariants as stopped
-use Rattle.cbor_det.specs.Answers.{IsRefusal}
-use Rattle.cbor_det.specs.declared.fault.CborFault.{CborFault}
-use Rattle.cbor_det.specs.declared.fault.CborRefused.TheVariants as cbor
-use Rattle.coswid_res.specs.declared.fault.FormFault.{FormFault}
 use Rattle.coswid_tag.specs.declared.tag.Tag.{Tag}
-use Rattle.coswid_codec.specs.Answers.{limits, BeginsFaulty, BeginsTag}
+use Rattle.coswid_codec.specs.Answers.{BeginsTag, IsRefusal}
 use Rattle.coswid_codec.proofs.Outcomes.{begins_one_tag, item_not_refused, tag_not_faulty}
+use Rattle.coswid_codec.specs.declared.read.TagRefused.{TagRefused}
+use Rattle.coswid_codec.specs.declared.read.TagRefused.TheVariants as refused
+use Rattle.command_text.specs.declared.answer.Answer.{Answer}
 use Rattle.command_text.specs.declared.ending.Ending.{Ending}
 use Rattle.command_text.specs.declared.ending.Ending.TheVariants as ending
 use Rattle.swid_cli.specs.Run.{status_of}
 use Rattle.swid_cli.specs.TagReads.{AreMade, AreTagReads, PayloadReads, TagReads, payload_paths}
-use Rattle.swid_cli.specs.Tagging.{TAG_OCTETS}
+use Rattle.swid_cli.specs.Tagging.{AnswersRefused, TAG_OCTETS}
 use Rattle.swid_cli.proofs.Telling.{IsWide, read_of, told_of}
 
 with_none : (before : Option (List Read)) → before ≡ with_reads [] before
@@ -93,11 +92,11 @@ module _ (octets : List ℕ) (before : Option (List Read)) where
   pub more_reads : {A : Type 0} (result : Result A Stopped) (g : Tag) (used : ℕ) → BeginsTag octets g used → used < length octets → TagReads octets result before before
   more_reads result g used begins less = no_reads result (λ h tag. omega (arith, less, (begins_one_tag octets g h used (length octets) begins tag).1))
 
-  pub item_reads : {A : Type 0} (result : Result A Stopped) (fault : CborFault) → IsRefusal limits octets (cbor.Fault fault) → TagReads octets result before before
-  item_reads result fault is = no_reads result (λ h tag. item_not_refused octets fault tag.item (length octets) is tag.begins)
-
-  pub form_reads : {A : Type 0} (result : Result A Stopped) (fault : FormFault) → BeginsFaulty octets fault → TagReads octets result before before
-  form_reads result fault is = no_reads result (λ h tag. tag_not_faulty octets fault h (length octets) is tag)
+  -- They begin with no tag.
+  pub refused_reads : {A : Type 0} (result : Result A Stopped) (why : TagRefused) (made : Answer) → IsRefusal octets why → AnswersRefused why made → TagReads octets result before before
+  refused_reads result (refused.Cbor fault) made is answers = no_reads result (λ h tag. item_not_refused octets fault tag.item (length octets) is tag.begins)
+  refused_reads result (refused.Form fault) made is answers = no_reads result (λ h tag. tag_not_faulty octets fault h (length octets) is tag)
+  refused_reads result refused.Memory made is answers = absurd answers
 
 -- ---- of an input
 

@@ -10,7 +10,9 @@ use Rattle.wire_base.specs.declared.outside.files.NamedFile.{NamedFile}
 use Rattle.coswid_res.specs.declared.verification.verdict.Verdict.{Verdict}
 use Rattle.coswid_tag.specs.Findings.{findings}
 use Rattle.coswid_tag.specs.declared.tag.Tag.{Tag}
-use Rattle.coswid_codec.specs.Answers.{BeginsTag}
+use Rattle.coswid_codec.specs.Answers.{BeginsTag, IsRefusal}
+use Rattle.coswid_codec.specs.declared.read.TagRefused.{TagRefused}
+use Rattle.coswid_codec.specs.declared.read.TagRefused.TheVariants as refused
 use Rattle.command_text.specs.declared.answer.Answer.{Answer}
 use Rattle.swid_cli.specs.declared.command.Command.TheVariants as command
 use Rattle.command_text.specs.declared.ending.Ending.{Ending}
@@ -19,7 +21,7 @@ use Rattle.command_text.specs.Answer.{refusal_answer}
 use Rattle.swid_cli.specs.Checking.{TagVerdicts, checked_ending, checked_text}
 use Rattle.swid_cli.specs.Commands.{Says}
 use Rattle.swid_cli.specs.Run.{status_of}
-use Rattle.swid_cli.specs.Tagging.{TAG_OCTETS, TagTells, long_input, more_follows, no_item, no_tag, whole_tag}
+use Rattle.swid_cli.specs.Tagging.{AnswersRefused, TAG_OCTETS, TagTells, long_input, more_follows, no_item, no_tag, whole_tag}
 use Rattle.swid_cli.specs.Words.{IsTag, IsTagVerify}
 use Rattle.swid_cli.proofs.Telling.{IsSound, IsWide}
 use Rattle.swid_cli.specs.declared.command.Scope.{Scope}
@@ -32,6 +34,12 @@ module _ (looked_at : Scope) (files : Option (List NamedFile)) where
   -- The text of a refusal.
   pub refused_tells : (octets told : List ℕ) (made : Answer) → made ≡ refusal_answer told → Tells octets told ending.Refused → Tells octets made.text made.ending
   refused_tells octets told made is tells = rw is tells
+
+  -- The text of octets that begin with no tag.
+  pub no_tag_tells : (octets : List ℕ) (why : TagRefused) (made : Answer) → length octets ≤ TAG_OCTETS → IsRefusal octets why → AnswersRefused why made → Tells octets made.text made.ending
+  no_tag_tells octets (refused.Cbor fault) made within is answers = refused_tells octets _ made answers (no_item octets fault within is)
+  no_tag_tells octets (refused.Form fault) made within is answers = refused_tells octets _ made answers (no_tag octets fault within is)
+  no_tag_tells octets refused.Memory made within is answers = absurd answers
 
   -- The text of a tag after which nothing follows.
   pub whole_tells : (octets text : List ℕ) (g : Tag) (used : ℕ) (verdicts : List (List ℕ × Verdict)) (how : Ending) → BeginsTag octets g used → length octets ≤ used

@@ -17,3 +17,4 @@ pub mod TagList
 pub mod Links
 pub mod LinksLaws
 pub mod Making
+pub mod Running

@@ -1,5 +1,5 @@
 -- What `tag` prints, of all octets of the input.
-use Rattle.std.specs.Prelude.{◌<◌, ◌≤◌, ℕ, ℤ, Option, List, [], ◌∷◌, ◌++◌, length, codes, decimal}
+use Rattle.std.specs.Prelude.{◌≡◌, ◌<◌, ◌≤◌, ℕ, ℤ, Option, List, [], ◌∷◌, ◌++◌, length, codes, decimal}
 use Rattle.std.specs.Fmt.{signed_decimal}
 use Rattle.std.specs.List.{flat_map}
 use Rattle.wire_base.specs.declared.outside.files.NamedFile.{NamedFile}
@@ -11,6 +11,10 @@ use Rattle.coswid_res.specs.declared.verification.verdict.Verdict.{Verdict}
 use Rattle.coswid_tag.specs.Findings.{findings}
 use Rattle.coswid_tag.specs.declared.tag.Tag.{Tag}
 use Rattle.coswid_codec.specs.Answers.{limits, BeginsTag, BeginsFaulty}
+use Rattle.coswid_codec.specs.declared.read.TagRefused.{TagRefused}
+use Rattle.coswid_codec.specs.declared.read.TagRefused.TheVariants as why
+use Rattle.command_text.specs.Answer.{refusal_answer}
+use Rattle.command_text.specs.declared.answer.Answer.{Answer}
 use Rattle.command_text.specs.declared.ending.Ending.{Ending}
 use Rattle.command_text.specs.declared.ending.Ending.TheVariants as ending
 use Rattle.swid_cli.specs.declared.command.Scope.{Scope}
@@ -33,6 +37,12 @@ path_text (step ∷ steps) = signed_decimal step ++ flat_map step_behind steps
 -- A form fault: its number, and the path to it.
 abbrev pub form_line : FormFault → List ℕ
 form_line fault = line (codes "form" ∷ decimal fault.kind ∷ path_text fault.path ∷ [])
+
+-- The answer to octets that begin with no tag: why none was read. There is none where memory ran out.
+abbrev pub AnswersRefused : TagRefused → Answer → Type 0
+AnswersRefused (why.Cbor fault) made = made ≡ refusal_answer (fault_line fault.kind fault.at)
+AnswersRefused (why.Form fault) made = made ≡ refusal_answer (form_line fault)
+AnswersRefused why.Memory made = ⊥
 
 -- The text that is printed of all octets of the input, and how it ends: a rule for each row of the
 -- table in docs/rules/commands.md. The tag alone is checked, or its files too, and what these hold

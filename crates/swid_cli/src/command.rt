@@ -1,6 +1,6 @@
 //! The words of the command line.
 
-ghost use Rattle.std.specs.Prelude.{◌≡◌, ◌↔◌, IsSome, IfSome, IsTrue, map};
+ghost use Rattle.std.specs.Prelude.{◌≡◌, ◌↔◌, ◌∷◌, [], IsTrue, map};
 ghost use Rattle.swid_cli.specs.Commands.{Says};
 ghost use Rattle.line_words.specs.Reading.{FindsExactly};
 ghost use Rattle.swid_cli.specs.Words.{IsCommandLine, IsCountWord};
@@ -35,19 +35,38 @@ pub(crate) enum Command {
     Make(u32),
 }
 
-/// The command that the words say; `None` exactly where they are no command line.
+/// The command that the words say; `None` exactly where they say none.
 pub(crate) fn command_of(words: &[&str]) -> Option<Command>
-    ensures known { IsSome result ↔ IsCommandLine (map (λ word. word.now) words.now) }
-    ensures said { IfSome result (λ command. Says command (map (λ word. word.now) words.now)) }
+    ensures said { FindsExactly (λ command. Says command (map (λ word. word.now) words.now)) result }
 {
     match words {
-        ["mirror", "ids"] => Some(Command::Mirror(Kind::Ids)),
-        ["mirror", "full"] => Some(Command::Mirror(Kind::Full)),
-        ["tag"] => Some(Command::Tag(Scope::Tag)),
-        ["tag", "verify"] => Some(Command::Tag(Scope::Files)),
-        ["links"] => Some(Command::Links),
-        ["replay"] => Some(Command::Replay),
-        ["make", word] => match count_of(word) {
+        [word] => of_one_word(word),
+        [first, second] => of_two_words(first, second),
+        _ => None,
+    }
+}
+
+/// The command that one word says.
+fn of_one_word(word: &str) -> Option<Command>
+    ensures said { FindsExactly (λ command. Says command (word.now ∷ [])) result }
+{
+    match word {
+        "tag" => Some(Command::Tag(Scope::Tag)),
+        "links" => Some(Command::Links),
+        "replay" => Some(Command::Replay),
+        _ => None,
+    }
+}
+
+/// The command that two words say.
+fn of_two_words(first: &str, second: &str) -> Option<Command>
+    ensures said { FindsExactly (λ command. Says command (first.now ∷ second.now ∷ [])) result }
+{
+    match (first, second) {
+        ("mirror", "ids") => Some(Command::Mirror(Kind::Ids)),
+        ("mirror", "full") => Some(Command::Mirror(Kind::Full)),
+        ("tag", "verify") => Some(Command::Tag(Scope::Files)),
+        ("make", word) => match count_of(word) {
             Some(count) => Some(Command::Make(count)),
             None => None,
         },

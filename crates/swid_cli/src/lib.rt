@@ -18,7 +18,7 @@
 //!
 //! | file | what it holds | its words in `specs/` |
 //! |---|---|---|
-//! | `run.rt` | the top call, and the status | `Run`, `Printing`, `Answering` |
+//! | `run.rt` | the top call, and the status | `Run`, `Running`, `Printing`, `Answering` |
 //! | `command.rt` | the words of a command line | `Words`, `Commands` |
 //! | `mirror.rt` | `mirror` | `Stream`: `stream_text` |
 //! | `mirror/step.rt`, `first_attribute.rt` | attributes, one after another | `Steps`, `Front` |

@@ -4,6 +4,7 @@ ghost use Rattle.std.specs.Prelude.{◌≡◌, ◌≢◌, ◌≤◌, ◌⊎◌, 
 ghost use Rattle.swid_cli.specs.Answering.{AllAnswer, PrintsRight};
 ghost use Rattle.swid_cli.specs.Printing.{WordsBegin, WordsPrint, WordsRead};
 ghost use Rattle.swid_cli.specs.Run.{status_of, usage};
+ghost use Rattle.swid_cli.specs.Running.{IsFit, RunsCommand};
 ghost use Rattle.swid_cli.specs.Words.{IsCommandLine, IsMake, IsMirror, IsTagVerify};
 ghost use Rattle.swima_model.specs.History.{History, IsHonest};
 ghost use Rattle.swima_model.specs.declared.report.Kind.{Kind as KindValue};
@@ -95,15 +96,32 @@ pub fn run_plain<S: Source, K: Sink, F: Files>(
     ensures files { ¬ IsTagVerify (map (λ word. word.now) words.now) → files.new ≡ files.old }
 {
     match command_of(words) {
+        Some(command) => status(run_command(alloc, command, input, output, files)),
         None => {
             let _ = write_all(output, USAGE);
             2
         }
-        Some(Command::Mirror(kind)) => status(mirror(alloc, kind, input, output)),
-        Some(Command::Tag(scope)) => status(tag(alloc, scope, input, output, files)),
-        Some(Command::Links) => status(links(alloc, input, output)),
-        Some(Command::Replay) => status(replay(alloc, input, output)),
-        Some(Command::Make(count)) => status(make(alloc, count, output)),
+    }
+}
+
+/// Does what a command says.
+fn run_command<S: Source, K: Sink, F: Files>(
+    alloc: Global,
+    command: Command,
+    input: &mut S,
+    output: &mut K,
+    files: &mut F,
+) -> Result<Ending, Stopped>
+    requires fit { IsFit command }
+    ensures runs { RunsCommand S.left S.faults K.written K.faults F.contents F.reads F.faults
+        command input.old output.old files.old input.new output.new files.new result }
+{
+    match command {
+        Command::Mirror(kind) => mirror(alloc, kind, input, output),
+        Command::Tag(scope) => tag(alloc, scope, input, output, files),
+        Command::Links => links(alloc, input, output),
+        Command::Replay => replay(alloc, input, output),
+        Command::Make(count) => make(alloc, count, output),
     }
 }
 

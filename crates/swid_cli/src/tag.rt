@@ -12,7 +12,7 @@ ghost use Rattle.coswid_tag.specs.Findings.{findings};
 ghost use Rattle.swid_cli.specs.Causes.{HasFilesCauses, LooksAt};
 ghost use Rattle.swid_cli.specs.Checking.{TagVerdicts, checked_ending, checked_text};
 ghost use Rattle.swid_cli.specs.TagReads.{PayloadReads, TagReads};
-ghost use Rattle.swid_cli.specs.Tagging.{TAG_OCTETS, TagTells};
+ghost use Rattle.swid_cli.specs.Tagging.{AnswersRefused, TAG_OCTETS, TagTells};
 ghost use Rattle.swid_cli.specs.Telling.{RanTelling};
 ghost use Rattle.wire_base.specs.Passing.{is_fault};
 
@@ -71,11 +71,18 @@ fn answer_to<F: Files>(
     }
     match read_tag(alloc, octets) {
         Ok((tag, used)) => answer_to_tag(alloc, scope, octets, &tag, used, files),
-        Err(TagRefused::Cbor(fault)) => {
-            Ok(refused(fault_line(alloc, fault.kind as u32, fault.at)?))
-        }
-        Err(TagRefused::Form(fault)) => Ok(refused(form_line(alloc, &fault)?)),
-        Err(TagRefused::Memory) => Err(Stopped::Memory),
+        Err(why) => Ok(answer_to_no_tag(alloc, &why)?),
+    }
+}
+
+/// What is printed of octets that begin with no tag, by why none was read.
+fn answer_to_no_tag(alloc: Global, why: &TagRefused) -> Result<Answer, Memory>
+    ensures told { IfOk result (λ made. AnswersRefused why.now made) }
+{
+    match why {
+        TagRefused::Cbor(fault) => Ok(refused(fault_line(alloc, fault.kind as u32, fault.at)?)),
+        TagRefused::Form(fault) => Ok(refused(form_line(alloc, fault)?)),
+        TagRefused::Memory => Err(Memory),
     }
 }
 
