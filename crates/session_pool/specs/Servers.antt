@@ -71,8 +71,8 @@ module _ {D L : Type 0} (taken : L → Option (List Turn)) (given : L → Option
     ServesAll c old before new after result =
         ServesAndSweeps c old before new after result ⊎ ((is_err result ≡ true) × (new ≡ old) × (after ≡ before))
 
-    -- The pool served, and the outcome is that of its workers. What answers the workers and the
-    -- sweeps, answers for the pool.
+    -- The pool served, and the outcome is that of its workers. A result that answers for these
+    -- workers and for the sweeps is a result of the pool.
     pub record LeavesOutcome (c : PoolConfig) (old : SweepState B PassView) (before : List (Stand D)) (new : SweepState B PassView) (after : List (Stand D)) (total : Swept) (stopped : Option SweepStop) (outcome : Outcome) : Type 0 where
       pub works : List Work
       pub came : IsOutcomeOf works outcome

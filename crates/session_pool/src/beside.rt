@@ -113,8 +113,8 @@ where
     );
 }
 
-/// Makes the sweeps after the first, unless that one stopped the sweeping. Then tells why it stopped,
-/// if it did.
+/// Makes the sweeps after the first, unless that one stopped the sweeping. Then reports why it
+/// stopped, if it did.
 fn sweep_on<C: Clock, W: Watch, S: TagSource, R: Wait>(
     clerk: &mut Clerk<'_, R>,
     sources: &mut Sources<S>,

@@ -101,8 +101,8 @@ where
     })
 }
 
-/// Serves an inventory at each door, where there is room for what comes of it: for the passes of the
-/// workers, and for the outcome. Gives what all sweeps did.
+/// Serves an inventory at each door, where there is room for what comes of it: for the passes of
+/// the workers, and for the outcome. Gives what all sweeps did.
 fn serve_with_room<
     D: Door + Send,
     C: Clock + Send,
@@ -150,8 +150,8 @@ where
     tally
 }
 
-/// Serves an inventory at each door, over the pass, which is given back. It has met the passes of
-/// the workers.
+/// Serves an inventory at each door, over the pass. Gives the pass back, which has met the passes
+/// of the workers by then, and what all sweeps did.
 fn serve_over<
     D: Door + Send,
     C: Clock + Send,
