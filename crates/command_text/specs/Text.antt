@@ -1,5 +1,5 @@
 -- The lines that commands print. Numbers are decimal.
-use Rattle.std.specs.Prelude.{◌+◌, ℕ, List, [], ◌∷◌, ◌++◌, Option, Some, None, length, codes}
+use Rattle.std.specs.Prelude.{◌-◌, ℕ, List, [], ◌∷◌, ◌++◌, Option, Some, None, length, take, drop, codes}
 use Rattle.std.specs.List.{flat_map}
 use Rattle.std.specs.Fmt.{decimal}
 use Rattle.hex.specs.Hex.{encode_lower}
@@ -64,14 +64,24 @@ content_words kind content = decimal content.source ∷ escaped content.ident �
 unfoldable pub record_line : Kind → Record → List ℕ
 record_line kind r = line (codes "record" ∷ decimal r.id ∷ model_text r.content.model ∷ content_words kind r.content)
 
--- A mirror whose records stood at a point, or that has none yet.
-abbrev pub mirror_at : Kind → Option Point → List Record → List ℕ
-mirror_at kind None records = line (codes "mirror" ∷ codes "none" ∷ [])
-mirror_at kind (Some point) records = line (codes "mirror" ∷ decimal point.epoch ∷ decimal point.eid ∷ decimal (length records) ∷ []) ++ flat_map (record_line kind) records
+-- The first line of a mirror that holds that many records: the point at which they stood, or that
+-- there is none yet.
+abbrev pub mirror_head : Option Point → ℕ → List ℕ
+mirror_head None count = line (codes "mirror" ∷ codes "none" ∷ [])
+mirror_head (Some point) count = line (codes "mirror" ∷ decimal point.epoch ∷ decimal point.eid ∷ decimal count ∷ [])
 
--- A mirror.
+-- The records of a mirror that have a line: all, or none where it has no point yet.
+abbrev pub listed : Option Point → List Record → List Record
+listed None records = []
+listed (Some point) records = records
+
+-- A mirror: its first line, and a line for each record that is listed.
 abbrev pub mirror_text : Held → List ℕ
-mirror_text mirror = mirror_at mirror.kind mirror.point mirror.records
+mirror_text mirror = mirror_head mirror.point (length mirror.records) ++ flat_map (record_line mirror.kind) (listed mirror.point mirror.records)
+
+-- The lines of the records from place `start` up to `end`, which is left out.
+abbrev pub lines_between : ℕ → ℕ → Held → List ℕ
+lines_between start end mirror = flat_map (record_line mirror.kind) (take (end - start) (drop start mirror.records))
 
 -- An attribute that was skipped.
 abbrev pub skipped_line : ℕ → ℕ → List ℕ

@@ -1,10 +1,10 @@
 //! How sessions end.
 
-ghost use Rattle.std.specs.Prelude.{◌≡◌, ◌∷◌, [], IfOk};
+ghost use Rattle.std.specs.Prelude.{◌≡◌, ◌∷◌, IfOk};
 ghost use Rattle.command_text.specs.Ends.{end_words};
 ghost use Rattle.command_text.specs.Text.{line};
 
-use crate::refusal_lines::from_string;
+use crate::numbered_lines::{one_number, two_numbers, words};
 use session_rules::SessionEnd;
 use std::alloc::Global;
 use wire_base::{Memory, Octets};
@@ -14,27 +14,19 @@ pub fn end_line(alloc: Global, who: &str, end: SessionEnd) -> Result<Octets, Mem
     ensures line { IfOk result (λ made. made ≡ line (who.now ∷ end_words end)) }
 {
     match end {
-        SessionEnd::Closed => word(alloc, who, "closed"),
-        SessionEnd::PeerClosed => word(alloc, who, "peer-closed"),
+        SessionEnd::Closed => words(alloc, who, "closed"),
+        SessionEnd::PeerClosed => words(alloc, who, "peer-closed"),
         SessionEnd::PeerError { vendor, code } => {
-            Ok(from_string(format!(in alloc; "{who} peer-error {vendor} {code}\n")?))
+            two_numbers(alloc, who, "peer-error", vendor as u64, code as u64)
         }
         SessionEnd::Refused { code, offset } => {
-            Ok(from_string(format!(in alloc; "{who} refused {code} {offset}\n")?))
+            two_numbers(alloc, who, "refused", code as u64, offset as u64)
         }
-        SessionEnd::Ended => word(alloc, who, "ended"),
-        SessionEnd::Torn { have } => { Ok(from_string(format!(in alloc; "{who} torn {have}\n")?)) }
-        SessionEnd::LinkFault => word(alloc, who, "link-fault"),
-        SessionEnd::IdleOut { turns } => {
-            Ok(from_string(format!(in alloc; "{who} idle-out {turns}\n")?))
-        }
-        SessionEnd::Enough => word(alloc, who, "enough"),
-        SessionEnd::Memory => word(alloc, who, "memory"),
+        SessionEnd::Ended => words(alloc, who, "ended"),
+        SessionEnd::Torn { have } => one_number(alloc, who, "torn", have as u64),
+        SessionEnd::LinkFault => words(alloc, who, "link-fault"),
+        SessionEnd::IdleOut { turns } => one_number(alloc, who, "idle-out", turns as u64),
+        SessionEnd::Enough => words(alloc, who, "enough"),
+        SessionEnd::Memory => words(alloc, who, "memory"),
     }
-}
-
-fn word(alloc: Global, who: &str, how: &str) -> Result<Octets, Memory>
-    ensures line { IfOk result (λ made. made ≡ line (who.now ∷ how.now ∷ [])) }
-{
-    Ok(from_string(format!(in alloc; "{who} {how}\n")?))
 }

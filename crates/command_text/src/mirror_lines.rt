@@ -1,12 +1,12 @@
 //! What a mirror answered to a report, and what it holds.
 
-ghost use Rattle.std.specs.Prelude.{◌≡◌, ◌≢◌, ◌∷◌, ◌++◌, [], IfOk, OnOk, string_bytes};
-ghost use Rattle.std.specs.List.{flat_map};
+ghost use Rattle.std.specs.Prelude.{◌≡◌, ◌≢◌, ◌≤◌, ◌∷◌, ◌++◌, [], IfOk, OnOk, length, string_bytes};
 ghost use Rattle.std.specs.Fmt.{decimal};
 ghost use Rattle.swima_model.specs.declared.report.Kind.TheVariants as kinds;
 ghost use Rattle.validator_core.specs.declared.mirror.Taken.{Taken as TakenValue};
-ghost use Rattle.command_text.specs.Text.{body_text, content_words, line, mirror_text, model_text, record_line, skipped_line, took, took_line};
+ghost use Rattle.command_text.specs.Text.{body_text, content_words, line, lines_between, listed, mirror_head, mirror_text, model_text, record_line, skipped_line, took, took_line};
 
+use crate::numbered_lines::{one_number, three_numbers, two_numbers, words};
 use crate::refusal_lines::from_string;
 use itoa::Buffer;
 use sha2::{Digest, Sha256};
@@ -14,6 +14,9 @@ use std::alloc::Global;
 use swima_model::{Content, Kind, Model, Point, Record, Report};
 use validator_core::{Mirror, Taken};
 use wire_base::{Memory, Octets, put_escaped};
+
+/// The word with which an answer to a report begins.
+const TOOK: &str = "took";
 
 /// The point of a report, and how many records or events it has.
 pub fn point_and_count(report: &Report) -> (Point, usize)
@@ -32,36 +35,40 @@ pub fn took_line(alloc: Global, point: Point, count: usize, taken: Taken) -> Res
     ensures answered { OnOk result (taken ≢ Taken.Memory) }
 {
     match taken {
-        Taken::WrongKind => Ok(from_string(format!(in alloc; "took wrong-kind\n")?)),
-        Taken::Stale => Ok(from_string(format!(in alloc; "took stale\n")?)),
-        Taken::Doubled { id } => Ok(from_string(format!(in alloc; "took doubled {id}\n")?)),
+        Taken::WrongKind => words(alloc, TOOK, "wrong-kind"),
+        Taken::Stale => words(alloc, TOOK, "stale"),
+        Taken::Doubled { id } => one_number(alloc, TOOK, "doubled", id as u64),
         Taken::Large { count, octets } => {
-            Ok(from_string(format!(in alloc; "took large {count} {octets}\n")?))
+            two_numbers(alloc, TOOK, "large", count as u64, octets)
         }
         Taken::Adopted => {
-            let epoch = point.epoch;
-            let eid = point.eid;
-            Ok(from_string(format!(in alloc; "took adopted {epoch} {eid} {count}\n")?))
+            let Point { epoch, eid } = point;
+            three_numbers(
+                alloc,
+                TOOK,
+                "adopted",
+                epoch as u64,
+                eid as u64,
+                count as u64,
+            )
         }
-        Taken::OtherEpoch { have, got } => other_epoch(alloc, have, got),
-        Taken::Gap { have, got } => Ok(from_string(format!(in alloc; "took gap {have} {got}\n")?)),
-        Taken::Contradiction { eid } => {
-            Ok(from_string(format!(in alloc; "took contradiction {eid}\n")?))
-        }
+        Taken::OtherEpoch { have, got } => other_epoch(alloc, have, got as u64),
+        Taken::Gap { have, got } => two_numbers(alloc, TOOK, "gap", have as u64, got as u64),
+        Taken::Contradiction { eid } => one_number(alloc, TOOK, "contradiction", eid as u64),
         Taken::Advanced { from, to } => {
-            Ok(from_string(format!(in alloc; "took advanced {from} {to}\n")?))
+            two_numbers(alloc, TOOK, "advanced", from as u64, to as u64)
         }
         Taken::Memory => Err(Memory),
     }
 }
 
-fn other_epoch(alloc: Global, have: Option<u32>, got: u32) -> Result<Octets, Memory>
+fn other_epoch(alloc: Global, have: Option<u32>, got: u64) -> Result<Octets, Memory>
     ensures line { IfOk result (λ made.
         made ≡ took (record { epoch = 0; eid = 0 }) 0 (Taken.OtherEpoch have got)) }
 {
     match have {
-        None => Ok(from_string(format!(in alloc; "took other-epoch none {got}\n")?)),
-        Some(have) => Ok(from_string(format!(in alloc; "took other-epoch {have} {got}\n")?)),
+        None => Ok(from_string(format!(in alloc; "{TOOK} other-epoch none {got}\n")?)),
+        Some(have) => two_numbers(alloc, TOOK, "other-epoch", have as u64, got),
     }
 }
 
@@ -72,9 +79,20 @@ pub fn skipped_line(alloc: Global, vendor: u32, attr_type: u32) -> Result<Octets
     Ok(from_string(format!(in alloc; "skipped {vendor} {attr_type}\n")?))
 }
 
-/// What a mirror holds: its point and how many records, and a line for each record.
+/// What a mirror holds: its first line, and a line for each record.
 pub fn mirror_text(alloc: Global, mirror: &Mirror) -> Result<Octets, Memory>
     ensures text { IfOk result (λ made. made ≡ mirror_text mirror.now) }
+{
+    let mut out = mirror_head(alloc, mirror)?;
+    put_records(&mut out, mirror, 0, listed_count(mirror))?;
+    Ok(out)
+}
+
+/// The first line of what a mirror holds: its point and how many records, or that it has no point
+/// yet.
+pub fn mirror_head(alloc: Global, mirror: &Mirror) -> Result<Octets, Memory>
+    ensures line { IfOk result
+        (λ made. made ≡ mirror_head mirror.now.point (length mirror.now.records)) }
 {
     let Some(point) = mirror.point() else {
         return Ok(from_string(format!(in alloc; "mirror none\n")?));
@@ -82,17 +100,26 @@ pub fn mirror_text(alloc: Global, mirror: &Mirror) -> Result<Octets, Memory>
     let epoch = point.epoch;
     let eid = point.eid;
     let count = mirror.count();
-    let mut out = from_string(format!(in alloc; "mirror {epoch} {eid} {count}\n")?);
-    put_records(&mut out, mirror)?;
-    Ok(out)
+    Ok(from_string(format!(in alloc; "mirror {epoch} {eid} {count}\n")?))
 }
 
-/// Puts a line for each record of a mirror at the end of `out`.
-fn put_records(out: &mut Octets, mirror: &Mirror) -> Result<(), Memory>
-    ensures appended { OnOk result
-        (out.new ≡ out.old ++ flat_map (record_line mirror.now.kind) mirror.now.records) }
+/// How many records of a mirror have a line: all, or none where it has no point yet.
+pub fn listed_count(mirror: &Mirror) -> u32
+    ensures count { result ≡ length (listed mirror.now.point mirror.now.records) }
 {
-    for place in 0..mirror.count() {
+    match mirror.point() {
+        None => 0,
+        Some(_) => mirror.count(),
+    }
+}
+
+/// Puts a line for each record of a mirror at the end of `out`, from the record at the place
+/// `start` up to the place `end`, which is left out.
+pub fn put_records(out: &mut Octets, mirror: &Mirror, start: u32, end: u32) -> Result<(), Memory>
+    requires order { start ≤ end }
+    ensures appended { OnOk result (out.new ≡ out.old ++ lines_between start end mirror.now) }
+{
+    for place in start..end {
         if let Some(record) = mirror.record_at(place) {
             put_record(out, mirror.kind(), record)?;
         }
@@ -160,6 +187,10 @@ fn put_digest(out: &mut Octets, body: &[u8]) -> Result<(), Memory>
 fn put_number(out: &mut Octets, number: u64) -> Result<(), Memory>
     ensures appended { OnOk result (out.new ≡ out.old ++ decimal number) }
 {
+    // Most numbers of a record's line have one digit, and that needs no buffer.
+    if number < 10 {
+        return out.push(b'0' + number as u8);
+    }
     let mut buffer = Buffer::new();
     out.extend(buffer.format(number).as_bytes())
 }
