@@ -27,6 +27,7 @@ use Rattle.swid_cli.specs.Tagging.{TAG_OCTETS}
 use Rattle.swid_cli.specs.Words.{IsCommandLine, IsMake, IsMirror, IsTagVerify}
 use Rattle.swid_cli.proofs.Answered.{prints_right}
 use Rattle.swid_cli.proofs.LinksTelling.{links_sound}
+use Rattle.swid_cli.proofs.Statuses.{status_within}
 use Rattle.swid_cli.proofs.Printing.{made_begins, made_prints, mirror_begins, mirror_prints, no_reads, tag_reads, words_read}
 use Rattle.swid_cli.proofs.ReplayTelling.{replay_sound}
 use Rattle.swid_cli.proofs.Running.{one_kind, prints}
@@ -99,15 +100,6 @@ make_said (Tag scope.Tag) count words said is = absurd (one_not_two _ _ _ words 
 make_said (Tag scope.Files) count words said is = let octets : 116 ≡ 109 = ap first_octet (sym said ∙ is.2) in absurd (omega (arith, octets))
 make_said Links count words said is = absurd (one_not_two _ _ _ words said is.2)
 make_said Replay count words said is = absurd (one_not_two _ _ _ words said is.2)
-
--- ---- a status
-
-status_of_ended : (ended : Result Ending Stopped) (status : ℕ) → status ≡ status_of ended → (status ≤ 4) × (status ≢ 2)
-status_of_ended (Ok ending.Whole) status is = (omega (arith, is), λ two. absurd (omega (arith, is, two)))
-status_of_ended (Ok ending.Refused) status is = (omega (arith, is), λ two. absurd (omega (arith, is, two)))
-status_of_ended (Ok ending.Findings) status is = (omega (arith, is), λ two. absurd (omega (arith, is, two)))
-status_of_ended (Err stopped.Fault) status is = (omega (arith, is), λ two. absurd (omega (arith, is, two)))
-status_of_ended (Err stopped.Memory) status is = (omega (arith, is), λ two. absurd (omega (arith, is, two)))
 
 -- ---- causes
 
@@ -263,7 +255,7 @@ module _ {S K F : Type 0} (left : S → Option (List ℕ)) (input_faults : S →
     runs_words words which status is said ran =
         let causes = causes_of which ran in
         let counts = counted which words _ _ _ _ _ _ status ended said is causes in
-        let not_two = (status_of_ended ended status is).1 in
+        let not_two = (status_within ended status is).1 in
         record {
           usage = (λ two. absurd (not_two two), λ none. absurd (none (said_line which words said)));
           usage_front = λ two. absurd (not_two two);
@@ -281,7 +273,7 @@ module _ {S K F : Type 0} (left : S → Option (List ℕ)) (input_faults : S →
           input_count = causes.input;
           output_count = causes.output;
           files_count = causes.files;
-          within = (status_of_ended ended status is).0;
+          within = (status_within ended status is).0;
           contents = contents_of which ran;
           files = λ none. untouched_of which ran (none_said which words said none);
         }

@@ -12,7 +12,7 @@ use Rattle.swid_cli.specs.Run.{Ran}
 use Rattle.wire_base.specs.declared.outside.stopped.Stopped.{Stopped}
 use Rattle.swid_cli.specs.Steps.{TakesStep}
 use Rattle.swid_cli.specs.Stream.{Printed, after_line, stream, stream_text}
-use Rattle.swid_cli.proofs.Streaming.{goes_on, ends}
+use Rattle.swid_cli.proofs.Streaming.{TakesLast, ends, goes_on}
 
 -- Of all octets that were left that many are still left, and so much was printed that, with what
 -- the rest prints after it, it is the whole text.
@@ -76,11 +76,11 @@ front_of_line kind octets left1 left2 written0 written1 written2 at count before
     )
 
 -- A prefix of the last text was printed after it.
-pub front_of_last : (kind : Kind) (octets : List ℕ) (left1 left2 written0 written1 written2 : Option (List ℕ)) (at : ℕ) (before after : Held) (text unwritten : List ℕ) (how : Ending)
-    → FollowsTold kind octets left1 written0 written1 at before → TakesStep at before left1 left2 (step.Ends text how) after → WroteFront written1 written2 text unwritten
+pub front_of_last : (kind : Kind) (octets : List ℕ) (left1 left2 written0 written1 written2 : Option (List ℕ)) (at : ℕ) (before : Held) (text unwritten : List ℕ) (how : Ending)
+    → FollowsTold kind octets left1 written0 written1 at before → TakesLast at before left1 left2 text how → WroteFront written1 written2 text unwritten
     → AddsFront written0 written2 (stream_text kind octets).text
-front_of_last kind octets left1 left2 written0 written1 written2 at before after text unwritten how f steps wrote =
-    let on = ends at before f.rest text how after left1 left2 f.still steps in (
+front_of_last kind octets left1 left2 written0 written1 written2 at before text unwritten how f steps wrote =
+    let on = ends at before f.rest text how left1 left2 f.still steps in (
       unwritten,
       record {
         front = f.so_far ++ wrote.front;
@@ -90,11 +90,11 @@ front_of_last kind octets left1 left2 written0 written1 written2 at before after
     )
 
 -- All of the text was printed, and what it leaves is left.
-all_printed : (kind : Kind) (octets : List ℕ) (left1 left2 written0 written1 written2 : Option (List ℕ)) (at : ℕ) (before after : Held) (text : List ℕ) (how : Ending)
-    → FollowsTold kind octets left1 written0 written1 at before → TakesStep at before left1 left2 (step.Ends text how) after → Adds written1 written2 text
+all_printed : (kind : Kind) (octets : List ℕ) (left1 left2 written0 written1 written2 : Option (List ℕ)) (at : ℕ) (before : Held) (text : List ℕ) (how : Ending)
+    → FollowsTold kind octets left1 written0 written1 at before → TakesLast at before left1 left2 text how → Adds written1 written2 text
     → Adds written0 written2 (stream_text kind octets).text × (how ≡ (stream_text kind octets).ending) × (left2 ≡ Some (stream_text kind octets).left)
-all_printed kind octets left1 left2 written0 written1 written2 at before after text how f steps adds =
-    let on = ends at before f.rest text how after left1 left2 f.still steps in
+all_printed kind octets left1 left2 written0 written1 written2 at before text how f steps adds =
+    let on = ends at before f.rest text how left1 left2 f.still steps in
     let text-is : f.so_far ++ text ≡ (stream_text kind octets).text = ap (λ (o : List ℕ). f.so_far ++ o) (sym on.0) ∙ ap (λ (p : Printed). p.text) f.whole in (
       rw (← text-is) (adds_more written0 written1 written2 f.so_far text f.added adds),
       sym on.1 ∙ ap (λ (p : Printed). p.ending) f.whole,
@@ -115,9 +115,9 @@ ran_stopped kind left-before left-after written0 written2 result stop is front =
     (if_told left-before (λ octets. AddsFront written0 written2 (stream_text kind octets).text) front)
 
 -- A command that ended printed all.
-pub ran_whole : (kind : Kind) (left-before left1 left2 written0 written1 written2 : Option (List ℕ)) (at : ℕ) (before after : Held) (text : List ℕ) (how : Ending)
-    → Follows kind left-before left1 written0 written1 at before → TakesStep at before left1 left2 (step.Ends text how) after → Adds written1 written2 text
+pub ran_whole : (kind : Kind) (left-before left1 left2 written0 written1 written2 : Option (List ℕ)) (at : ℕ) (before : Held) (text : List ℕ) (how : Ending)
+    → Follows kind left-before left1 written0 written1 at before → TakesLast at before left1 left2 text how → Adds written1 written2 text
     → IfSome left-before (λ octets. Ran (stream_text kind octets) left2 written0 written2 (Ok how))
-ran_whole kind left-before left1 left2 written0 written1 written2 at before after text how follows steps adds =
+ran_whole kind left-before left1 left2 written0 written1 written2 at before text how follows steps adds =
     if_told left-before (λ octets. Ran (stream_text kind octets) left2 written0 written2 (Ok how))
-    (λ octets told. all_printed kind octets left1 left2 written0 written1 written2 at before after text how (follows octets told) steps adds)
+    (λ octets told. all_printed kind octets left1 left2 written0 written1 written2 at before text how (follows octets told) steps adds)

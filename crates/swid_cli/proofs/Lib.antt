@@ -14,8 +14,10 @@ pub mod TagReading
 pub mod Reading
 pub mod LinksTelling
 pub mod OneText
+pub mod Pieces
 pub mod OneList
 pub mod ReplayTelling
 pub mod Counting
+pub mod Statuses
 pub mod Commanded
 pub mod Wording

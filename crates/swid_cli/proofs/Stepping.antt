@@ -9,11 +9,10 @@ use Rattle.swima_reports.specs.ReportReading.{read_report}
 use Rattle.validator_core.specs.Held.{Held}
 use Rattle.swid_cli.specs.declared.mirror.first_attribute.Front.{Front}
 use Rattle.swid_cli.specs.declared.mirror.first_attribute.Front.TheVariants as front
-use Rattle.command_text.specs.declared.ending.Ending.TheVariants as ending
 use Rattle.swid_cli.specs.declared.mirror.step.Step.{Step}
 use Rattle.swid_cli.specs.declared.mirror.step.Step.TheVariants as step
 use Rattle.swid_cli.specs.Front.{carries_report, first_of, left_behind}
-use Rattle.command_text.specs.Text.{mirror_text, skipped_line}
+use Rattle.command_text.specs.Text.{skipped_line}
 use Rattle.swid_cli.specs.Stream.{INPUT_OCTETS, Goes, attribute_step, front_step, refused, report_step, step_of}
 use Rattle.swid_cli.specs.Steps.{IsStep, left_of}
 
@@ -46,9 +45,9 @@ first_step at before octets first taken after left is steps =
     (steps, is.1 ∙ ap (λ (o : List ℕ). Some o) (sym (front_left at before octets first)))
 
 -- At the end the mirror is printed.
-pub ended : (at : ℕ) (mirror : Held) (octets text : List ℕ) → text ≡ mirror_text mirror → IsStep (front_step at mirror octets front.End) (step.Ends text ending.Whole) mirror
-ended at mirror octets text is = (is, refl)
+pub ended : (at : ℕ) (mirror : Held) (octets : List ℕ) → IsStep (front_step at mirror octets front.End) step.End mirror
+ended at mirror octets = (refl, refl)
 
 -- A refusal is printed.
-pub was_refused : (text left : List ℕ) (taken : Step) (mirror : Held) → taken ≡ step.Ends text ending.Refused → IsStep (refused text left) taken mirror
+pub was_refused : (text left : List ℕ) (taken : Step) (mirror : Held) → taken ≡ step.Refused text → IsStep (refused text left) taken mirror
 was_refused text left taken mirror is = rw is (refl, refl)

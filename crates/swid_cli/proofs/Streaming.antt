@@ -19,7 +19,7 @@ use Rattle.swid_cli.specs.declared.mirror.step.Step.TheVariants as step
 use Rattle.swid_cli.specs.Front.{begins, carries_report, first_of, shows_refused}
 use Rattle.command_text.specs.Text.{skipped_line}
 use Rattle.swid_cli.specs.Stream.{INPUT_OCTETS, Printed, StepOf, Goes, Ends, StreamGoesOn, after_line, and_on, attribute_step, front_step, report_step, step_of, stream, stream_by}
-use Rattle.swid_cli.specs.Steps.{IsStep, TakesStep, left_of}
+use Rattle.swid_cli.specs.Steps.{IsLast, IsStep, TakesStep, left_of}
 
 -- ---- a step that goes on takes some of the octets
 
@@ -112,10 +112,10 @@ on_goes : (at : ℕ) (octets text : List ℕ) (count : ℕ) (after : Held) (left
 on_goes at octets text count after left (Goes line len mirror) is behind = rw (is.0, is.1, is.2) (refl, behind)
 on_goes at octets text count after left (Ends printed) is behind = absurd is
 
-on_ends : (at : ℕ) (octets text : List ℕ) (how : Ending) (after : Held) (left : Option (List ℕ)) (taken : StepOf) → IsStep taken (step.Ends text how) after → left ≡ Some (left_of taken octets)
+on_ends : (at : ℕ) (octets text : List ℕ) (how : Ending) (left : Option (List ℕ)) (taken : StepOf) → IsLast taken text how → left ≡ Some (left_of taken octets)
     → ((and_on stream at octets taken).text ≡ text) × ((and_on stream at octets taken).ending ≡ how) × (left ≡ Some (and_on stream at octets taken).left)
-on_ends at octets text how after left (Goes line len mirror) is behind = absurd is
-on_ends at octets text how after left (Ends printed) is behind = (sym is.0, sym is.1, behind)
+on_ends at octets text how left (Goes line len mirror) is behind = absurd is
+on_ends at octets text how left (Ends printed) is behind = (sym is.0, sym is.1, behind)
 
 -- A step that goes on, and what is after it.
 pub goes_on : (at : ℕ) (before : Held) (octets text : List ℕ) (count : ℕ) (after : Held) (left-before left : Option (List ℕ)) → left-before ≡ Some octets → TakesStep at before left-before left (step.Goes text count) after
@@ -125,12 +125,17 @@ goes_on at before octets text count after left-before left told steps =
     let on = on_goes at octets text count after left (step_of at before octets) is.0 is.1 in
     (stream_goes_on at before octets ∙ on.0, on.1)
 
+-- A step over what was left is the last: it is this text, and it ends so.
+abbrev pub TakesLast : ℕ → Held → Option (List ℕ) → Option (List ℕ) → List ℕ → Ending → Type 0
+TakesLast at before left-before left text how = (octets : List ℕ) → left-before ≡ Some octets
+    → IsLast (step_of at before octets) text how × (left ≡ Some (left_of (step_of at before octets) octets))
+
 -- The last step.
-pub ends : (at : ℕ) (before : Held) (octets text : List ℕ) (how : Ending) (after : Held) (left-before left : Option (List ℕ)) → left-before ≡ Some octets → TakesStep at before left-before left (step.Ends text how) after
+pub ends : (at : ℕ) (before : Held) (octets text : List ℕ) (how : Ending) (left-before left : Option (List ℕ)) → left-before ≡ Some octets → TakesLast at before left-before left text how
     → ((stream at before octets).text ≡ text) × ((stream at before octets).ending ≡ how) × (left ≡ Some (stream at before octets).left)
-ends at before octets text how after left-before left told steps =
+ends at before octets text how left-before left told steps =
     let is = steps octets told in
-    rw (stream_goes_on at before octets) (on_ends at octets text how after left (step_of at before octets) is.0 is.1)
+    rw (stream_goes_on at before octets) (on_ends at octets text how left (step_of at before octets) is.0 is.1)
 
 -- ---- at the end nothing is left
 

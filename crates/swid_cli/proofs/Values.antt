@@ -9,7 +9,6 @@ use Rattle.validator_core.specs.declared.mirror.Taken.TheVariants as taken
 use Rattle.command_text.specs.Text.{fault_line, took_line}
 use Rattle.swid_cli.specs.Stream.{report_step}
 use Rattle.swid_cli.specs.Steps.{IsStep}
-use Rattle.command_text.specs.declared.ending.Ending.TheVariants as ending
 use Rattle.swid_cli.specs.declared.mirror.step.Step.{Step}
 use Rattle.swid_cli.specs.declared.mirror.step.Step.TheVariants as step
 
@@ -35,6 +34,6 @@ goes len octets before after read report answer line is answers some printed =
     rw is (printed ∙ ap (λ (j : Taken × Held). took_line report j.0) (sym judged), refl, ap (λ (j : Taken × Held). j.1) (sym judged))
 
 -- A value that has a fault makes its line.
-pub faulty : (len place : ℕ) (octets : List ℕ) (before : Held) (read : Result Report ℕ) (taken : Step) → read ≡ Err place → taken ≡ step.Ends (fault_line INVALID_PARAMETER place) ending.Refused
+pub faulty : (len place : ℕ) (octets : List ℕ) (before : Held) (read : Result Report ℕ) (taken : Step) → read ≡ Err place → taken ≡ step.Refused (fault_line INVALID_PARAMETER place)
     → IsStep (report_step before octets len read) taken before
 faulty len place octets before read taken is made = rw (is, made) (refl, refl)

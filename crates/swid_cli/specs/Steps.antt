@@ -6,6 +6,9 @@ use Rattle.pa_attrs.specs.Header.{header_of}
 use Rattle.pa_attrs.specs.Faults.{is_refused}
 use Rattle.pa_attrs.specs.Stream.{Feeding, More, front_of}
 use Rattle.validator_core.specs.Held.{Held}
+use Rattle.command_text.specs.Text.{mirror_text}
+use Rattle.command_text.specs.declared.ending.Ending.{Ending}
+use Rattle.command_text.specs.declared.ending.Ending.TheVariants as ending
 use Rattle.swid_cli.specs.declared.mirror.first_attribute.Front.{Front}
 use Rattle.swid_cli.specs.declared.mirror.first_attribute.Front.TheVariants as front
 use Rattle.swid_cli.specs.declared.mirror.step.Step.{Step}
@@ -38,12 +41,22 @@ IsWithin room (front.Whole attr len) = (len ≡ HEADER + length attr.value) × (
 IsWithin room (front.Faulty fault) = fault.at < HEADER
 IsWithin room other = Unit {0}
 
--- What a value makes is as defined, and so is the mirror after it where it was taken.
+-- This line is printed, of an attribute of this length, and the mirror after it is this one.
+abbrev pub IsNext : StepOf → List ℕ → ℕ → Held → Type 0
+IsNext (Goes line len judged) text taken mirror = (text ≡ line) × (taken ≡ len) × (mirror ≡ judged)
+IsNext (Ends printed) text taken mirror = ⊥
+
+-- The last text is this one, and it ends so.
+abbrev pub IsLast : StepOf → List ℕ → Ending → Type 0
+IsLast (Goes line len judged) text ended = ⊥
+IsLast (Ends printed) text ended = (text ≡ printed.text) × (ended ≡ printed.ending)
+
+-- What a value makes is as defined, and so is the mirror after it where it was taken. At the end of
+-- the input the last text is that of the mirror.
 abbrev pub IsStep : StepOf → Step → Held → Type 0
-IsStep (Goes line len judged) (step.Goes text taken) mirror = (text ≡ line) × (taken ≡ len) × (mirror ≡ judged)
-IsStep (Goes line len judged) (step.Ends text ended) mirror = ⊥
-IsStep (Ends printed) (step.Goes text taken) mirror = ⊥
-IsStep (Ends printed) (step.Ends text ended) mirror = (text ≡ printed.text) × (ended ≡ printed.ending)
+IsStep made (step.Goes text taken) mirror = IsNext made text taken mirror
+IsStep made (step.Refused text) mirror = IsLast made text ending.Refused
+IsStep made step.End mirror = IsLast made (mirror_text mirror) ending.Whole
 
 -- What is left of the octets after what an attribute makes.
 abbrev pub left_of : StepOf → List ℕ → List ℕ
@@ -59,4 +72,5 @@ TakesStep at before left-before left-after taken after = (octets : List ℕ) →
 -- exposes its octets or not.
 abbrev pub Advances : ℕ → Step → Type 0
 Advances at (step.Goes text taken) = (HEADER ≤ taken) × (at + taken ≤ INPUT_OCTETS)
-Advances at (step.Ends text ended) = Unit {0}
+Advances at (step.Refused text) = Unit {0}
+Advances at step.End = Unit {0}

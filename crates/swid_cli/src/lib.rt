@@ -22,6 +22,7 @@
 //! | `command.rt` | the words of a command line | `Words`, `Commands` |
 //! | `mirror.rt` | `mirror` | `Stream`: `stream_text` |
 //! | `mirror/step.rt`, `first_attribute.rt` | attributes, one after another | `Steps`, `Front` |
+//! | `mirror/pieces.rt` | what the mirror holds | `Text` of `command_text`: `mirror_text` |
 //! | `mirror/supported.rt` | which attributes `mirror` takes | `Front`: `REPORT_TYPES` |
 //! | `tag.rt`, `tag/` | `tag` and `tag verify` | `Tagging`: `TagTells`; `Checking`, `TagReads` |
 //! | `links.rt`, `links/` | `links` | `Links`: `LinksTells`; `TagList` |

@@ -1,6 +1,7 @@
 //! The command `mirror`.
 
 pub(crate) mod first_attribute;
+mod pieces;
 pub(crate) mod step;
 pub(crate) mod supported;
 
@@ -9,6 +10,7 @@ ghost use Rattle.swid_cli.specs.Run.{Ran};
 ghost use Rattle.swid_cli.specs.Stream.{stream_text};
 ghost use Rattle.swid_cli.specs.Causes.{HasCauses};
 
+use crate::mirror::pieces::write_mirror;
 use crate::mirror::step::{Step, next_step};
 use command_text::Ending;
 use std::alloc::Global;
@@ -39,9 +41,13 @@ pub(crate) fn mirror<S: Source, K: Sink>(
                 write_all(output, line.as_slice())?;
                 at += length;
             }
-            Step::Ends(text, ending) => {
-                write_all(output, text.as_slice())?;
-                return Ok(ending);
+            Step::Refused(refusal) => {
+                write_all(output, refusal.as_slice())?;
+                return Ok(Ending::Refused);
+            }
+            Step::End => {
+                write_mirror(alloc, &mirror, output)?;
+                return Ok(Ending::Whole);
             }
         }
     }

@@ -60,7 +60,7 @@ pub(crate) fn take_front<S: Source>(
     }
     let mut feed = AttrFeed::new(alloc);
     match feed.feed(start.as_slice()) {
-        AttrFed::More => take_value(input, feed, header.length, room),
+        AttrFed::More => take_value(input, &mut feed, header.length, room),
         AttrFed::Done(attr, _) => Ok(Front::Whole(attr, header.length)),
         AttrFed::Fault(fault) => Ok(Front::Faulty(fault)),
         AttrFed::Memory => Err(Stopped::Memory),
@@ -71,14 +71,14 @@ pub(crate) fn take_front<S: Source>(
 /// may be looked at.
 fn take_value<S: Source>(
     input: &mut S,
-    mut feed: AttrFeed,
+    feed: &mut AttrFeed,
     len: u32,
     room: usize,
 ) -> Result<Front, Stopped>
     requires room { room ≤ INPUT_OCTETS }
-    requires begun { IsBegun room len feed }
+    requires begun { IsBegun room len feed.old }
     ensures front { IfOk result (λ first. (rest : List ℕ) → S.left input.old ≡ Some rest
-        → TakesFirst room (feed.octets ++ rest) (S.left input.new) first) }
+        → TakesFirst room (feed.old.octets ++ rest) (S.left input.new) first) }
     ensures within { IfOk result (λ first. IsWithin room first) }
     ensures cause { HasCause (S.faults input.old) (S.faults input.new) (is_fault result) }
 {

@@ -13,9 +13,7 @@ ghost use Rattle.wire_base.specs.Passing.{is_fault};
 
 use crate::mirror::first_attribute::{Front, take_front};
 use crate::mirror::supported::carries_report;
-use command_text::{
-    Ending, fault_line, mirror_text, point_and_count, refusal, skipped_line, took_line,
-};
+use command_text::{fault_line, point_and_count, refusal, skipped_line, took_line};
 use pa_attrs::{Attr, HEADER_OCTETS, INVALID_PARAMETER};
 use std::alloc::Global;
 use swima_reports::read_report;
@@ -30,8 +28,10 @@ pub(crate) const MOST_INPUT_OCTETS: u32 = 1073741824;
 pub(crate) enum Step {
     /// A line, and then what the octets after an attribute of this length make.
     Goes(Octets, u32),
-    /// The last text.
-    Ends(Octets, Ending),
+    /// The line of a refusal, and nothing after it.
+    Refused(Octets),
+    /// What the mirror holds: nothing is left of the input.
+    End,
 }
 
 /// Takes the first attribute of what is left of the input, which begins at `at`, into the mirror.
@@ -49,7 +49,7 @@ pub(crate) fn next_step<S: Source>(
 {
     let first = take_front(alloc, input, (MOST_INPUT_OCTETS - at) as usize)?;
     match first {
-        Front::End => Ok(Step::Ends(mirror_text(alloc, mirror)?, Ending::Whole)),
+        Front::End => Ok(Step::End),
         Front::Torn(have) => Ok(refuse(alloc, "torn", have)?),
         Front::Limit => Ok(refuse(alloc, "limit", MOST_INPUT_OCTETS)?),
         Front::Faulty(fault) => Ok(fault_at(alloc, fault.code, at + fault.at as u32)?),
@@ -58,17 +58,15 @@ pub(crate) fn next_step<S: Source>(
 }
 
 fn refuse(alloc: Global, word: &str, number: u32) -> Result<Step, Memory>
-    ensures refused { IfOk result
-        (λ made. made ≡ Step.Ends (refusal word.now number) Ending.Refused) }
+    ensures refused { IfOk result (λ made. made ≡ Step.Refused (refusal word.now number)) }
 {
-    Ok(Step::Ends(refusal(alloc, word, number as u64)?, Ending::Refused))
+    Ok(Step::Refused(refusal(alloc, word, number as u64)?))
 }
 
 fn fault_at(alloc: Global, code: u32, place: u32) -> Result<Step, Memory>
-    ensures refused { IfOk result
-        (λ made. made ≡ Step.Ends (fault_line code place) Ending.Refused) }
+    ensures refused { IfOk result (λ made. made ≡ Step.Refused (fault_line code place)) }
 {
-    Ok(Step::Ends(fault_line(alloc, code, place as u64)?, Ending::Refused))
+    Ok(Step::Refused(fault_line(alloc, code, place as u64)?))
 }
 
 /// Takes a whole attribute of `len` octets that begins at `at`: one that carries no report is

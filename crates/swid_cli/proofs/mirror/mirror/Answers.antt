@@ -1,6 +1,7 @@
 use Rattle.std.proofs.Common.{◌∙◌}
 use Rattle.std.proofs.lemmas.Result.{err_from_is_err_and}
 use Rattle.swid_cli.proofs.Following.{goes_further, front_so_far, front_of_line, front_of_last, ran_stopped, ran_whole}
+use Rattle.command_text.specs.declared.ending.Ending.TheVariants as ending
 use Rattle.swid_cli.proofs.mirror.mirror.Goals as goal
 
 pub loop-mirror-preserved : goal.loop-mirror-preserved
@@ -24,13 +25,25 @@ returns-in_err-write_all-in-Goes-clause-printed g c =
     ran_stopped c.args.kind _ _ _ _ c.from_residual-in_err-write_all-in-Goes.result p.0 p.1
     (λ octets told. front_of_line c.args.kind octets _ _ _ _ _ c.loop-mirror.at c.in-Goes.length _ _ _ wrote.0 (c.loop-mirror.invariant.follows octets told) (rw c.in-Goes.is at c.in_ok-next.ensures.step) wrote.1)
 
-pub returns-in_err-write_all-in-Ends-clause-printed : goal.returns-in_err-write_all-in-Ends-clause-printed
-returns-in_err-write_all-in-Ends-clause-printed g c =
-    let p = err_from_is_err_and c.from_residual-in_err-write_all-in-Ends.result c.from_residual-in_err-write_all-in-Ends.ensures.1 in
-    let wrote = rw c.as_slice-in-Ends.ensures.items at c.in_err-write_all-in-Ends.ensures.front in
-    ran_stopped c.args.kind _ _ _ _ c.from_residual-in_err-write_all-in-Ends.result p.0 p.1
-    (λ octets told. front_of_last c.args.kind octets _ _ _ _ _ c.loop-mirror.at _ _ _ wrote.0 _ (c.loop-mirror.invariant.follows octets told) (rw c.in-Ends.is at c.in_ok-next.ensures.step) wrote.1)
+pub returns-in_err-write_all-in-Refused-clause-printed : goal.returns-in_err-write_all-in-Refused-clause-printed
+returns-in_err-write_all-in-Refused-clause-printed g c =
+    let p = err_from_is_err_and c.from_residual-in_err-write_all-in-Refused.result c.from_residual-in_err-write_all-in-Refused.ensures.1 in
+    let wrote = rw c.as_slice-in-Refused.ensures.items at c.in_err-write_all-in-Refused.ensures.front in
+    ran_stopped c.args.kind _ _ _ _ c.from_residual-in_err-write_all-in-Refused.result p.0 p.1
+    (λ octets told. front_of_last c.args.kind octets _ _ _ _ _ c.loop-mirror.at _ _ wrote.0 ending.Refused (c.loop-mirror.invariant.follows octets told) (rw c.in-Refused.is at c.in_ok-next.ensures.step) wrote.1)
 
-pub returns-in-Ends-clause-printed : goal.returns-in-Ends-clause-printed
-returns-in-Ends-clause-printed g c =
-    ran_whole c.args.kind _ _ _ _ _ _ c.loop-mirror.at _ _ c.in-Ends.text c.in-Ends.ending c.loop-mirror.invariant.follows (rw c.in-Ends.is at c.in_ok-next.ensures.step) (rw c.as_slice-in-Ends.ensures.items at c.in_ok-write_all-in-Ends.ensures.whole)
+pub returns-in-Refused-clause-printed : goal.returns-in-Refused-clause-printed
+returns-in-Refused-clause-printed g c =
+    ran_whole c.args.kind _ _ _ _ _ _ c.loop-mirror.at _ c.in-Refused.refusal ending.Refused c.loop-mirror.invariant.follows (rw c.in-Refused.is at c.in_ok-next.ensures.step)
+    (rw c.as_slice-in-Refused.ensures.items at c.in_ok-write_all-in-Refused.ensures.whole)
+
+pub returns-in_err-write_mirror-in-End-clause-printed : goal.returns-in_err-write_mirror-in-End-clause-printed
+returns-in_err-write_mirror-in-End-clause-printed g c =
+    let p = err_from_is_err_and c.from_residual-in_err-write_mirror-in-End.result c.from_residual-in_err-write_mirror-in-End.ensures.1 in
+    let wrote = c.in_err-write_mirror-in-End.ensures.front in
+    ran_stopped c.args.kind _ _ _ _ c.from_residual-in_err-write_mirror-in-End.result p.0 p.1
+    (λ octets told. front_of_last c.args.kind octets _ _ _ _ _ c.loop-mirror.at _ _ wrote.0 ending.Whole (c.loop-mirror.invariant.follows octets told) (rw c.in-End.is at c.in_ok-next.ensures.step) wrote.1)
+
+pub returns-in-End-clause-printed : goal.returns-in-End-clause-printed
+returns-in-End-clause-printed g c =
+    ran_whole c.args.kind _ _ _ _ _ _ c.loop-mirror.at _ _ ending.Whole c.loop-mirror.invariant.follows (rw c.in-End.is at c.in_ok-next.ensures.step) c.in_ok-write_mirror-in-End.ensures.whole

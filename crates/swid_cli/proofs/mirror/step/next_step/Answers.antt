@@ -2,12 +2,14 @@ use Rattle.std.proofs.Common.{[], ◌+◌}
 use Rattle.std.specs.Prelude.{codes}
 use Rattle.swid_cli.specs.Stream.{INPUT_OCTETS}
 use Rattle.command_text.specs.Text.{fault_line, refusal}
+use Rattle.swid_cli.specs.declared.mirror.first_attribute.Front.TheVariants as front
+use Rattle.swid_cli.specs.declared.mirror.step.Step.TheVariants as step
 use Rattle.swid_cli.proofs.Stepping.{first_step, ended, was_refused}
 use Rattle.swid_cli.proofs.mirror.step.next_step.Goals as goal
 
-pub returns-in_ok-mirror_text-in-End-clause-step : goal.returns-in_ok-mirror_text-in-End-clause-step
-returns-in_ok-mirror_text-in-End-clause-step g c = λ octets told.
-    first_step _ _ octets _ _ _ _ (rw c.in-End.is at (c.in_ok-first.ensures.front octets told)) (ended c.args.at c.args.mirror.now octets _ c.in_ok-mirror_text-in-End.ensures.text)
+pub returns-in-End-clause-step : goal.returns-in-End-clause-step
+returns-in-End-clause-step g c = λ octets told.
+    first_step c.args.at c.args.mirror.now octets front.End step.End c.args.mirror.now _ (rw c.in-End.is at (c.in_ok-first.ensures.front octets told)) (ended c.args.at c.args.mirror.now octets)
 
 pub returns-in_ok-refuse-in-Torn-clause-step : goal.returns-in_ok-refuse-in-Torn-clause-step
 returns-in_ok-refuse-in-Torn-clause-step g c = λ octets told.
