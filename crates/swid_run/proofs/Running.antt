@@ -17,6 +17,7 @@ use Rattle.command_options.specs.declared.follow.FollowOptions.{FollowOptions}
 use Rattle.command_text.specs.declared.ending.Ending.{Ending}
 use Rattle.command_text.specs.declared.ending.Ending.TheVariants as ending
 use Rattle.swid_cli.specs.Run.{status_of}
+use Rattle.swid_cli.proofs.Statuses.{status_within}
 use Rattle.swid_run.specs.Collecting.{RunsCollect, collect_state}
 use Rattle.swid_run.specs.Counts.{HasCauses, NoneFell, OneRose, door_counts}
 use Rattle.swid_run.specs.Ends.{EndsWith, output_state}
@@ -41,14 +42,6 @@ good_still : (before after : List ℕ) (result : Result Ending Stopped) (status 
 good_still before after (Ok how) status is causes fault memory = causes.cause
 good_still before after (Err stopped.Fault) status is causes fault memory = absurd (fault is)
 good_still before after (Err stopped.Memory) status is causes fault memory = absurd (memory is)
-
--- It is at most 4, and not 2.
-status_within : (result : Result Ending Stopped) (status : ℕ) → status ≡ status_of result → (status ≤ 4) × (status ≢ 2)
-status_within (Ok ending.Whole) status is = (omega (arith, is), λ two. absurd (omega (arith, is, two)))
-status_within (Ok ending.Refused) status is = (omega (arith, is), λ two. absurd (omega (arith, is, two)))
-status_within (Ok ending.Findings) status is = (omega (arith, is), λ two. absurd (omega (arith, is, two)))
-status_within (Err stopped.Fault) status is = (omega (arith, is), λ two. absurd (omega (arith, is, two)))
-status_within (Err stopped.Memory) status is = (omega (arith, is), λ two. absurd (omega (arith, is, two)))
 
 -- ---- counts
 
