@@ -19,3 +19,4 @@ pub mod Replying
 pub mod Beginning
 pub mod Taking
 pub mod Falling
+pub mod Writing

@@ -1,8 +1,8 @@
 //! The batch that answers the messages of another.
 
-ghost use Rattle.std.specs.Prelude.{◌≡◌, ◌≤◌, [], IfOk, OnOk};
-ghost use Rattle.collector_session.specs.Sizes.{Fits, MOST_ROOM};
-ghost use Rattle.collector_session.specs.Drafting.{DraftedValue};
+ghost use Rattle.std.specs.Prelude.{◌≡◌, [], OnOk};
+ghost use Rattle.collector_session.specs.Sizes.{Fits};
+ghost use Rattle.collector_session.specs.Drafting.{drafting};
 ghost use Rattle.pb_batch.specs.declared.kind.BatchKind.TheVariants as kinds;
 ghost use Rattle.pb_batch.specs.Written.{IsBatch};
 ghost use Rattle.collector_session.specs.Standing.{draft_of};
@@ -18,27 +18,26 @@ use collector_core::Desk;
 use pb_batch::Messages;
 use session_rules::ServeConfig;
 use std::alloc::Global;
-use swima_subs::Subs;
 use wire_base::Memory;
 
-/// The batch that answers these messages, where these subscriptions are held.
-pub(crate) fn draft_batch<D: Desk>(
+/// Answers the messages in a batch that has none yet, and then fulfils the subscriptions of earlier
+/// batches.
+pub(crate) fn answer_batch<D: Desk>(
     alloc: Global,
     desk: &mut D,
     config: &ServeConfig,
-    subs: Subs,
-    numbered: u32,
+    draft: &mut Draft,
     messages: &Messages,
-) -> Result<Draft, Memory>
-    requires max { config.now.max ≤ MOST_ROOM }
+) -> Result<(), Memory>
     requires batch { IsBatch (client_batch kinds.Sdata messages.now) }
-    ensures drafted { DraftedValue D.stands D.went desk.old desk.new config.now subs numbered messages.now result }
-    ensures fits { IfOk result Fits }
+    requires fits { Fits draft.old }
+    requires empty { draft.old.messages ≡ [] }
+    requires none { draft.old.attrs ≡ [] }
+    ensures drafted { Drafted D.stands D.went desk.old desk.new (drafting config.now (draft_of draft.old) messages.now) (draft_of draft.new) result }
+    ensures fits { OnOk result (Fits draft.new) }
 {
-    let mut draft = Draft::new(alloc, subs, config.max, numbered);
-    answer_all(alloc, desk, &mut draft, messages)?;
-    renew(alloc, desk, config, &mut draft)?;
-    Ok(draft)
+    answer_all(alloc, desk, draft, messages)?;
+    renew(alloc, desk, config, draft)
 }
 
 /// Answers the messages, one after another, in a batch that has none yet.

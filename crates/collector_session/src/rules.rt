@@ -1,10 +1,10 @@
 //! The rules of a collector, which is the client of PB-TNC (RFC 5793, section 3.2).
 
-ghost use Rattle.std.specs.Prelude.{◌≡◌, ◌≢◌, ◌≤◌, ◌++◌, [], None, Some, IsTrue, OnErr, OnOk};
+ghost use Rattle.std.specs.Prelude.{◌≡◌, ◌≢◌, ◌≤◌, ◌++◌, [], None, Some, IsTrue, OnErr, OnOk, false};
 ghost use Rattle.collector_session.specs.Judging.{MayAnswer, MayFollow};
 ghost use Rattle.collector_session.specs.Sizes.{MOST_ROOM};
-ghost use Rattle.collector_session.specs.Standing.{draft_of, notes_of, stand_of};
-ghost use Rattle.pb_batch.specs.Written.{IsBatch, IsTold, written};
+ghost use Rattle.collector_session.specs.Standing.{Noted, draft_of, notes_of, stand_of};
+ghost use Rattle.pb_batch.specs.Written.{IsBatch, IsTold, fault_batch_of, written};
 ghost use Rattle.pb_batch.specs.declared.kind.BatchKind.TheVariants as kinds;
 ghost use Rattle.pb_machine.specs.Table.{may_send, sent};
 ghost use Rattle.pb_machine.specs.declared.machine.Role.TheVariants.{Client};
@@ -14,14 +14,14 @@ ghost use Rattle.session_rules.specs.Messages.{client_batch};
 ghost use Rattle.session_rules.specs.declared.end.SessionEnd.TheVariants as end;
 ghost use Rattle.session_rules.specs.ServeRules.{closes_if, hears, is_enough, judged, obeys, refuses, replies, writes_draft};
 
-use crate::batch::draft_batch;
+use crate::batch::answer_batch;
 use crate::draft::Draft;
 use crate::standing::Standing;
 use collector_core::Desk;
 use pb_batch::BatchKind::{Cdata, Close, Cretry, Outcome, Sdata, Sretry};
 use pb_batch::{Batch, BatchKind, Messages, PbFault, fault_batch, write_batch};
 use pb_machine::Machine;
-use session_rules::{ServeConfig, SessionEnd, Verdict};
+use session_rules::{Codes, Points, ServeConfig, SessionEnd, SessionRecord, Verdict};
 use session_words::verdict_of;
 use std::alloc::Global;
 use std::mem;
@@ -154,7 +154,8 @@ fn reply<D: Desk>(
     ensures own { standing.old.over ≢ Some end.LinkFault → standing.new.over ≢ Some end.LinkFault }
 {
     let subs = mem::replace(&mut standing.subs, Subs::new(alloc));
-    let draft = draft_batch(alloc, desk, config, subs, standing.numbered, messages)?;
+    let mut draft = Draft::new(alloc, subs, config.max, standing.numbered);
+    answer_batch(alloc, desk, config, &mut draft, messages)?;
     write_draft(alloc, standing, out, draft)
 }
 
@@ -176,20 +177,22 @@ fn write_draft(
     ensures taken { standing.new.record.taken ≡ standing.old.record.taken }
     ensures own { standing.old.over ≢ Some end.LinkFault → standing.new.over ≢ Some end.LinkFault }
 {
-    let Draft {
-        subs,
-        messages,
-        numbered,
-        points,
-        errors,
-        ..
-    } = draft;
-    write(alloc, &mut standing.machine, out, Cdata, messages)?;
-    standing.subs = subs;
-    standing.numbered = numbered;
-    standing.record.errors.extend(errors.as_slice())?;
-    standing.record.points.extend(points.as_slice())?;
-    standing.record.reports = standing.record.reports.saturating_add(points.len() as u64);
+    write(alloc, &mut standing.machine, out, Cdata, draft.messages)?;
+    standing.subs = draft.subs;
+    standing.numbered = draft.numbered;
+    note_draft(&mut standing.record, &draft.errors, &draft.points)
+}
+
+/// Notes the codes of the Errors that were heard, and then the points of the reports.
+fn note_draft(notes: &mut SessionRecord, errors: &Codes, points: &Points) -> Result<(), Memory>
+    ensures noted { Noted notes.old errors.now points.now notes.new result }
+    ensures sent { notes.new.sent ≡ notes.old.sent }
+    ensures received { notes.new.received ≡ notes.old.received }
+    ensures taken { notes.new.taken ≡ notes.old.taken }
+{
+    notes.errors.extend(errors.as_slice())?;
+    notes.points.extend(points.as_slice())?;
+    notes.reports = notes.reports.saturating_add(points.len() as u64);
     Ok(())
 }
 
@@ -239,14 +242,23 @@ pub(crate) fn refuse(
     ensures taken { standing.new.record.taken ≡ standing.old.record.taken }
     ensures own { standing.old.over ≢ Some end.LinkFault → standing.new.over ≢ Some end.LinkFault }
 {
-    let octets = fault_batch(alloc, false, &fault)?;
-    out.extend(octets.as_slice())?;
+    write_fault(alloc, out, &fault)?;
     standing.machine.send(Close);
     standing.over = Some(SessionEnd::Refused {
         code: fault.code,
         offset: fault.offset,
     });
     Ok(())
+}
+
+/// Writes the CLOSE that reports a fault.
+fn write_fault(alloc: Global, out: &mut Octets, fault: &PbFault) -> Result<(), Memory>
+    requires told { IsTold fault.now.code }
+    ensures written { OnOk result (out.new ≡ out.old ++ written (fault_batch_of false fault.now)) }
+    ensures unchanged { OnErr result (out.new ≡ out.old) }
+{
+    let octets = fault_batch(alloc, false, fault)?;
+    out.extend(octets.as_slice())
 }
 
 /// After RESULT it closes the session where as many reports were written as are wanted.

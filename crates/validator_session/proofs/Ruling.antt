@@ -1,6 +1,7 @@
 -- What each rule wrote and noted, by what its calls did.
 use Rattle.std.proofs.Common.{◌≡◌, ◌≢◌, ℕ, ◌+◌, ◌≤◌, ◌<◌, Bool, true, false, List, [], ◌∷◌, ◌++◌, None, Result, Ok, Err, refl, sym, ap, subst, subst₂, ◌∙◌, arith}
 use Rattle.std.specs.Prelude.{IsTrue, OnErr, OnOk, nat_le}
+use Rattle.std.specs.Result.{IsErr}
 use Rattle.std.proofs.lemmas.Bool.{leb-true, le-leb}
 use Rattle.pb_batch.specs.declared.batch.Message.{Message}
 use Rattle.pb_batch.specs.declared.batch.Message.TheVariants.{Assessment}
@@ -14,19 +15,20 @@ use Rattle.pb_machine.specs.declared.machine.State.TheVariants.{End, ServerWorki
 use Rattle.pb_machine.specs.Table.{Position, may_send, sent}
 use Rattle.validator_core.specs.Held.{Held}
 use Rattle.session_talk.specs.Talk.{Done, Note}
+use Rattle.session_talk.specs.Course.{Breaks, Gives}
 use Rattle.session_rules.specs.declared.config.FollowConfig.{FollowConfig}
-use Rattle.session_rules.specs.Clauses.{Spoken}
+use Rattle.session_rules.specs.Clauses.{Spoke, Spoken}
 use Rattle.session_rules.specs.Following.{Stand}
-use Rattle.session_rules.specs.FollowRules.{Follows, asks, closes_if, decides, request_message, sends, writes_answers, writes_request}
+use Rattle.session_rules.specs.FollowRules.{Follows, asks, closes_if, decides, request_message, sends, writes_request}
 use Rattle.session_rules.specs.Messages.{server_batch}
 use Rattle.session_rules.specs.Taking.{NoQuestion, NoReply}
 use Rattle.validator_session.specs.declared.notes.Notes.{Notes}
 use Rattle.validator_session.specs.declared.standing.Standing.{Standing}
-use Rattle.validator_session.specs.Drafting.{with_codes}
+use Rattle.validator_session.specs.Drafting.{Goes, with_codes, writes}
 use Rattle.validator_session.specs.Noting.{IsNoted}
 use Rattle.validator_session.specs.Ready.{CanGoOn}
 use Rattle.validator_session.specs.Standing.{notes_of, stand_of}
-use Rattle.validator_session.proofs.Speaking.{noted_then, wrote, wrote_all, wrote_lost}
+use Rattle.validator_session.proofs.Speaking.{failed, lost, wrote_all, wrote_lost, wrote_off, wrote_on}
 
 -- ---- codes
 
@@ -37,53 +39,56 @@ coded n codes = record n { «record» = record n.record { errors = codes } }
 pub coded_noted : (n : Notes) (codes : List ℕ) → IsNoted n → IsNoted (coded n codes)
 coded_noted n codes noted = record { points = noted.points; answers = noted.answers }
 
--- The same codes are noted.
-pub same_notes : (old mid : Notes) (codes : List ℕ) (mirror : Held) → mid ≡ old → codes ≡ mid.record.errors → notes_of (coded mid codes) mirror ≡ notes_of old mirror
-same_notes old mid codes mirror same is = ap (λ (c : List ℕ). notes_of (coded mid c) mirror) is ∙ ap (λ (n : Notes). notes_of n mirror) same
+-- ---- a batch
+
+pub writes_so : {T E : Type 0} (old : Standing) (m : Position) (mirror : Held) (waits now : List ℕ) (kind : BatchKind) (answers : List Message) (errors codes : List ℕ) (result : Result T E)
+    → m ≡ sent old.machine kind → now ≡ waits ++ written (server_batch kind answers)
+    → OnOk result (codes ≡ old.notes.record.errors ++ errors) → OnErr result (codes ≡ old.notes.record.errors)
+    → Spoken {Q = NoQuestion} {R = NoReply} waits now (notes_of old.notes mirror) (writes (with_codes (stand_of old mirror) errors) kind answers) (stand_of (record old { machine = m; notes = coded old.notes codes }) mirror) (notes_of (coded old.notes codes) mirror) result
+writes_so old m mirror waits now kind answers errors codes (Ok done) is put well ill =
+    wrote_all waits now (written (server_batch kind answers)) (writes (with_codes (stand_of old mirror) errors) kind answers) (sends (with_codes (stand_of old mirror) errors) kind) (stand_of (record old { machine = m; notes = coded old.notes codes }) mirror) refl put
+    (ap (λ (p : Position). stand_of (record old { machine = p; notes = coded old.notes codes }) mirror) is ∙ ap (λ (k : List ℕ). stand_of (record old { machine = sent old.machine kind; notes = coded old.notes k }) mirror) well)
+writes_so old m mirror waits now kind answers errors codes (Err error) is put well ill =
+    wrote_lost waits now (written (server_batch kind answers)) (notes_of old.notes mirror) (Done (sends (with_codes (stand_of old mirror) errors) kind)) (notes_of (coded old.notes codes) mirror) put (ap (λ (k : List ℕ). notes_of (coded old.notes k) mirror) ill)
+
+pub writes_lost : {E : Type 0} (old : Standing) (m : Position) (mirror : Held) (waits now : List ℕ) (kind : BatchKind) (answers : List Message) (errors : List ℕ) (result : Result (Unit {0}) E) → IsErr result → now ≡ waits
+    → Goes old mirror waits (writes (with_codes (stand_of old mirror) errors) kind answers) (record old { machine = m }) mirror now result
+writes_lost old m mirror waits now kind answers errors result is same =
+    let talk : Follows = writes (with_codes (stand_of old mirror) errors) kind answers in
+    failed waits now (notes_of old.notes mirror) talk (stand_of (record old { machine = m }) mirror) (notes_of old.notes mirror) result is (lost waits now (notes_of old.notes mirror) talk (notes_of old.notes mirror) same refl)
 
 -- ---- a request
 
-pub request_so : {T E : Type 0} (c : FollowConfig) (old mid : Standing) (m : Position) (mirror : Held) (waits now : List ℕ) (kind : BatchKind) (answers : List Message) (errors codes : List ℕ) (result : Result T E)
-    → stand_of mid mirror ≡ asks (record (stand_of old mirror) { machine = m }) → mid.notes ≡ old.notes → m ≡ sent old.machine kind
-    → now ≡ waits ++ written (server_batch kind (answers ++ request_message c (stand_of old mirror) ∷ []))
-    → OnOk result (codes ≡ mid.notes.record.errors ++ errors) → OnErr result (codes ≡ mid.notes.record.errors)
-    → Spoken {Q = NoQuestion} {R = NoReply} waits now (notes_of old.notes mirror) (writes_request c (with_codes (stand_of old mirror) errors) kind answers) (stand_of (record mid { notes = coded mid.notes codes }) mirror) (notes_of (coded mid.notes codes) mirror) result
-request_so c old mid m mirror waits now kind answers errors codes (Ok done) asked same is put well ill =
-    wrote_all waits now (written (server_batch kind (answers ++ request_message c (stand_of old mirror) ∷ []))) (writes_request c (with_codes (stand_of old mirror) errors) kind answers) (sends (asks (with_codes (stand_of old mirror) errors)) kind) (stand_of (record mid { notes = coded mid.notes codes }) mirror) refl put
-    (ap (λ (s : Stand). record s { notes = record s.notes { errors = codes } }) (asked ∙ ap (λ (p : Position). asks (record (stand_of old mirror) { machine = p })) is)
-    ∙ ap (λ (k : List ℕ). sends (asks (record (stand_of old mirror) { notes = record (stand_of old mirror).notes { errors = k } })) kind) (well ∙ ap (λ (n : Notes). n.record.errors ++ errors) same))
-request_so c old mid m mirror waits now kind answers errors codes (Err error) asked same is put well ill =
-    wrote_lost waits now (written (server_batch kind (answers ++ request_message c (stand_of old mirror) ∷ []))) (notes_of old.notes mirror) (Done (sends (asks (with_codes (stand_of old mirror) errors)) kind)) (notes_of (coded mid.notes codes) mirror) put (same_notes old.notes mid.notes codes mirror same ill)
-
--- ---- answers alone
-
-pub answers_so : {T E : Type 0} (old : Standing) (m : Position) (mirror : Held) (waits now : List ℕ) (answers : List Message) (errors codes : List ℕ) (result : Result T E)
-    → m ≡ sent old.machine kinds.Sdata → now ≡ waits ++ written (server_batch kinds.Sdata answers)
-    → OnOk result (codes ≡ old.notes.record.errors ++ errors) → OnErr result (codes ≡ old.notes.record.errors)
-    → Spoken {Q = NoQuestion} {R = NoReply} waits now (notes_of old.notes mirror) (writes_answers (with_codes (stand_of old mirror) errors) answers) (stand_of (record old { machine = m; notes = coded old.notes codes }) mirror) (notes_of (coded old.notes codes) mirror) result
-answers_so old m mirror waits now answers errors codes (Ok done) is put well ill =
-    wrote_all waits now (written (server_batch kinds.Sdata answers)) (writes_answers (with_codes (stand_of old mirror) errors) answers) (sends (with_codes (stand_of old mirror) errors) kinds.Sdata) (stand_of (record old { machine = m; notes = coded old.notes codes }) mirror) refl put
-    (ap (λ (p : Position). stand_of (record old { machine = p; notes = coded old.notes codes }) mirror) is ∙ ap (λ (k : List ℕ). stand_of (record old { machine = sent old.machine kinds.Sdata; notes = coded old.notes k }) mirror) well)
-answers_so old m mirror waits now answers errors codes (Err error) is put well ill =
-    wrote_lost waits now (written (server_batch kinds.Sdata answers)) (notes_of old.notes mirror) (Done (sends (with_codes (stand_of old mirror) errors) kinds.Sdata)) (notes_of (coded old.notes codes) mirror) put (same_notes old.notes old.notes codes mirror refl ill)
+-- It is counted, and then written after the answers.
+pub request_so : {E : Type 0} (c : FollowConfig) (old mid new : Standing) (mirror : Held) (waits now : List ℕ) (kind : BatchKind) (answers all : List Message) (errors : List ℕ) (result : Result (Unit {0}) E)
+    → stand_of mid mirror ≡ asks (stand_of old mirror) → all ≡ answers ++ request_message c (stand_of old mirror) ∷ []
+    → Goes mid mirror waits (writes (with_codes (stand_of mid mirror) errors) kind all) new mirror now result → Goes old mirror waits (writes_request c (with_codes (stand_of old mirror) errors) kind answers) new mirror now result
+request_so c old mid new mirror waits now kind answers all errors result asked put so =
+    subst₂ (λ (s : Stand) (messages : List Message). Spoken {Q = NoQuestion} {R = NoReply} waits now s.notes (writes (with_codes s errors) kind messages) (stand_of new mirror) (notes_of new.notes mirror) result) asked put so
 
 -- ---- a RESULT
 
 -- The standing after it.
-abbrev pub decided : Standing → Position → List ℕ → Standing
-decided old m codes = record old { machine = m; notes = coded old.notes codes; tries = None; rounds = old.rounds + 1 }
+abbrev pub decided : Stand → Stand
+decided s = record s { tries = None; rounds = s.rounds + 1 }
 
-pub decide_so : {T E : Type 0} (c : FollowConfig) (old new : Standing) (m : Position) (mirror : Held) (waits mid now : List ℕ) (answers : List Message) (errors codes : List ℕ) (result : Result T E)
-    → m ≡ sent old.machine kinds.Outcome → mid ≡ waits ++ written (server_batch kinds.Outcome (Assessment 4 ∷ answers)) → codes ≡ old.notes.record.errors ++ errors
-    → Spoken {Q = NoQuestion} {R = NoReply} mid now (notes_of (decided old m codes).notes mirror) (closes_if (stand_of (decided old m codes) mirror) (nat_le c.rounds (old.rounds + 1))) (stand_of new mirror) (notes_of new.notes mirror) result
-    → Spoken {Q = NoQuestion} {R = NoReply} waits now (notes_of old.notes mirror) (decides c (with_codes (stand_of old mirror) errors) answers) (stand_of new mirror) (notes_of new.notes mirror) result
-decide_so c old new m mirror waits mid now answers errors codes result is put noted so =
+pub decide_so : {E : Type 0} (c : FollowConfig) (old mid new : Standing) (mirror : Held) (waits between now : List ℕ) (answers : List Message) (errors : List ℕ) (result : Result (Unit {0}) E)
+    → Spoke {Q = NoQuestion} {R = NoReply} waits between (λ replies out. Gives replies (writes (with_codes (stand_of old mirror) errors) kinds.Outcome (Assessment 4 ∷ answers)) [] out (stand_of mid mirror))
+    → Spoken {Q = NoQuestion} {R = NoReply} between now (notes_of mid.notes mirror) (closes_if (decided (stand_of mid mirror)) (nat_le c.rounds (mid.rounds + 1))) (stand_of new mirror) (notes_of new.notes mirror) result
+    → Goes old mirror waits (decides c (with_codes (stand_of old mirror) errors) answers) new mirror now result
+decide_so c old mid new mirror waits between now answers errors result first so =
+    wrote_on waits between now (written (server_batch kinds.Outcome (Assessment 4 ∷ answers))) (notes_of old.notes mirror) (sends (with_codes (stand_of old mirror) errors) kinds.Outcome) (stand_of mid mirror) (λ (s : Stand). s.notes)
+    (λ (s : Stand). closes_if (decided s) (nat_le c.rounds (s.rounds + 1))) (stand_of new mirror) (notes_of new.notes mirror) result first so
+
+pub decide_lost : {E : Type 0} (c : FollowConfig) (old new : Standing) (mirror : Held) (waits now : List ℕ) (answers : List Message) (errors : List ℕ) (result : Result (Unit {0}) E) → IsErr result
+    → Spoke {Q = NoQuestion} {R = NoReply} waits now (λ replies out. Breaks replies (notes_of old.notes mirror) (writes (with_codes (stand_of old mirror) errors) kinds.Outcome (Assessment 4 ∷ answers)) [] out (notes_of new.notes mirror))
+    → Goes old mirror waits (decides c (with_codes (stand_of old mirror) errors) answers) new mirror now result
+decide_lost c old new mirror waits now answers errors result is first =
     let s : Stand = with_codes (stand_of old mirror) errors in
-    let after : Stand = record (sends s kinds.Outcome) { tries = None; rounds = s.rounds + 1 } in
-    let talk : Follows = closes_if after (nat_le c.rounds after.rounds) in
-    wrote waits mid now (written (server_batch kinds.Outcome (Assessment 4 ∷ answers))) (notes_of old.notes mirror) (Note s.notes talk) (stand_of new mirror) (notes_of new.notes mirror) result put
-    (noted_then mid now (notes_of old.notes mirror) s.notes talk (stand_of new mirror) (notes_of new.notes mirror) result
-    (subst₂ (λ (k : List ℕ) (p : Position). Spoken {Q = NoQuestion} {R = NoReply} mid now (notes_of (decided old p k).notes mirror) (closes_if (stand_of (decided old p k) mirror) (nat_le c.rounds (old.rounds + 1))) (stand_of new mirror) (notes_of new.notes mirror) result) noted is so))
+    let after : Stand = decided (sends s kinds.Outcome) in
+    let talk : Follows = Note s.notes (closes_if after (nat_le c.rounds after.rounds)) in
+    failed waits now (notes_of old.notes mirror) (decides c s answers) (stand_of new mirror) (notes_of new.notes mirror) result is
+    (wrote_off waits now (written (server_batch kinds.Outcome (Assessment 4 ∷ answers))) (notes_of old.notes mirror) (sends s kinds.Outcome) talk (notes_of new.notes mirror) first)
 
 -- ---- tests
 

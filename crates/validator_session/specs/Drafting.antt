@@ -2,11 +2,14 @@
 use Rattle.std.specs.Prelude.{ℕ, List, [], ◌++◌, Result, Ok, Err}
 use Rattle.validator_core.specs.Held.{Held}
 use Rattle.pb_batch.specs.declared.batch.Message.{Message}
-use Rattle.session_talk.specs.Talk.{each}
+use Rattle.pb_batch.specs.declared.kind.BatchKind.{BatchKind}
+use Rattle.pb_batch.specs.Written.{written}
+use Rattle.session_talk.specs.Talk.{Done, Write, each}
 use Rattle.session_talk.specs.Course.{Gives, Breaks}
 use Rattle.session_rules.specs.Clauses.{Spoke, Spoken}
 use Rattle.session_rules.specs.Following.{Draft, Stand}
-use Rattle.session_rules.specs.FollowRules.{Follows}
+use Rattle.session_rules.specs.FollowRules.{Follows, sends}
+use Rattle.session_rules.specs.Messages.{server_batch}
 use Rattle.session_rules.specs.Taking.{Drafting, NoQuestion, NoReply, takes_message}
 use Rattle.validator_session.specs.declared.notes.Notes.{Notes}
 use Rattle.validator_session.specs.declared.standing.Standing.{Standing}
@@ -41,3 +44,7 @@ Goes old before waits talk new after now result = Spoken {Q = NoQuestion} {R = N
 -- The standing, with further codes noted.
 abbrev pub with_codes : Stand → List ℕ → Stand
 with_codes s codes = record s { notes = record s.notes { errors = s.notes.errors ++ codes } }
+
+-- A batch of the kind with these messages.
+abbrev pub writes : Stand → BatchKind → List Message → Follows
+writes s kind messages = Write (written (server_batch kind messages)) (Done (sends s kind))

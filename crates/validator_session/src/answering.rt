@@ -19,7 +19,7 @@ use crate::asking::asks_more;
 use crate::notes::Notes;
 use crate::standing::Standing;
 use crate::take::{Draft, take_message};
-use crate::writing::{decide, write_answers, write_request};
+use crate::writing::{decide, write_draft, write_request};
 use pb_batch::BatchKind::Sdata;
 use pb_batch::Messages;
 use session_rules::FollowConfig;
@@ -126,7 +126,7 @@ fn go_on_retried(
     if standing.retried {
         write_request(alloc, mirror, config, standing, out, Sdata, draft)
     } else {
-        write_answers(alloc, standing, out, draft)
+        write_draft(alloc, standing, out, Sdata, draft)
     }
 }
 

@@ -2,14 +2,13 @@
 
 ghost use Rattle.std.specs.Prelude.{◌≡◌, ◌≢◌, ◌++◌, IsTrue, OnErr, OnOk, false, is_some, nat_le, true};
 ghost use Rattle.pb_batch.specs.Written.{IsBatch, IsTold, written};
-ghost use Rattle.pb_batch.specs.declared.kind.BatchKind.TheVariants as kinds;
 ghost use Rattle.pb_machine.specs.Table.{may_send, sent};
 ghost use Rattle.pb_machine.specs.declared.machine.Role.TheVariants as role;
 ghost use Rattle.pb_machine.specs.declared.machine.State.TheVariants as state;
-ghost use Rattle.session_rules.specs.FollowRules.{closes_if, decides, refuses, writes_answers, writes_request};
+ghost use Rattle.session_rules.specs.FollowRules.{closes_if, decides, refuses, writes_request};
 ghost use Rattle.session_rules.specs.Messages.{server_batch};
 ghost use Rattle.validator_core.specs.Held.{Held};
-ghost use Rattle.validator_session.specs.Drafting.{Goes, with_codes};
+ghost use Rattle.validator_session.specs.Drafting.{Goes, with_codes, writes};
 ghost use Rattle.validator_session.specs.Noting.{IsNoted};
 ghost use Rattle.validator_session.specs.Ready.{CanGoOn};
 ghost use Rattle.validator_session.specs.Sizes.{Fits};
@@ -19,7 +18,7 @@ use crate::asking::{ask, count_request};
 use crate::counts::one_more;
 use crate::standing::Standing;
 use crate::take::Draft;
-use pb_batch::BatchKind::{Close, Outcome, Sdata};
+use pb_batch::BatchKind::{Close, Outcome};
 use pb_batch::{Batch, BatchKind, Message, Messages, PbFault, fault_batch, write_batch};
 use pb_machine::Machine;
 use session_rules::{FollowConfig, SessionEnd};
@@ -38,7 +37,7 @@ pub(crate) fn write_request(
     standing: &mut Standing,
     out: &mut Octets,
     kind: BatchKind,
-    draft: Draft,
+    mut draft: Draft,
 ) -> Result<(), Memory>
     requires may { IsTrue (may_send standing.old.machine kind) }
     requires noted { IsNoted standing.old.notes }
@@ -50,41 +49,9 @@ pub(crate) fn write_request(
     ensures sent { standing.new.notes.record.sent ≡ standing.old.notes.record.sent }
     ensures received { standing.new.notes.record.received ≡ standing.old.notes.record.received }
 {
-    let Draft {
-        mut answers,
-        errors,
-        ..
-    } = draft;
-    answers.push(ask(alloc, config, mirror, standing)?)?;
-    write(alloc, &mut standing.machine, out, kind, answers)?;
+    draft.answers.push(ask(alloc, config, mirror, standing)?)?;
     count_request(mirror, standing);
-    standing.notes.record.errors.extend(errors.as_slice())
-}
-
-/// Writes a batch of the answers alone.
-pub(crate) fn write_answers(
-    alloc: Global,
-    standing: &mut Standing,
-    out: &mut Octets,
-    draft: Draft,
-) -> Result<(), Memory>
-    requires may { IsTrue (may_send standing.old.machine kinds.Sdata) }
-    requires noted { IsNoted standing.old.notes }
-    requires fits { Fits draft.answers }
-    ensures goes { (mirror : Held) → Goes standing.old mirror out.old (writes_answers (with_codes (stand_of standing.old mirror) draft.errors) draft.answers) standing.new mirror out.new result }
-    ensures machine { OnOk result (standing.new.machine ≡ sent standing.old.machine kinds.Sdata) }
-    ensures rounds { standing.new.rounds ≡ standing.old.rounds }
-    ensures noted { IsNoted standing.new.notes }
-    ensures sent { standing.new.notes.record.sent ≡ standing.old.notes.record.sent }
-    ensures received { standing.new.notes.record.received ≡ standing.old.notes.record.received }
-{
-    let Draft {
-        answers,
-        errors,
-        ..
-    } = draft;
-    write(alloc, &mut standing.machine, out, Sdata, answers)?;
-    standing.notes.record.errors.extend(errors.as_slice())
+    write_draft(alloc, standing, out, kind, draft)
 }
 
 /// A RESULT ends a round; after the last the session is closed at once.
@@ -93,7 +60,7 @@ pub(crate) fn decide(
     config: &FollowConfig,
     standing: &mut Standing,
     out: &mut Octets,
-    draft: Draft,
+    mut draft: Draft,
 ) -> Result<(), Memory>
     requires ready { CanGoOn standing.old config.now.rounds }
     requires working { standing.old.machine.state ≡ state.ServerWorking }
@@ -105,17 +72,34 @@ pub(crate) fn decide(
     ensures sent { standing.new.notes.record.sent ≡ standing.old.notes.record.sent }
     ensures received { standing.new.notes.record.received ≡ standing.old.notes.record.received }
 {
-    let Draft {
-        mut answers,
-        errors,
-        ..
-    } = draft;
-    answers.insert(0, Message::Assessment(DO_NOT_KNOW))?;
-    write(alloc, &mut standing.machine, out, Outcome, answers)?;
-    standing.notes.record.errors.extend(errors.as_slice())?;
+    draft.answers.insert(0, Message::Assessment(DO_NOT_KNOW))?;
+    write_draft(alloc, standing, out, Outcome, draft)?;
     standing.tries = None;
     standing.rounds = one_more(standing.rounds, config.rounds);
     close_if_last(alloc, config, standing, out)
+}
+
+/// Writes what was drafted as a batch of the kind, which may be sent, and then notes the codes of
+/// the Errors that were heard.
+pub(crate) fn write_draft(
+    alloc: Global,
+    standing: &mut Standing,
+    out: &mut Octets,
+    kind: BatchKind,
+    draft: Draft,
+) -> Result<(), Memory>
+    requires may { IsTrue (may_send standing.old.machine kind) }
+    requires noted { IsNoted standing.old.notes }
+    requires batch { IsBatch (server_batch kind draft.answers) }
+    ensures goes { (mirror : Held) → Goes standing.old mirror out.old (writes (with_codes (stand_of standing.old mirror) draft.errors) kind draft.answers) standing.new mirror out.new result }
+    ensures machine { OnOk result (standing.new.machine ≡ sent standing.old.machine kind) }
+    ensures rounds { standing.new.rounds ≡ standing.old.rounds }
+    ensures noted { IsNoted standing.new.notes }
+    ensures sent { standing.new.notes.record.sent ≡ standing.old.notes.record.sent }
+    ensures received { standing.new.notes.record.received ≡ standing.old.notes.record.received }
+{
+    write(alloc, &mut standing.machine, out, kind, draft.answers)?;
+    standing.notes.record.errors.extend(draft.errors.as_slice())
 }
 
 /// After the last round the session is closed at once.

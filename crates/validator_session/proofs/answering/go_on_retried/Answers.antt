@@ -6,14 +6,18 @@ use Rattle.session_rules.specs.FollowRules.{answers_retry}
 use Rattle.validator_session.specs.Drafting.{Goes, with_codes}
 use Rattle.validator_session.specs.Standing.{stand_of}
 use Rattle.validator_session.proofs.Ruling.{may_working, sent_ready}
+use Rattle.validator_session.proofs.Sizes.{answers_batch}
 use Rattle.validator_session.proofs.Stepping.{on_ok}
 use Rattle.validator_session.proofs.answering.go_on_retried.Goals as goal
 
 pub write_request-requires-clause-may : goal.write_request-requires-clause-may
 write_request-requires-clause-may c = may_working c.args.standing.now.machine kinds.Sdata c.requires.ready.role c.requires.working refl
 
-pub write_answers-requires-clause-may : goal.write_answers-requires-clause-may
-write_answers-requires-clause-may c = may_working c.args.standing.now.machine kinds.Sdata c.requires.ready.role c.requires.working refl
+pub write_draft-requires-clause-may : goal.write_draft-requires-clause-may
+write_draft-requires-clause-may c = may_working c.args.standing.now.machine kinds.Sdata c.requires.ready.role c.requires.working refl
+
+pub write_draft-requires-clause-batch : goal.write_draft-requires-clause-batch
+write_draft-requires-clause-batch c = answers_batch kinds.Sdata c.args.draft.answers c.requires.fits
 
 pub returns-then-standing-clause-goes : goal.returns-then-standing-clause-goes
 returns-then-standing-clause-goes c =
@@ -24,8 +28,8 @@ returns-then-standing-clause-goes c =
 pub returns-else-standing-clause-goes : goal.returns-else-standing-clause-goes
 returns-else-standing-clause-goes c =
     let s = record (with_codes (stand_of c.args.standing.now c.args.mirror.now) c.args.draft.errors) { numbered = c.args.draft.numbered } in
-    subst (λ (retried : Bool). Goes c.args.standing.now c.args.mirror.now c.args.out.now (answers_retry c.args.config.now s c.args.draft.answers retried) c.write_answers.new.standing c.args.mirror.now c.write_answers.new.out c.write_answers.result)
-    (sym c.if-standing.false) (c.write_answers.ensures.goes c.args.mirror.now)
+    subst (λ (retried : Bool). Goes c.args.standing.now c.args.mirror.now c.args.out.now (answers_retry c.args.config.now s c.args.draft.answers retried) c.write_draft.new.standing c.args.mirror.now c.write_draft.new.out c.write_draft.result)
+    (sym c.if-standing.false) (c.write_draft.ensures.goes c.args.mirror.now)
 
 pub returns-then-standing-clause-ready : goal.returns-then-standing-clause-ready
 returns-then-standing-clause-ready c =
@@ -34,5 +38,5 @@ returns-then-standing-clause-ready c =
 
 pub returns-else-standing-clause-ready : goal.returns-else-standing-clause-ready
 returns-else-standing-clause-ready c =
-    on_ok c.write_answers.result (λ machine. sent_ready c.args.config.now.rounds c.args.standing.now c.write_answers.new.standing state.ServerWorking kinds.Sdata c.requires.ready c.requires.working (λ is. absurd cc) machine c.write_answers.ensures.rounds)
-    c.write_answers.ensures.machine
+    on_ok c.write_draft.result (λ machine. sent_ready c.args.config.now.rounds c.args.standing.now c.write_draft.new.standing state.ServerWorking kinds.Sdata c.requires.ready c.requires.working (λ is. absurd cc) machine c.write_draft.ensures.rounds)
+    c.write_draft.ensures.machine
