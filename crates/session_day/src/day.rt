@@ -43,20 +43,8 @@ pub(crate) struct Day {
     pub carried: Octets,
 }
 
-/// The whole day of an endpoint with that many packages; `Memory` where there is no room.
-pub(crate) fn play_day(alloc: Global, count: u32) -> Result<Day, Memory>
-    requires count { IsCount count }
-    ensures day { IfOk result (λ day. PlaysDay count day) }
-{
-    let mut day = morning(alloc, count)?;
-    day.follow_first(alloc)?;
-    day.change_all(alloc, count)?;
-    day.end(alloc)?;
-    Ok(day)
-}
-
-/// The day before its first session.
-fn morning(alloc: Global, count: u32) -> Result<Day, Memory>
+/// The day before its first session; `Memory` where there is no room.
+pub(crate) fn morning(alloc: Global, count: u32) -> Result<Day, Memory>
     requires few { count ≤ 5000 }
     ensures morning { IfOk result (λ day. IsMorning count day) }
 {
@@ -75,6 +63,19 @@ fn morning(alloc: Global, count: u32) -> Result<Day, Memory>
 }
 
 impl Day {
+    /// The whole day of an endpoint with that many packages, from its morning on; `Memory` where
+    /// there is no room.
+    pub(crate) fn play(&mut self, alloc: Global, count: u32) -> Result<(), Memory>
+        requires count { IsCount count }
+        requires morning { IsMorning count self.old }
+        ensures day { OnOk result (PlaysDay count self.new) }
+    {
+        self.follow_first(alloc)?;
+        self.change_all(alloc, count)?;
+        self.end(alloc)?;
+        Ok(())
+    }
+
     /// The first session, until nothing waits. Its octets to the validator are kept.
     fn follow_first(&mut self, alloc: Global) -> Result<(), Memory>
         ensures first { OnOk result (FollowsFirst self.old self.new) }

@@ -1,6 +1,6 @@
 //! The packages of a day, and their tags.
 
-ghost use Rattle.std.specs.Prelude.{◌≡◌, IfOk, Some, replicate};
+ghost use Rattle.std.specs.Prelude.{◌≡◌, ◌<◌, ◌^◌, ℕ, IfOk, Some, replicate};
 ghost use Rattle.coswid_tag.specs.Identifier.{identifier_of};
 ghost use Rattle.session_day.specs.Package.{content_by, letters_of, next_number, number_of, package_name};
 ghost use Rattle.session_day.specs.Packages.{AreDescribed, AreMakers, HasIdentifier, IsDescription, IsMaker, IsPackage, IsTagOf};
@@ -44,8 +44,18 @@ pub(crate) fn package(
     ensures content { IfOk result (λ made. made ≡ content_by place version number) }
 {
     let tag = package_tag(alloc, place, version, number)?;
-    let ident = identifier(alloc, &tag)?;
-    let octets = write_tag(alloc, &tag)?;
+    content_of(alloc, &tag)
+}
+
+/// The content of the record of a package with this tag.
+fn content_of(alloc: Global, tag: &Tag) -> Result<Content, Memory>
+    requires of_package { (place : ℕ) × (version : ℕ) × (number : ℕ) × (place < 2 ^ 32)
+        × IsPackage place version (letters_of number) tag.now }
+    ensures content { (place version number : ℕ) → place < 2 ^ 32 → IsPackage place version (letters_of number) tag.now
+        → IfOk result (λ made. made ≡ content_by place version number) }
+{
+    let ident = identifier(alloc, tag)?;
+    let octets = write_tag(alloc, tag)?;
     let body = Body::from_octets(alloc, octets.as_slice())?;
     Ok(Content {
         model: Model { pen: 0, kind: 2 },

@@ -3,8 +3,9 @@
 ghost use Rattle.command_text.specs.Text.{mirror_text, refusal};
 ghost use Rattle.std.specs.Prelude.{◌≡◌, ◌++◌, IfOk, OnOk, codes};
 ghost use Rattle.session_day.specs.Day.{IsCount, MakeTells, count_of, digest_line, is_full, is_report, point_line, summary};
+ghost use Rattle.session_day.specs.Days.{IsMorning};
 
-use crate::day::{Day, play_day};
+use crate::day::{Day, morning};
 use command_text::{from_string, mirror_text, refusal};
 use session_world::Telling;
 use sha2::{Digest, Sha256};
@@ -19,8 +20,18 @@ pub fn day_text(alloc: Global, count: u32) -> Result<Octets, Memory>
     requires count { IsCount count }
     ensures told { IfOk result (λ made. MakeTells count made) }
 {
-    let day = play_day(alloc, count)?;
-    summary(alloc, count, &day)
+    let mut day = morning(alloc, count)?;
+    played_text(alloc, count, &mut day)
+}
+
+/// Plays a day from its morning on. What is printed of it.
+fn played_text(alloc: Global, count: u32, day: &mut Day) -> Result<Octets, Memory>
+    requires count { IsCount count }
+    requires morning { IsMorning count day.old }
+    ensures told { IfOk result (λ made. MakeTells count made) }
+{
+    day.play(alloc, count)?;
+    summary(alloc, count, day)
 }
 
 /// What is printed of the day of that many packages.

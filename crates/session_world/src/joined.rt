@@ -31,12 +31,25 @@ use wire_base::Memory;
 const MOST: u32 = 4_294_967_295;
 
 /// Both ends, and how each ended, if it has.
-#[derive(Debug, Drop)]
+#[derive(Debug)]
 pub(crate) struct Joined {
     serve: ServeCore,
     follow: FollowCore,
     collector: Option<SessionEnd>,
     validator: Option<SessionEnd>,
+}
+
+/// Written out, so that what drops a session is proved by one call. A derived drop is proved part by
+/// part, again at each place where a session is dropped.
+impl Drop for Joined {
+    fn drop(self) {
+        let Self {
+            serve: _,
+            follow: _,
+            collector: _,
+            validator: _,
+        } = self;
+    }
 }
 
 impl Joined {

@@ -25,12 +25,24 @@ use wire_base::{Memory, Octets};
 const MOST_ROUNDS: u64 = 8_589_934_590;
 
 /// An inventory, a mirror of it, and at most one session between them.
-#[derive(Debug, Drop)]
+#[derive(Debug)]
 pub struct World {
     terms: Terms,
     book: Book,
     mirror: Mirror,
     joined: Option<Joined>,
+}
+
+/// Written out for the same reason as that of a session.
+impl Drop for World {
+    fn drop(self) {
+        let Self {
+            terms: _,
+            book: _,
+            mirror: _,
+            joined: _,
+        } = self;
+    }
 }
 
 impl Model for World {
