@@ -1,6 +1,6 @@
 -- An item of a source is done by the changes that it asks for.
-use Rattle.std.proofs.Common.{◌≡◌, ℕ, ◌+◌, ◌<◌, List, [], ◌∷◌, ◌++◌, Option, None, Some, Result, Ok, Err, length, take, drop, get_or, refl, sym, ap, ◌∙◌, subst}
-use Rattle.std.proofs.lemmas.List.{append-nil, drop_more, map-append, take_more}
+use Rattle.std.proofs.Common.{◌≡◌, ℕ, ◌+◌, ◌<◌, ◌≤◌, List, [], ◌∷◌, ◌++◌, Option, None, Some, Result, Ok, Err, length, take, drop, get_or, refl, sym, ap, ◌∙◌, subst}
+use Rattle.std.proofs.lemmas.List.{append-nil, drop_more, map-append, take_all, take_more}
 use Rattle.swima_model.specs.declared.record.Content.{Content}
 use Rattle.collector_core.specs.declared.chronicle.Mark.{Mark}
 use Rattle.collector_core.specs.declared.error.BookError.{BookError}
@@ -114,3 +114,9 @@ module _ {D : Type 0} (stands : D → Chronicle → Type 0) (went : D → List M
         gone ∙ ap (λ (o : List Held). without_all (take i o) keys) sorted,
         subst (λ (o : List Held). Refuses stands went stamp after (first_not o) error) here once.1,
       )
+
+  pub end_done : (order keys left : List Held) (i : ℕ) (first after : D) (swept counts : Swept) → order ≡ by_id keys → length order ≤ i → left ≡ []
+      → Works stands went stamp first after swept counts (deletions (take i order))
+      → Performs stands went stamp told.Ended (record { keys = keys; desk = first; swept = swept }) (record { keys = left; desk = after; swept = counts }) (Ok tt)
+  end_done order keys left i first after swept counts sorted all none works =
+      (0, tt, subst (λ (o : List Held). Works stands went stamp first after swept counts (deletions o)) (take_all i order all ∙ sorted) works, none)

@@ -2,7 +2,7 @@
 
 ghost use Rattle.std.specs.Prelude.{◌≡◌, Some, true, MatchOption};
 ghost use Rattle.wire_base.specs.Stamp.{IsStamp};
-ghost use Rattle.source_set.specs.Asking.{Asks, AsksOnce, HasCauseAt, Hears, IsItem, NoItem, Tries, asked_failed, left_by, numbered, stand, without_item};
+ghost use Rattle.source_set.specs.Asking.{Asks, AsksOnce, HasCauseAt, Hears, IsItem, NoItem, Tries, asked_failed, left_by, numbered, stand, stop_of, without_item};
 ghost use Rattle.source_set.specs.Deeds.{count, gives_up};
 
 use crate::doing::{Undone, perform};
@@ -138,16 +138,6 @@ fn without_item(error: SweepError) -> Stop
     Stop { error, item: None }
 }
 
-/// Why a source is asked no further, where its item is kept.
-fn with_item(error: SweepError, item: Told) -> Stop
-    ensures stop { result ≡ record { error = error; item = Some item } }
-{
-    Stop {
-        error,
-        item: Some(item),
-    }
-}
-
 /// Does an item of a source, and gives the source up where it ended.
 pub(crate) fn do_item<S: Drop, D: Desk>(
     alloc: Global,
@@ -166,23 +156,43 @@ pub(crate) fn do_item<S: Drop, D: Desk>(
 {
     match perform(alloc, &mut seat.keys, desk, stamp, &item, swept) {
         Ok(()) => {
-            give_up(seat, &item, swept);
+            end_item(seat, item, swept);
             Ok(())
         }
-        Err(Undone::UnknownKey { key }) => Err(without_item(SweepError::UnknownKey {
-            source: number,
-            key,
-        })),
-        Err(Undone::Book(BookError::Memory)) => Err(with_item(SweepError::Memory, item)),
-        Err(Undone::Book(error)) => Err(with_item(SweepError::Book(error), item)),
+        Err(undone) => Err(stop_of(number, item, undone)),
     }
 }
 
-/// Gives a source up, where its item is that it ended.
-fn give_up<S: Drop>(seat: &mut Seat<S>, item: &Told, swept: &mut Swept)
-    ensures source { seat.new.source ≡ left_by item.now seat.old.source }
+/// Why a source is asked no further, where its item was not done. The item is kept, except where
+/// its key is unknown.
+fn stop_of(number: u8, item: Told, undone: Undone) -> Stop
+    ensures stop { result ≡ stop_of number item undone }
+{
+    match undone {
+        Undone::UnknownKey { key } => without_item(SweepError::UnknownKey {
+            source: number,
+            key,
+        }),
+        Undone::Book(BookError::Memory) => with_item(SweepError::Memory, item),
+        Undone::Book(error) => with_item(SweepError::Book(error), item),
+    }
+}
+
+/// Why a source is asked no further, where its item is kept.
+fn with_item(error: SweepError, item: Told) -> Stop
+    ensures stop { result ≡ record { error = error; item = Some item } }
+{
+    Stop {
+        error,
+        item: Some(item),
+    }
+}
+
+/// Ends an item that was done. The source is given up where the item is that it ended.
+fn end_item<S: Drop>(seat: &mut Seat<S>, item: Told, swept: &mut Swept)
+    ensures source { seat.new.source ≡ left_by item seat.old.source }
     ensures keys { seat.new.keys ≡ seat.old.keys }
-    ensures counted { swept.new ≡ count swept.old (gives_up item.now) }
+    ensures counted { swept.new ≡ count swept.old (gives_up item) }
 {
     if let Told::Ended = item {
         seat.source = None;
