@@ -2,6 +2,7 @@
 
 ghost use Rattle.std.specs.Prelude.{◌≤◌};
 
+use crate::fields::{five, three};
 use collector_core::{Answer, Book, BookError, Changed, Edit};
 use conformance_words::{kind_of, record_text, report_text, word_list};
 use std::alloc::Global;
@@ -37,13 +38,13 @@ pub fn step(alloc: Global, book: &mut Book, words: &str) -> Option<String> {
 
 /// Begins a book anew.
 fn begin(alloc: Global, book: &mut Book, words: &str) -> Option<String> {
-    let mut words = words.split(' ');
-    let epoch: u32 = words.next()?.parse().ok()?;
-    let room: usize = words.next()?.parse().ok()?;
+    let (epoch, room, contents) = three(words)?;
+    let epoch: u32 = epoch.parse().ok()?;
+    let room: usize = room.parse().ok()?;
     if epoch == 0 || room == 0 || room > 4096 {
         return None;
     }
-    *book = new_book(alloc, epoch, room, words.next()?)?;
+    *book = new_book(alloc, epoch, room, contents)?;
     state_text(alloc, book)
 }
 
@@ -243,12 +244,12 @@ fn record(alloc: Global, book: &Book, id: u32) -> Option<String> {
 }
 
 fn moved(alloc: Global, book: &Book, words: &str) -> Option<String> {
-    let mut words = words.split(' ');
+    let (epoch, eid, targets) = three(words)?;
     let after = Point {
-        epoch: words.next()?.parse().ok()?,
-        eid: words.next()?.parse().ok()?,
+        epoch: epoch.parse().ok()?,
+        eid: eid.parse().ok()?,
     };
-    let targets = idents_of(alloc, words.next()?)?;
+    let targets = idents_of(alloc, targets)?;
     let moved = book.moved(after, &targets);
     String::from_str(alloc, if moved { "yes" } else { "no" }).ok()
 }
@@ -283,12 +284,12 @@ fn large_text(alloc: Global, size: u64, max: u32) -> Option<String> {
 
 /// The answer to the request of these words.
 fn answered(alloc: Global, book: &Book, words: &str) -> Option<Answer> {
-    let mut words = words.split(' ');
-    let kind = kind_of(words.next()?)?;
-    let id: u32 = words.next()?.parse().ok()?;
-    let earliest: u32 = words.next()?.parse().ok()?;
-    let most: u32 = words.next()?.parse().ok()?;
-    let targets = idents_of(alloc, words.next()?)?;
+    let (kind, id, earliest, most, targets) = five(words)?;
+    let kind = kind_of(kind)?;
+    let id = id.parse().ok()?;
+    let earliest = earliest.parse().ok()?;
+    let most = most.parse().ok()?;
+    let targets = idents_of(alloc, targets)?;
     let request = Request {
         clear: false,
         subscribe: false,

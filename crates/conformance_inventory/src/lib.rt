@@ -9,8 +9,11 @@
 //! | `book.rt` | `book` |
 //! | `log.rt` | `log` |
 //! | `mirror.rt` | `mirror` |
+//!
+//! `fields.rt` takes the words of a step apart.
 #![tactic(auto)]
 
 pub mod book;
+mod fields;
 pub mod log;
 pub mod mirror;

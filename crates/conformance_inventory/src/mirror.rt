@@ -1,5 +1,6 @@
 //! A mirror and the reports that it takes, one after another.
 
+use crate::fields::{five, four};
 use conformance_words::{action_of, kind_of, kind_word, push_text, word_list};
 use std::alloc::Global;
 use swima_model::{
@@ -40,44 +41,60 @@ fn begin(alloc: Global, mirror: &mut Mirror, kind: Kind) -> Option<String> {
 
 /// Takes an inventory of records.
 fn inventory(alloc: Global, mirror: &mut Mirror, words: &str) -> Option<String> {
-    let mut words = words.split(' ');
-    let kind = kind_of(words.next()?)?;
-    let point = point_of(words.next()?, words.next()?)?;
-    let records = records_of(alloc, words.next()?)?;
+    let (kind, epoch, eid, records) = four(words)?;
+    let point = point_of(epoch, eid)?;
+    let taken = take_inventory(mirror, kind_of(kind)?, point, records_of(alloc, records)?)?;
+    answer_text(alloc, taken, mirror)
+}
+
+/// The answer to an inventory that is lent; `None` where it has too many records for a row.
+fn take_inventory(
+    mirror: &mut Mirror,
+    kind: Kind,
+    point: Point,
+    records: Records,
+) -> Option<Taken> {
     if records.len() > MOST {
         return None;
     }
-    let report = Report::Inventory {
+    Some(mirror.take(&Report::Inventory {
         kind,
         fulfil: false,
         id: 1,
         point,
         records,
-    };
-    let taken = mirror.take(&report);
-    answer_text(alloc, taken, mirror)
+    }))
 }
 
 /// Takes events.
 fn events(alloc: Global, mirror: &mut Mirror, words: &str) -> Option<String> {
-    let mut words = words.split(' ');
-    let kind = kind_of(words.next()?)?;
-    let point = point_of(words.next()?, words.next()?)?;
-    let consulted: u32 = words.next()?.parse().ok()?;
-    let events = events_of(alloc, words.next()?)?;
+    let (kind, epoch, eid, consulted, events) = five(words)?;
+    let kind = kind_of(kind)?;
+    let point = point_of(epoch, eid)?;
+    let consulted = consulted.parse().ok()?;
+    let taken = take_events(mirror, kind, point, consulted, events_of(alloc, events)?)?;
+    answer_text(alloc, taken, mirror)
+}
+
+/// The answer to events that are given up; `None` where they are too many for a row.
+fn take_events(
+    mirror: &mut Mirror,
+    kind: Kind,
+    point: Point,
+    consulted: u32,
+    events: Events,
+) -> Option<Taken> {
     if events.len() > MOST {
         return None;
     }
-    let report = Report::Events {
+    Some(mirror.take_owned(Report::Events {
         kind,
         fulfil: false,
         id: 1,
         point,
         consulted,
         events,
-    };
-    let taken = mirror.take_owned(report);
-    answer_text(alloc, taken, mirror)
+    }))
 }
 
 /// The source of the record at the place: unless a row says another, the event identifier of the
@@ -171,12 +188,26 @@ fn set_parts(alloc: Global, content: &mut Content, word: &str) -> Option<()> {
 fn set_part(alloc: Global, content: &mut Content, part: &str) -> Option<()> {
     let (field, text) = part.split_at_checked(1)?;
     match field {
-        "s" => content.source = text.parse().ok()?,
-        "p" => content.model = model_of(text.parse().ok()?, content.model.kind)?,
-        "m" => content.model = model_of(content.model.pen, text.parse().ok()?)?,
-        "i" => content.ident = Ident::new(alloc, text.as_bytes()).ok()?,
-        "l" => content.locator = Locator::new(alloc, text.as_bytes()).ok()?,
-        "b" => content.body = Body::new(alloc, text.as_bytes()).ok()?,
+        "s" | "p" | "m" => set_number(content, field, text.parse().ok()?),
+        _ => set_octets(alloc, content, field, text.as_bytes()),
+    }
+}
+
+fn set_number(content: &mut Content, field: &str, number: u32) -> Option<()> {
+    let Model { pen, kind } = content.model;
+    match field {
+        "s" => content.source = u8::try_from(number).ok()?,
+        "p" => content.model = model_of(number, kind)?,
+        _ => content.model = model_of(pen, u8::try_from(number).ok()?)?,
+    }
+    Some(())
+}
+
+fn set_octets(alloc: Global, content: &mut Content, field: &str, octets: &[u8]) -> Option<()> {
+    match field {
+        "i" => content.ident = Ident::new(alloc, octets).ok()?,
+        "l" => content.locator = Locator::new(alloc, octets).ok()?,
+        "b" => content.body = Body::new(alloc, octets).ok()?,
         _ => return None,
     }
     Some(())

@@ -139,12 +139,10 @@ fn attr_of(alloc: Global, word: &str) -> Option<Attr>
     if vendor >= 0xff_ffff || kind == 0xffff_ffff || octets.len() > MOST {
         return None;
     }
-    let mut value = List::new(alloc);
-    value.extend(octets.as_slice()).ok()?;
     Some(Attr {
         noskip: bare.is_some(),
         vendor,
         kind,
-        value,
+        value: List::from_vec(octets),
     })
 }

@@ -150,15 +150,24 @@ pub fn feed_on(alloc: Global, words: &str) -> Option<String> {
     let (sender, pieces) = words.split_once(' ')?;
     let mut feed = BatchFeed::new(alloc, is_server(sender)?);
     let mut out = String::new(alloc);
-    for digits in pieces.split(' ') {
-        let piece = octets_of(alloc, digits)?;
-        if !out.is_empty() {
-            out.push_str("; ").ok()?;
-        }
-        push_fed(alloc, &mut out, &mut feed, piece.as_slice(), 0)?;
-        push_have(alloc, &mut out, &feed)?;
-    }
+    push_pieces(alloc, &mut out, &mut feed, pieces)?;
     Some(out)
+}
+
+fn push_pieces(alloc: Global, out: &mut String, feed: &mut BatchFeed, words: &str) -> Option<()> {
+    for digits in words.split(' ') {
+        push_piece(alloc, out, feed, digits)?;
+    }
+    Some(())
+}
+
+/// Puts what the feed answers to one piece, and how many octets it holds then, at the end of the
+/// text.
+fn push_piece(alloc: Global, out: &mut String, feed: &mut BatchFeed, digits: &str) -> Option<()> {
+    let piece = octets_of(alloc, digits)?;
+    out.push_str(if out.is_empty() { "" } else { "; " }).ok()?;
+    push_fed(alloc, out, feed, piece.as_slice(), 0)?;
+    push_have(alloc, out, feed)
 }
 
 /// `batch SENDER HEX`: the kind of the batch and its messages.
@@ -214,8 +223,10 @@ fn message_text(alloc: Global, message: &Message) -> Option<String> {
             body,
         } => {
             let flag = if *excl { "EXCL" } else { "-" };
-            let digits = digits_of(alloc, body.as_slice())?;
-            format!(in alloc; "PA {flag} {vendor} {subtype} {collector} {validator} {digits}").ok()
+            let start = format!(in alloc;
+                "PA {flag} {vendor} {subtype} {collector} {validator} "
+            ).ok()?;
+            with_digits(alloc, start, body.as_slice())
         }
         Message::Assessment(result) => format!(in alloc; "assessment {result}").ok(),
         Message::Recommendation(code) => format!(in alloc; "recommendation {code}").ok(),
@@ -226,8 +237,8 @@ fn message_text(alloc: Global, message: &Message) -> Option<String> {
             info,
         } => {
             let flag = if *fatal { "FATAL" } else { "-" };
-            let digits = digits_of(alloc, info.as_slice())?;
-            format!(in alloc; "error {flag} {vendor} {code} {digits}").ok()
+            let start = format!(in alloc; "error {flag} {vendor} {code} ").ok()?;
+            with_digits(alloc, start, info.as_slice())
         }
         Message::Frame {
             noskip,
@@ -236,10 +247,17 @@ fn message_text(alloc: Global, message: &Message) -> Option<String> {
             body,
         } => {
             let flag = if *noskip { "NOSKIP" } else { "-" };
-            let digits = digits_of(alloc, body.as_slice())?;
-            format!(in alloc; "other {flag} {vendor} {kind} {digits}").ok()
+            let start = format!(in alloc; "other {flag} {vendor} {kind} ").ok()?;
+            with_digits(alloc, start, body.as_slice())
         }
     }
+}
+
+/// The start of a text, and then octets.
+fn with_digits(alloc: Global, start: String, octets: &[u8]) -> Option<String> {
+    let mut text = start;
+    push_text(&mut text, digits_of(alloc, octets))?;
+    Some(text)
 }
 
 /// `fault_batch SENDER CODE PLACE VERSION`: the octets of the batch that reports the fault.

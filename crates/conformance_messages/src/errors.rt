@@ -1,5 +1,7 @@
 //! PA-TNC Errors (RFC 5792, section 4.2.8, and RFC 8412, section 5.15): made, written and read.
 
+ghost use Rattle.std.specs.Prelude.{◌<◌, ◌^◌, IfSome};
+
 use crate::value::placed_value;
 use conformance_words::{digits_of, eight_of, octets_of, refusal_text};
 use pa_attrs::{PaError, PaFault, read_error, write_error};
@@ -25,21 +27,26 @@ pub fn reported(alloc: Global, words: &str) -> Option<String> {
 /// `error version HEADER`, `error invalid HEADER PLACE`, `error unsupported HEADER FIRST` or
 /// `error swima CODE ID MOST`, with `-` for no limit: the Error that is made.
 pub fn error(alloc: Global, words: &str) -> Option<String> {
+    let error = made_error(alloc, words)?;
+    error_text(alloc, &error)
+}
+
+/// The Error that such words ask for.
+fn made_error(alloc: Global, words: &str) -> Option<PaError> {
     let (kind, rest) = words.split_once(' ')?;
-    let error = match kind {
-        "version" => PaError::version(alloc, eight_of(rest)?).ok()?,
+    match kind {
+        "version" => PaError::version(alloc, eight_of(rest)?).ok(),
         "invalid" => {
             let (header, place) = rest.split_once(' ')?;
-            PaError::invalid(alloc, eight_of(header)?, place.parse().ok()?).ok()?
+            PaError::invalid(alloc, eight_of(header)?, place.parse().ok()?).ok()
         }
         "unsupported" => {
             let (header, first) = rest.split_once(' ')?;
-            PaError::unsupported(alloc, eight_of(header)?, eight_of(first)?).ok()?
+            PaError::unsupported(alloc, eight_of(header)?, eight_of(first)?).ok()
         }
-        "swima" => swima_error(alloc, rest)?,
-        _ => return None,
-    };
-    error_text(alloc, &error)
+        "swima" => swima_error(alloc, rest),
+        _ => None,
+    }
 }
 
 /// The Error of the words `CODE ID MOST`.
@@ -71,19 +78,25 @@ pub fn error_read(alloc: Global, words: &str) -> Option<String> {
 
 /// `error_written VENDOR CODE INFORMATION`: the octets of the Error.
 pub fn error_written(alloc: Global, words: &str) -> Option<String> {
+    let error = error_of(alloc, words)?;
+    let written = write_error(alloc, &error).ok()?;
+    digits_of(alloc, written.as_slice())
+}
+
+/// The Error of the words `VENDOR CODE INFORMATION`.
+fn error_of(alloc: Global, words: &str) -> Option<PaError>
+    ensures vendor { IfSome result (λ error. error.vendor < 2 ^ 24) }
+{
     let (vendor, rest) = words.split_once(' ')?;
     let (code, digits) = rest.split_once(' ')?;
     let vendor: u32 = vendor.parse().ok()?;
+    let code: u32 = code.parse().ok()?;
     if vendor >= 1 << 24 {
         return None;
     }
-    let mut info = List::new(alloc);
-    info.extend(octets_of(alloc, digits)?.as_slice()).ok()?;
-    let error = PaError {
+    Some(PaError {
         vendor,
-        code: code.parse().ok()?,
-        info,
-    };
-    let written = write_error(alloc, &error).ok()?;
-    digits_of(alloc, written.as_slice())
+        code,
+        info: List::from_vec(octets_of(alloc, digits)?),
+    })
 }

@@ -29,13 +29,24 @@ pub fn stream(alloc: Global, words: &str) -> Option<String> {
 pub fn stream_on(alloc: Global, words: &str) -> Option<String> {
     let mut feed = AttrFeed::new(alloc);
     let mut out = String::new(alloc);
-    for digits in words.split(' ') {
-        let piece = octets_of(alloc, digits)?;
-        out.push_str(if out.is_empty() { "" } else { "; " }).ok()?;
-        push_fed(alloc, &mut out, &mut feed, piece.as_slice())?;
-        push_held(alloc, &mut out, &feed)?;
-    }
+    push_pieces(alloc, &mut out, &mut feed, words)?;
     Some(out)
+}
+
+fn push_pieces(alloc: Global, out: &mut String, feed: &mut AttrFeed, words: &str) -> Option<()> {
+    for digits in words.split(' ') {
+        push_piece(alloc, out, feed, digits)?;
+    }
+    Some(())
+}
+
+/// Puts what the feed answers to one piece, and how many octets it holds then, at the end of the
+/// text.
+fn push_piece(alloc: Global, out: &mut String, feed: &mut AttrFeed, digits: &str) -> Option<()> {
+    let piece = octets_of(alloc, digits)?;
+    out.push_str(if out.is_empty() { "" } else { "; " }).ok()?;
+    push_fed(alloc, out, feed, piece.as_slice())?;
+    push_held(alloc, out, feed)
 }
 
 /// `header HEX`: what the 12 octets of the header of an attribute mean.

@@ -1,7 +1,8 @@
 //! Items of CBOR: read whole, fed in pieces, copied, written, and tried for their canonical
 //! spelling.
 
-ghost use Rattle.std.specs.Prelude.{◌≤◌, ◌<◌, ◌^◌, IfSome};
+ghost use Rattle.std.specs.Prelude.{◌≤◌, ◌<◌, ◌^◌, [], IfSome};
+ghost use Rattle.cbor_det.specs.Feeding.{HasTaken};
 ghost use Rattle.cbor_det.specs.Term.{depth};
 ghost use Rattle.cbor_det.specs.View.{view};
 
@@ -93,9 +94,24 @@ fn fed_text(alloc: Global, limits: Limits, octets: &[u8], size: usize) -> Option
     requires some { 0 < size }
 {
     let mut feed = CborFeed::new(alloc, limits);
+    push_pieces(alloc, &mut feed, octets, size)
+}
+
+/// What that feed answers, which has taken nothing yet.
+fn push_pieces(
+    alloc: Global,
+    feed: &mut CborFeed,
+    octets: &[u8],
+    size: usize,
+) -> Option<(String, usize)>
+    requires begins { HasTaken feed.old [] }
+    requires small { feed.old.limits.octets ≤ 2 ^ 24 }
+    requires shallow { feed.old.limits.depth ≤ 64 }
+    requires some { 0 < size }
+{
     match feed.feed(&[]) {
         CborFed::More => {}
-        CborFed::Fault(fault) => return Some((fault_text(alloc, fault)?, 0)),
+        CborFed::Fault(fault) => return with_count(fault_text(alloc, fault), 0),
         _ => return None,
     }
     let mut taken: usize = 0;
@@ -104,10 +120,9 @@ fn fed_text(alloc: Global, limits: Limits, octets: &[u8], size: usize) -> Option
         match feed.feed(piece) {
             CborFed::More => taken = fed,
             CborFed::Done(item, used) => {
-                let text = item_text(alloc, &item, taken.saturating_add(used))?;
-                return Some((text, fed));
+                return with_count(item_text(alloc, &item, taken.saturating_add(used)), fed);
             }
-            CborFed::Fault(fault) => return Some((fault_text(alloc, fault)?, fed)),
+            CborFed::Fault(fault) => return with_count(fault_text(alloc, fault), fed),
             CborFed::Memory => return None,
         }
     }
@@ -115,7 +130,12 @@ fn fed_text(alloc: Global, limits: Limits, octets: &[u8], size: usize) -> Option
         kind: 1,
         at: octets.len() as u64,
     };
-    Some((fault_text(alloc, cut)?, octets.len()))
+    with_count(fault_text(alloc, cut), octets.len())
+}
+
+/// The text with how many octets were fed; `None` where memory ran out.
+fn with_count(text: Option<String>, fed: usize) -> Option<(String, usize)> {
+    Some((text?, fed))
 }
 
 /// The length of an item, and its canonical spelling: that of a copy.

@@ -1,19 +1,34 @@
 //! Payloads of CoSWID tags (RFC 9393, section 2.9) beside the files that they state.
 
-use cbor_det::{LARGEST, read_item};
+use cbor_det::{Item, LARGEST, read_item};
 use conformance_words::{files_of, octets_of, push_text};
-use coswid_res::{Verdict, Verdicts, payload_of, verify};
+use coswid_res::{Payload, Verdict, Verdicts, payload_of, verify};
 use std::alloc::Global;
 
 /// `verify FILES HEX`: the verdict on each file of the payload that the octets spell, with its
 /// path.
 pub fn verdicts(alloc: Global, words: &str) -> Option<String> {
     let (named, digits) = words.split_once(' ')?;
+    let verdicts = verdicts_on(alloc, &payload_in(alloc, digits)?, named)?;
+    verdicts_text(alloc, &verdicts)
+}
+
+/// The payload that the digits spell.
+fn payload_in(alloc: Global, digits: &str) -> Option<Payload> {
+    let item = item_in(alloc, digits)?;
+    payload_of(alloc, &item).ok()
+}
+
+fn item_in(alloc: Global, digits: &str) -> Option<Item> {
     let octets = octets_of(alloc, digits)?;
     let (item, _) = read_item(alloc, octets.as_slice(), LARGEST).ok()?;
-    let payload = payload_of(alloc, &item).ok()?;
-    let verdicts = verify(alloc, &payload, &mut files_of(alloc, named)?).ok()?;
-    verdicts_text(alloc, &verdicts)
+    Some(item)
+}
+
+/// The verdicts on the files that are named.
+fn verdicts_on(alloc: Global, payload: &Payload, named: &str) -> Option<Verdicts> {
+    let mut files = files_of(alloc, named)?;
+    verify(alloc, payload, &mut files).ok()
 }
 
 fn verdicts_text(alloc: Global, verdicts: &Verdicts) -> Option<String> {

@@ -37,12 +37,17 @@ fn written(alloc: Global, tag: &Tag) -> Option<String>
 pub fn text(alloc: Global, words: &str) -> Option<String> {
     let octets = octets_of(alloc, words)?;
     match read_tag(alloc, octets.as_slice()) {
-        Ok((tag, _)) => {
-            let text = tag_text(alloc, &tag).ok()?;
-            one_line(alloc, from_utf8(text.as_slice()).ok()?)
-        }
+        Ok((tag, _)) => whole_text(alloc, &tag),
         Err(refused) => refusal_text(alloc, refused),
     }
+}
+
+fn whole_text(alloc: Global, tag: &Tag) -> Option<String>
+    requires depth { depth (tag_item tag.now) ≤ 64 }
+    requires sizes { SizesFit tag.now }
+{
+    let text = tag_text(alloc, tag).ok()?;
+    one_line(alloc, from_utf8(text.as_slice()).ok()?)
 }
 
 /// `tag_summary HEX`: the lines of the tag except that of its canonical spelling, or what is wrong.
