@@ -1,218 +1,228 @@
--- Events that are put in place, one by one.
-use Rattle.std.proofs.Common.{◌≡◌, ◌⊎◌, inl, inr, ℕ, suc, ◌+◌, ◌<◌, ◌≤◌, eqb, cond, not, Bool, true, false, List, [], ◌∷◌, ◌++◌, length, get_or, take, Option, Some, None, refl, sym, ap, ◌∙◌, subst, arith, eqb-true, eq-eqb}
-use Rattle.std.specs.Prelude.{IsSome, filter, is_some, map}
-use Rattle.std.specs.Map.{set_value, values_of}
-use Rattle.std.proofs.lemmas.Bool.{cond-false, true≢false}
+-- Records that are put in place, one by one.
+use Rattle.std.proofs.Common.{◌≡◌, ◌⊎◌, inl, inr, ℕ, zero, suc, ◌+◌, ◌<◌, ◌≤◌, eqb, leb, cond, Bool, true, false, List, [], ◌∷◌, ◌++◌, length, get_or, set, take, Option, Some, None, refl, sym, ap, ◌∙◌, subst, arith, eq-eqb, eqb-true, ne_eqb}
+use Rattle.std.specs.Prelude.{◌-◌, IsSome, is_some, nat_lt, slice_get}
+use Rattle.std.specs.List.Sorted.{IsStrictlyIncreasing}
+use Rattle.std.specs.Option.{option_or}
+use Rattle.std.proofs.lemmas.Bool.{cases_lt, cond_both, cond-true, cond-false, le-leb, le-ltb, leb-true, lt-leb, true≢false}
 use Rattle.std.proofs.lemmas.List.{map-append, take_more}
-use Rattle.std.proofs.lemmas.List.Elements.{filter-append}
-use Rattle.indexmap.specs.IndexMap.{insert_entry}
-use Rattle.swima_model.specs.declared.event.Event.{Event}
+use Rattle.std.proofs.lemmas.List.Filters.{length-filter_more}
 use Rattle.swima_model.specs.declared.record.Record.{Record}
 use Rattle.swima_model.specs.InOrder.{ids}
-use Rattle.swima_model.specs.Live.{by_mention, is_deletion, live, record_of}
-use Rattle.swima_model.proofs.Living.{live_more, only_live}
-use Rattle.validator_core.specs.Further.{RiseFrom, new_ids}
-use Rattle.validator_core.specs.Gone.{NoneDeletes, NoneIsGone}
-use Rattle.validator_core.specs.Keyed.{AreBelow, AreKeyed, Entries, at, is_held, kept}
-use Rattle.validator_core.proofs.Entries.{at_cond, at_kept, found, put_last, put_there, turned}
-
--- ---- a record put in
-
-set_step : (here : Bool) (r : Record) (e : ℕ × Record) (held : Record) (es xs ys : Entries) → cond here (Some e.1) (at r.id es) ≡ Some held → (at r.id es ≡ Some held → xs ≡ ys)
-    → cond here ((e.0, r) ∷ es) (e ∷ xs) ≡ cond here ((e.0, r) ∷ es) (e ∷ ys)
-set_step true r e held es xs ys there same = refl
-set_step false r e held es xs ys there same = ap (λ (zs : Entries). e ∷ zs) (same there)
-
--- In place of the one that is there.
-pub set_is_insert : (es : Entries) (r held : Record) → at r.id es ≡ Some held → set_value (eqb r.id) es r ≡ insert_entry eqb es r.id r
-set_is_insert [] r held there = absurd cc
-set_is_insert (e ∷ es) r held there = set_step (eqb r.id e.0) r e held es (set_value (eqb r.id) es r) (insert_entry eqb es r.id r) there (set_is_insert es r held)
-
--- What stands with an identifier then.
-either_step : (b c : Bool) (r : Record) (e : ℕ × Record) (rest : Option Record) → b ≡ c → cond b (Some r) rest ≡ cond c (Some r) (cond b (Some e.1) rest)
-either_step true true r e rest s = refl
-either_step true false r e rest s = absurd (true≢false s)
-either_step false true r e rest s = absurd (true≢false (sym s))
-either_step false false r e rest s = refl
-
-other_step : (q id : ℕ) (r : Record) (e : ℕ × Record) (rest put : Option Record) (b c : Bool) → eqb q e.0 ≡ b → eqb id q ≡ c → eqb id e.0 ≡ false
-    → put ≡ cond (eqb id q) (Some r) rest → cond b (Some e.1) put ≡ cond c (Some r) (cond b (Some e.1) rest)
-other_step q id r e rest put true true qe iq is h = absurd (true≢false (sym (eq-eqb id e.0 (eqb-true id q iq ∙ eqb-true q e.0 qe)) ∙ is))
-other_step q id r e rest put true false qe iq is h = refl
-other_step q id r e rest put false true qe iq is h = h ∙ ap (λ (b : Bool). cond b (Some r) rest) iq
-other_step q id r e rest put false false qe iq is h = h ∙ ap (λ (b : Bool). cond b (Some r) rest) iq
-
-at_step : (q id : ℕ) (r : Record) (e : ℕ × Record) (rest put : Option Record) (here : Bool) → eqb id e.0 ≡ here → put ≡ cond (eqb id q) (Some r) rest
-    → cond here (cond (eqb q e.0) (Some r) rest) (cond (eqb q e.0) (Some e.1) put) ≡ cond (eqb id q) (Some r) (cond (eqb q e.0) (Some e.1) rest)
-at_step q id r e rest put true is h =
-    either_step (eqb q e.0) (eqb id q) r e rest (turned q e.0 ∙ ap (λ (n : ℕ). eqb n q) (sym (eqb-true id e.0 is)))
-at_step q id r e rest put false is h = other_step q id r e rest put (eqb q e.0) (eqb id q) refl refl is h
-
-pub at_put : (q : ℕ) (r : Record) (es : Entries) → at q (insert_entry eqb es r.id r) ≡ cond (eqb r.id q) (Some r) (at q es)
-at_put q r [] = ap (λ (b : Bool). cond b (Some r) None) (turned q r.id)
-at_put q r (e ∷ es) =
-    at_cond q (eqb r.id e.0) ((e.0, r) ∷ es) (e ∷ insert_entry eqb es r.id r)
-    ∙ at_step q r.id r e (at q es) (at q (insert_entry eqb es r.id r)) (eqb r.id e.0) refl (at_put q r es)
-
--- What is live after one event that does not delete.
-said_step : (here : Bool) (e : Event) (b : Option Record) → is_deletion e.action ≡ false → cond here (Some e.subject) b ≡ by_mention b (cond here (Some e) None)
-said_step true e b stays = sym (cond-false (is_deletion e.action) None (Some e.subject) stays)
-said_step false e b stays = refl
-
-live_put : (es now : Entries) (e : Event) → AreKeyed es → AreKeyed now → is_deletion e.action ≡ false → ((q : ℕ) → at q now ≡ cond (eqb e.subject.id q) (Some e.subject) (at q es))
-    → live (values_of es) (e ∷ []) ≡ values_of now
-live_put es now e is are stays put =
-    only_live (values_of es) (e ∷ []) (values_of now) is.rising (record {
-      rising = are.rising;
-      each = λ q.
-          sym (found q now are) ∙ put q ∙ ap (cond (eqb e.subject.id q) (Some e.subject)) (found q es is)
-          ∙ said_step (eqb e.subject.id q) e (record_of q (values_of es)) stays;
-    })
+use Rattle.swima_model.specs.Live.{record_of}
+use Rattle.swima_model.specs.Places.{IsPlaceOf}
+use Rattle.swima_model.proofs.Living.{same_records, strict_from, strict_rest}
+use Rattle.swima_model.proofs.Places.{Climbs, climbed, climbs, from_right, none_above}
+use Rattle.swima_model.proofs.Rises.{AllFrom}
+use Rattle.validator_core.specs.Further.{AreBelow, IsFurther, OthersAreHeld, from}
+use Rattle.validator_core.specs.Merged.{merged, merged_from}
+use Rattle.validator_core.proofs.Merging.{merged_of, merged_rises}
 
 -- ---- identifiers below a number
 
-below_more : (m n : ℕ) (es : Entries) → m ≤ n → AreBelow m es → AreBelow n es
+below_more : (m n : ℕ) (rs : List Record) → m ≤ n → AreBelow m rs → AreBelow n rs
 below_more m n [] le h = tt
-below_more m n (e ∷ es) le h = (omega (arith, le, h.0), below_more m n es le h.1)
+below_more m n (r ∷ rs) le h = (omega (arith, h.0, le), below_more m n rs le h.1)
 
-below_step : (n : ℕ) (here : Bool) (r : Record) (e : ℕ × Record) (es put : Entries) → AreBelow n (e ∷ es) → AreBelow n put → AreBelow n (cond here ((e.0, r) ∷ es) (e ∷ put))
-below_step n true r e es put h rest = h
-below_step n false r e es put h rest = (h.0, rest)
+module _ (n : ℕ) (r : Record) (lt : r.id < n) (later : List Record → List Record) (keeps : (hs : List Record) → AreBelow n hs → AreBelow n (later hs)) where
+  below_from : (gs : List Record) → AreBelow n gs → AreBelow n (merged_from r later gs)
+  below_from [] h = (lt, keeps [] tt)
+  below_from (g ∷ gs) h =
+      cond_both (nat_lt g.id r.id) _ _ (AreBelow n) (λ _. (h.0, below_from gs h.1)) (λ _.
+      cond_both (eqb g.id r.id) _ _ (AreBelow n) (λ _. (h.0, keeps gs h.1)) (λ _. (lt, keeps (g ∷ gs) h)))
 
-below_put : (n : ℕ) (r : Record) (es : Entries) → r.id < n → AreBelow n es → AreBelow n (insert_entry eqb es r.id r)
-below_put n r [] lt h = (lt, tt)
-below_put n r (e ∷ es) lt h = below_step n (eqb r.id e.0) r e es (insert_entry eqb es r.id r) h (below_put n r es lt h.1)
+below_merged : (n : ℕ) (rs gs : List Record) → AreBelow n rs → AreBelow n gs → AreBelow n (merged rs gs)
+below_merged n [] gs held h = h
+below_merged n (r ∷ rs) gs held h = below_from n r held.0 (merged rs) (λ hs more. below_merged n rs hs held.1 more) gs h
 
-below_held_step : (n q : ℕ) (held : Record) (e : ℕ × Record) (es : Entries) (here : Bool) → eqb q e.0 ≡ here → AreBelow n (e ∷ es)
-    → (at q es ≡ Some held → q < n) → cond here (Some e.1) (at q es) ≡ Some held → q < n
-below_held_step n q held e es true is h later there = omega (arith, eqb-true q e.0 is, h.0)
-below_held_step n q held e es false is h later there = later there
+-- All are below the number above the last.
+below_end : (rs : List Record) (i : ℕ) (last : Record) → Climbs (ids rs) → suc i ≡ length rs → slice_get rs i ≡ Some last → AreBelow (last.id + 1) rs
+below_end [] i last up len found = tt
+below_end (r ∷ []) zero last up len found =
+    let same : r ≡ last = cc in
+    (subst (λ (x : Record). r.id < x.id + 1) same (omega arith), tt)
+below_end (r ∷ []) (suc i) last up len found = absurd (omega (arith, len))
+below_end (r ∷ s ∷ rs) zero last up len found = absurd (omega (arith, len))
+below_end (r ∷ s ∷ rs) (suc i) last up len found =
+    let later : AreBelow (last.id + 1) (s ∷ rs) = below_end (s ∷ rs) i last up.1 (omega (arith, len)) found in
+    (omega (arith, up.0.0, later.0), later)
 
-below_held : (n q : ℕ) (held : Record) (es : Entries) → AreBelow n es → at q es ≡ Some held → q < n
-below_held n q held [] h there = absurd cc
-below_held n q held (e ∷ es) h there = below_held_step n q held e es (eqb q e.0) refl h (below_held n q held es h.1) there
+pub below_last : (rs : List Record) → IsStrictlyIncreasing (ids rs) → (last : Record) → slice_get rs (length rs - 1) ≡ Some last → AreBelow (last.id + 1) rs
+below_last [] up last found = tt
+below_last (r ∷ rs) up last found =
+    let end : length (r ∷ rs) - 1 ≡ length rs = omega arith in
+    below_end (r ∷ rs) (length rs) last (climbs (ids (r ∷ rs)) up) refl (subst (λ (i : ℕ). slice_get (r ∷ rs) i ≡ Some last) end found)
 
-below_kept_step : (n : ℕ) (off : Bool) (e : ℕ × Record) (es : Entries) → e.0 < n → AreBelow n es → AreBelow n (cond (not off) (e ∷ es) es)
-below_kept_step n true e es lt h = h
-below_kept_step n false e es lt h = (lt, h)
+-- ---- one record put in
 
-pub below_kept : (n : ℕ) (gone : ℕ → Bool) (es : Entries) → AreBelow n es → AreBelow n (kept gone es)
-below_kept n gone [] h = tt
-below_kept n gone (e ∷ es) h = below_kept_step n (gone e.0) e (kept gone es) h.0 (below_kept n gone es h.1)
+pub merged_none : (rs : List Record) → merged rs [] ≡ rs
+merged_none [] = refl
+merged_none (r ∷ rs) = ap (λ (l : List Record). r ∷ l) (merged_none rs)
 
--- ---- identifiers that are not held
+one_above : (g r : Record) (rs : List Record) → r.id < g.id → merged (r ∷ rs) (g ∷ []) ≡ r ∷ merged rs (g ∷ [])
+one_above g r rs lt =
+    cond-false (nat_lt g.id r.id) _ _ (le-ltb g.id r.id (omega (arith, lt))) ∙ cond-false (eqb g.id r.id) _ _ (ne_eqb g.id r.id (λ same. omega (arith, lt, same)))
 
--- They are the same where the records that are gone are dropped, if none of the events is of these.
-new_one : (held after : Bool) (id : ℕ) (ids others : List ℕ) → after ≡ held → others ≡ ids → cond (not after) (id ∷ others) others ≡ cond (not held) (id ∷ ids) ids
-new_one true true id ids others same rest = rest
-new_one true false id ids others same rest = absurd (true≢false (sym same))
-new_one false true id ids others same rest = absurd (true≢false same)
-new_one false false id ids others same rest = ap (λ (ns : List ℕ). id ∷ ns) rest
+-- After all others.
+pub put_last : (g : Record) (rs : List Record) → AreBelow g.id rs → rs ++ g ∷ [] ≡ merged rs (g ∷ [])
+put_last g [] below = refl
+put_last g (r ∷ rs) below = ap (λ (l : List Record). r ∷ l) (put_last g rs below.1) ∙ sym (one_above g r rs below.0)
 
-pub new_kept : (gone : ℕ → Bool) (es : Entries) (events : List Event) → NoneIsGone gone events → new_ids (is_held (kept gone es)) events ≡ new_ids (is_held es) events
-new_kept gone es [] none = refl
-new_kept gone es (e ∷ later) none =
-    new_one (is_held es e.subject.id) (is_held (kept gone es) e.subject.id) e.subject.id (new_ids (is_held es) later) (new_ids (is_held (kept gone es)) later)
-    (ap is_some (at_kept e.subject.id gone es ∙ cond-false (gone e.subject.id) None (at e.subject.id es) none.0)) (new_kept gone es later none.1)
+-- In place of the one that is there.
+there_from : (g held : Record) (before after : List Record) → held.id ≡ g.id → Climbs (ids (before ++ held ∷ after)) → before ++ g ∷ after ≡ merged (before ++ held ∷ after) (g ∷ [])
+there_from g held [] after same up =
+    ap (λ (l : List Record). g ∷ l) (sym (merged_none after)) ∙ sym (cond-true (eqb g.id held.id) _ _ (eq-eqb g.id held.id (sym same)))
+    ∙ sym (cond-false (nat_lt g.id held.id) _ _ (le-ltb g.id held.id (omega (arith, same))))
+there_from g held (r ∷ before) after same up =
+    let above : AllFrom (suc r.id) (ids before ++ held.id ∷ ids after) =
+    subst (AllFrom (suc r.id)) (map-append (λ (x : Record). x.id) before (held ∷ after)) up.0 in
+    ap (λ (l : List Record). r ∷ l) (there_from g held before after same up.1)
+    ∙ sym (one_above g r (before ++ held ∷ after) (omega (arith, same, (from_right (suc r.id) (ids before) (held.id ∷ ids after) above).0)))
 
--- Numbers that rise from one number on, and are below another.
-abbrev pub RiseTo : ℕ → ℕ → List ℕ → Type 0
-RiseTo n m [] = n ≤ m
-RiseTo n m (x ∷ xs) = (n ≤ x) × RiseTo (suc x) m xs
+pub put_there : (g held : Record) (before after : List Record) → held.id ≡ g.id → IsStrictlyIncreasing (ids (before ++ held ∷ after))
+    → before ++ g ∷ after ≡ merged (before ++ held ∷ after) (g ∷ [])
+put_there g held before after same up = there_from g held before after same (climbs (ids (before ++ held ∷ after)) up)
 
-pub rise_from : (n m : ℕ) (xs : List ℕ) → RiseTo n m xs → RiseFrom n xs
-rise_from n m [] h = tt
-rise_from n m (x ∷ xs) h = (h.0, rise_from (suc x) m xs h.1)
+-- At the place of its identifier, or at the end where that has none.
+seam : (g held : Record) (before after : List Record) → set (before ++ held ∷ after) (length before) g ≡ before ++ g ∷ after
+seam g held [] after = refl
+seam g held (r ∷ before) after = ap (λ (l : List Record). r ∷ l) (seam g held before after)
 
-pub rise_push : (n m x : ℕ) (xs : List ℕ) → RiseTo n m xs → m ≤ x → RiseTo n (x + 1) (xs ++ x ∷ [])
-rise_push n m x [] h le = (omega (arith, h, le), omega arith)
-rise_push n m x (y ∷ xs) h le = (h.0, rise_push (suc y) m x xs h.1 le)
+pub put_at : (rs : List Record) (place : ℕ) (g : Record) → IsStrictlyIncreasing (ids rs) → IsPlaceOf rs g.id (Some place) → set rs place g ≡ merged rs (g ∷ [])
+put_at rs place g up (before, held, after, is, at, same) =
+    ap (λ (l : List Record). set l place g) is ∙ ap (λ (k : ℕ). set (before ++ held ∷ after) k g) at ∙ seam g held before after
+    ∙ put_there g held before after same (subst (λ (l : List Record). IsStrictlyIncreasing (ids l)) is up)
+    ∙ ap (λ (l : List Record). merged l (g ∷ [])) (sym is)
 
--- One event more.
-module _ (held : ℕ → Bool) (events : List Event) (i : ℕ) (event : Event) (within : i < length events) (is : event ≡ get_or events i event) where
-  more_ids : new_ids held (take (i + 1) events) ≡ new_ids held (take i events) ++ new_ids held (event ∷ [])
-  more_ids =
-      ap (new_ids held) (take_more events i event within ∙ ap (λ (e : Event). take i events ++ e ∷ []) (sym is))
-      ∙ ap (filter (λ (id : ℕ). not (held id))) (map-append (λ (e : Event). e.subject.id) (take i events) (event ∷ []))
-      ∙ filter-append (λ (id : ℕ). not (held id)) (map (λ (e : Event). e.subject.id) (take i events)) (event.subject.id ∷ [])
-
-  pub new_more : held event.subject.id ≡ false → new_ids held (take (i + 1) events) ≡ new_ids held (take i events) ++ event.subject.id ∷ []
-  new_more none = more_ids ∙ ap (λ (b : Bool). new_ids held (take i events) ++ cond (not b) (event.subject.id ∷ []) []) none
-
--- ---- event by event
-
--- What holds while events are put in: `base` are the records before them, `now` those after some of
--- them, and `rest` the events that are left.
-pub record Puts (base now : Entries) (rest : List Event) (spare : ℕ) : Type 0 where
-  pub keyed : AreKeyed now
-  pub held : (id : ℕ) → is_held base id ≡ true → is_held now id ≡ true
-  pub stay : NoneDeletes rest
-  pub next : ℕ
-  pub below : AreBelow next now
-  pub rise : RiseFrom next (new_ids (is_held base) rest)
-  pub room : length (new_ids (is_held base) rest) ≤ spare
-
--- The first event is of a record that is held, or of the next that is not.
-abbrev First : Bool → ℕ → ℕ → ℕ → List ℕ → Type 0
-First held next spare id ids = ((held ≡ true) × (RiseFrom next ids × (length ids ≤ spare))) ⊎ ((next ≤ id) × (RiseFrom (suc id) ids × (length ids + 1 ≤ spare)))
-
-first_step : (held : Bool) (next spare id : ℕ) (ids : List ℕ) → RiseFrom next (cond (not held) (id ∷ ids) ids) → length (cond (not held) (id ∷ ids) ids) ≤ spare → First held next spare id ids
-first_step true next spare id ids rise room = inl (refl, (rise, room))
-first_step false next spare id ids rise room = inr (rise.0, (rise.1, omega (arith, room)))
-
-first_of : (base now : Entries) (e : Event) (rest : List Event) (spare : ℕ) (h : Puts base now (e ∷ rest) spare) → First (is_held base e.subject.id) h.next spare e.subject.id (new_ids (is_held base) rest)
-first_of base now e rest spare h = first_step (is_held base e.subject.id) h.next spare e.subject.id (new_ids (is_held base) rest) h.rise h.room
-
-held_some : (o : Option Record) → is_some o ≡ true → (r : Record) × (o ≡ Some r)
-held_some None is = absurd (true≢false (sym is))
-held_some (Some r) is = (r, refl)
-
-still_held : (here : Bool) (r : Record) (o : Option Record) → is_some o ≡ true → is_some (cond here (Some r) o) ≡ true
-still_held true r o is = refl
-still_held false r o is = is
-
--- There is a place for its record.
-pub put_fits : (base now : Entries) (e : Event) (rest : List Event) (spare : ℕ) → Puts base now (e ∷ rest) spare → IsSome (at e.subject.id now) ⊎ (0 < spare)
-put_fits base now e rest spare h = elim (first_of base now e rest spare h) [
-  | inl there ↦ inl (h.held e.subject.id there.0)
-  | inr new ↦ inr (omega (arith, new.1.1))
+pub put_new : (rs after : List Record) (g : Record) {P : Type 0} → IsPlaceOf rs g.id None → IsSome (record_of g.id rs) ⊎ (AreBelow g.id rs × P) → after ≡ rs ++ g ∷ []
+    → after ≡ merged rs (g ∷ [])
+put_new rs after g none fits put = elim fits [
+  | inl some ↦ absurd (true≢false (sym some ∙ ap is_some none))
+  | inr last ↦ put ∙ put_last g rs last.0
 ]
 
--- What holds after it, and what is live.
-module _ (base now after : Entries) (e : Event) (rest : List Event) (spare left : ℕ) (h : Puts base now (e ∷ rest) spare)
-    (put : after ≡ insert_entry eqb now e.subject.id e.subject) (room : spare ≤ left + 1) (same_room : IsSome (at e.subject.id now) → spare ≤ left) where
-  each : (q : ℕ) → at q after ≡ cond (eqb e.subject.id q) (Some e.subject) (at q now)
-  each q = ap (at q) put ∙ at_put q e.subject now
+-- Those of a list one by one.
+pub one_rises : (g : Record) → IsStrictlyIncreasing (ids (g ∷ []))
+one_rises g = climbed (g.id ∷ []) (tt, tt)
 
-  still : (q : ℕ) → is_held base q ≡ true → is_held after q ≡ true
-  still q is = ap is_some (each q) ∙ still_held (eqb e.subject.id q) e.subject (at q now) (h.held q is)
+twice_step : (here : Bool) (g : Record) (later held : Option Record) → (here ≡ true → later ≡ None)
+    → option_or later (option_or (cond here (Some g) None) held) ≡ option_or (cond here (Some g) later) held
+twice_step true g later held none = ap (λ (o : Option Record). option_or o (Some g)) (none refl)
+twice_step false g later held none = refl
 
-  pub goes_on : Puts base after rest left
-  goes_on = elim (first_of base now e rest spare h) [
-    | inl there ↦
-        let held = held_some (at e.subject.id now) (h.held e.subject.id there.0) in
-        record {
-          keyed = subst AreKeyed (sym put) (put_there e.subject held.0 now held.1 h.keyed);
-          held = still;
-          stay = h.stay.1;
-          next = h.next;
-          below = subst (AreBelow h.next) (sym put) (below_put h.next e.subject now (below_held h.next e.subject.id held.0 now h.below held.1) h.below);
-          rise = there.1.0;
-          room = omega (arith, there.1.1, same_room (h.held e.subject.id there.0));
-        }
-    | inr new ↦ record {
-      keyed = subst AreKeyed (sym put) (put_last e.subject now (below_more h.next e.subject.id now new.0 h.below) h.keyed);
-      held = still;
-      stay = h.stay.1;
-      next = suc e.subject.id;
-      below = subst (AreBelow (suc e.subject.id)) (sym put)
-          (below_put (suc e.subject.id) e.subject now (omega arith) (below_more h.next (suc e.subject.id) now (omega (arith, new.0)) h.below));
-      rise = new.1.0;
-      room = omega (arith, new.1.1, room);
-    }
+none_later : (q : ℕ) (g : Record) (rest : List Record) → IsStrictlyIncreasing (ids (g ∷ rest)) → eqb g.id q ≡ true → record_of q rest ≡ None
+none_later q g rest up here =
+    subst (λ (k : ℕ). record_of k rest ≡ None) (eqb-true g.id q here) (none_above g.id (suc g.id) rest (omega arith) (strict_from g.id (ids rest) up))
+
+pub merged_twice : (base : List Record) (g : Record) (rest : List Record) → IsStrictlyIncreasing (ids base) → IsStrictlyIncreasing (ids (g ∷ rest))
+    → merged (merged base (g ∷ [])) rest ≡ merged base (g ∷ rest)
+merged_twice base g rest rising up =
+    let now : List Record = merged base (g ∷ []) in
+    let one : IsStrictlyIncreasing (ids now) = merged_rises base (g ∷ []) rising (one_rises g) in
+    let later : IsStrictlyIncreasing (ids rest) = strict_rest g.id (ids rest) up in
+    same_records (merged now rest) (merged base (g ∷ rest)) (merged_rises now rest one later) (merged_rises base (g ∷ rest) rising up)
+    (λ q.
+    merged_of now rest one later q ∙ ap (option_or (record_of q rest)) (merged_of base (g ∷ []) rising (one_rises g) q)
+    ∙ twice_step (eqb g.id q) g (record_of q rest) (record_of q base) (none_later q g rest up)
+    ∙ sym (merged_of base (g ∷ rest) rising up q))
+
+-- ---- those that come after all that are held
+
+from_first : (n : ℕ) (g : Record) (rest : List Record) → n ≤ g.id → from n (g ∷ rest) ≡ g ∷ from n rest
+from_first n g rest le = cond-true (leb n g.id) _ _ (le-leb n g.id le)
+
+from_other : (n : ℕ) (g : Record) (rest : List Record) → g.id < n → from n (g ∷ rest) ≡ from n rest
+from_other n g rest lt = cond-false (leb n g.id) _ _ (lt-leb n g.id lt)
+
+fewer_step : (a b : Bool) (r : Record) (xs ys : List Record) → (a ≡ true → b ≡ true) → length xs ≤ length ys → length (cond a (r ∷ xs) xs) ≤ length (cond b (r ∷ ys) ys)
+fewer_step true true r xs ys more le = omega (arith, le)
+fewer_step true false r xs ys more le = absurd (true≢false (sym (more refl)))
+fewer_step false true r xs ys more le = omega (arith, le)
+fewer_step false false r xs ys more le = le
+
+fewer : (m n : ℕ) (rs : List Record) → m ≤ n → length (from n rs) ≤ length (from m rs)
+fewer m n [] le = omega arith
+fewer m n (r ∷ rs) le =
+    fewer_step (leb n r.id) (leb m r.id) r (from n rs) (from m rs) (λ is. le-leb m r.id (omega (arith, le, leb-true n r.id is))) (fewer m n rs le)
+
+some_or : (x o : Option Record) → IsSome o → IsSome (option_or x o)
+some_or None o is = is
+some_or (Some r) o is = refl
+
+others_same : (held after : List Record) (n : ℕ) (rs : List Record) → ((q : ℕ) → IsSome (record_of q held) → IsSome (record_of q after))
+    → OthersAreHeld held n rs → OthersAreHeld after n rs
+others_same held after n [] more h = tt
+others_same held after n (r ∷ rs) more h = (elim h.0 [ inl some ↦ inl (more r.id some) | inr le ↦ inr le ], others_same held after n rs more h.1)
+
+others_above : (after : List Record) (n : ℕ) (rs : List Record) → AllFrom n (ids rs) → OthersAreHeld after n rs
+others_above after n [] up = tt
+others_above after n (r ∷ rs) up = (inr up.0, others_above after n rs up.1)
+
+others_push : (held : List Record) (n : ℕ) (rs : List Record) (r : Record) → OthersAreHeld held n rs → IsSome (record_of r.id held) ⊎ (n ≤ r.id)
+    → OthersAreHeld held n (rs ++ r ∷ [])
+others_push held n [] r h next = (next, tt)
+others_push held n (s ∷ rs) r h next = (h.0, others_push held n rs r h.1 next)
+
+-- One more of the given records is gone over.
+some_cond : (here : Bool) (r : Record) (o : Option Record) → IsSome o → IsSome (cond here (Some r) o)
+some_cond true r o is = refl
+some_cond false r o is = is
+
+some_there : (held : Record) (before after : List Record) → IsSome (record_of held.id (before ++ held ∷ after))
+some_there held [] after = ap is_some (cond-true (eqb held.id held.id) (Some held) (record_of held.id after) (eq-eqb held.id held.id refl))
+some_there held (r ∷ before) after = some_cond (eqb r.id held.id) r (record_of held.id (before ++ held ∷ after)) (some_there held before after)
+
+pub place_some : (rs : List Record) (id : ℕ) (found : Option ℕ) → IsPlaceOf rs id found → is_some found ≡ true → IsSome (record_of id rs)
+place_some rs id None is some = absurd (true≢false (sym some))
+place_some rs id (Some place) (before, held, after, is, at, same) some =
+    subst (λ (l : List Record). IsSome (record_of id l)) (sym is) (subst (λ (k : ℕ). IsSome (record_of k (before ++ held ∷ after))) same (some_there held before after))
+
+module _ (held given : List Record) (n i : ℕ) (r : Record) (within : i < length given) (is : r ≡ get_or given i r) where
+  pub others_on : OthersAreHeld held n (take i given) → IsSome (record_of r.id held) ⊎ (n ≤ r.id) → OthersAreHeld held n (take (i + 1) given)
+  others_on h next =
+      subst (OthersAreHeld held n) (sym (take_more given i r within ∙ ap (λ (x : Record). take i given ++ x ∷ []) (sym is)))
+      (others_push held n (take i given) r h next)
+
+  pub counted_on : (first : Bool) → leb n r.id ≡ first → length (from n (take (i + 1) given)) ≡ length (from n (take i given)) + cond first 1 0
+  counted_on first e =
+      length-filter_more (λ (x : Record). leb n x.id) given i r within
+      ∙ ap (λ (x : Record). length (from n (take i given)) + cond (leb n x.id) 1 0) (sym is)
+      ∙ ap (λ (b : Bool). length (from n (take i given)) + cond b 1 0) e
+
+-- The next of the given records.
+module _ (held : List Record) (g : Record) (rest : List Record) (count len capacity : ℕ) (h : IsFurther held (g ∷ rest) count) (room : len + count ≤ capacity) where
+  pub put_fits : IsSome (record_of g.id held) ⊎ (AreBelow g.id held × (len < capacity))
+  put_fits = elim h.others.0 [
+    | inl some ↦ inl some
+    | inr le ↦ inr (below_more h.next g.id held le h.below, omega (arith, room, h.counted, ap length (from_first h.next g rest le)))
   ]
 
-  pub live_on : live (values_of after) rest ≡ live (values_of now) (e ∷ rest)
-  live_on =
-      ap (λ (rs : List Record). live rs rest) (sym (live_put now after e h.keyed goes_on.keyed h.stay.0 each))
-      ∙ live_more (values_of now) (e ∷ []) rest h.keyed.rising
+  -- What holds after it.
+  module _ (after : List Record) (now capacity_now : ℕ) (rising : IsStrictlyIncreasing (ids held)) (up : IsStrictlyIncreasing (ids (g ∷ rest))) (put : after ≡ merged held (g ∷ []))
+      (same : IsSome (record_of g.id held) → now ≡ len) (more : now ≤ len + 1) (wider : capacity ≤ capacity_now) where
+    still : (q : ℕ) → IsSome (record_of q held) → IsSome (record_of q after)
+    still q some =
+        subst IsSome (sym (ap (record_of q) put ∙ merged_of held (g ∷ []) rising (one_rises g) q))
+        (some_or (record_of q (g ∷ [])) (record_of q held) some)
+
+    below : (n : ℕ) → h.next ≤ n → g.id < n → AreBelow n after
+    below n le lt = subst (AreBelow n) (sym put) (below_merged n held (g ∷ []) (below_more h.next n held le h.below) (lt, tt))
+
+    pub goes_on : (left : ℕ) × IsFurther after rest left × (now + left ≤ capacity_now)
+    goes_on = elim (cases_lt g.id h.next) [
+      | inl lt ↦
+          let there : IsSome (record_of g.id held) = elim h.others.0 [ inl some ↦ some | inr le ↦ absurd (omega (arith, lt, le)) ] in (
+            length (from h.next rest),
+            record { next = h.next; below = below h.next (omega arith) lt; others = others_same held after h.next rest still h.others.1; counted = refl },
+            omega (arith, room, wider, same there, h.counted, ap length (from_other h.next g rest lt)),
+          )
+      | inr le ↦ (
+        length (from (suc g.id) rest),
+        record {
+          next = suc g.id;
+          below = below (suc g.id) (omega (arith, le)) (omega arith);
+          others = others_above after (suc g.id) rest (strict_from g.id (ids rest) up);
+          counted = refl;
+        },
+        omega (arith, room, wider, more, h.counted, ap length (from_first h.next g rest le), fewer h.next (suc g.id) rest (omega (arith, le))),
+      )
+    ]

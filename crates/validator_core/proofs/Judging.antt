@@ -1,8 +1,7 @@
 -- Where a mirror stands after an answer, and what it holds.
 use Rattle.std.proofs.Common.{◌≡◌, ℕ, eqb, leb, ltb, cond, false, not, List, [], length, Option, Some, None, refl, sym, ap, ◌∙◌, subst, arith, eqb-true, ltb-false}
-use Rattle.std.specs.Map.{values_of}
 use Rattle.std.proofs.lemmas.Bool.{cond_both, not-false, or_parts}
-use Rattle.std.proofs.lemmas.List.{length-map}
+use Rattle.std.specs.List.Sorted.{IsStrictlyIncreasing}
 use Rattle.std.proofs.lemmas.List.Sorted.{sum_by-IsPermutation}
 use Rattle.swima_model.specs.Doubled.{doubled}
 use Rattle.swima_model.specs.InOrder.{ids, in_order}
@@ -21,7 +20,6 @@ use Rattle.validator_core.specs.declared.mirror.Taken.TheVariants as taken
 use Rattle.validator_core.specs.Following.{events_above, first_misfit, gap}
 use Rattle.validator_core.specs.Held.{Held}
 use Rattle.validator_core.specs.Kept.{IsRising, JudgeKeepsRising}
-use Rattle.validator_core.specs.Keyed.{AreKeyed, Entries}
 use Rattle.validator_core.specs.Weighed.{AreWeighed}
 use Rattle.validator_core.specs.Judge.{Judged, StandsAt, is_stale, judge, judge_above, judge_events, judge_events_at, judge_inventory, judge_numbered, judge_records, marked, same_kind}
 use Rattle.validator_core.proofs.Misfits.{IsMisfit, IsMisfitIfAny, misfit_after}
@@ -152,20 +150,13 @@ judge_keeps_rising mirror (Events kind fulfil id point consulted events) up =
     (λ held _ _. live_rises mirror.records (events_above held.eid events) up)
 
 -- Records that are not too many fit into a mirror in their order.
-pub weighed_in_order : (records : List Record) (entries : Entries) (count octets : ℕ) → count ≡ length records → octets ≡ records_octets records → is_large count octets ≡ false
-    → AreKeyed entries → values_of entries ≡ in_order records → AreWeighed entries octets
-weighed_in_order records entries count octets counted weighed fits keyed order =
+pub weighed_in_order : (records ordered : List Record) (count octets : ℕ) → count ≡ length records → octets ≡ records_octets records → is_large count octets ≡ false
+    → doubled (ids records) ≡ None → ordered ≡ in_order records → AreWeighed ordered octets
+weighed_in_order records ordered count octets counted weighed fits distinct order =
     let both = or_parts (ltb 65536 count) (ltb 268435456 octets) fits in
     record {
-      keyed = keyed;
-      few = omega (
-        arith,
-        ltb-false 65536 count both.0,
-        counted,
-        length_in_order records,
-        ap (λ (rs : List Record). length rs) order,
-        length-map entries (λ (e : ℕ × Record). e.1),
-      );
+      rising = subst (λ (rs : List Record). IsStrictlyIncreasing (ids rs)) (sym order) ((in_order_rising_permutation records).strict distinct);
+      few = omega (arith, ltb-false 65536 count both.0, counted, length_in_order records, ap (λ (rs : List Record). length rs) order);
       counted =
           weighed ∙ sym (sum_by-IsPermutation (λ (r : Record). content_octets r.content) records (in_order records) (in_order_permutation records))
           ∙ ap records_octets (sym order);

@@ -1,5 +1,5 @@
 pub mod Again
-pub mod Entries
+pub mod Dropping
 pub mod Epochs
 pub mod Gaps
 pub mod Growing
@@ -11,5 +11,4 @@ pub mod Misfits
 pub mod Numbered
 pub mod Recovering
 pub mod Righting
-pub mod Staying
 pub mod Tallying

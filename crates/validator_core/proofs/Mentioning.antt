@@ -3,9 +3,10 @@ use Rattle.std.proofs.Common.{◌≡◌, ℕ, zero, suc, ◌≤◌, eqb, cond, �
 use Rattle.std.specs.Prelude.{reverse}
 use Rattle.std.specs.List.{Contains}
 use Rattle.std.specs.List.Sorted.{IsPermutation, IsStrictlyIncreasing}
-use Rattle.std.specs.Ordering.{nat_cmp, is_eq}
-use Rattle.std.proofs.lemmas.Bool.{cond-true, cond-false, or_from}
-use Rattle.std.proofs.lemmas.Bool.Decides.{nat_tests}
+use Rattle.std.specs.BTreeMap.{is_at}
+use Rattle.std.specs.BTreeSet.{BTreeSet, contains}
+use Rattle.std.specs.Ordering.{nat_cmp}
+use Rattle.std.proofs.lemmas.Bool.{cond-true, cond-false}
 use Rattle.std.proofs.lemmas.Grind.{reverse_onto}
 use Rattle.std.proofs.lemmas.List.Sorted.{Contains-permutation, IsPermutation-reverse, IsPermutation-append_right, IsPermutation-trans, IsPermutation-sym, IsPermutation-map}
 use Rattle.swima_model.specs.declared.event.Event.{Event}
@@ -16,6 +17,11 @@ use Rattle.swima_model.proofs.Living.{live_rises, once_strict, same_records, str
 use Rattle.swima_model.proofs.Placing.{in_order_permutation}
 use Rattle.swima_model.proofs.Repeats.{times_permuted}
 use Rattle.swima_model.proofs.Rises.{AllFrom, Rises, strictly}
+use Rattle.validator_core.specs.declared.mentions.Mentions.{Mentions}
+use Rattle.validator_core.specs.Gone.{is_gone}
+use Rattle.validator_core.specs.Mentions.{AreOf}
+use Rattle.validator_core.proofs.Dropping.{mentioned_again, mentioned_first, not_gone_yet}
+use Rattle.validator_core.proofs.Tallying.{at_eqb}
 
 -- ---- records in another order
 
@@ -85,15 +91,59 @@ live_in_any_order base events ordered up moved down =
 
 -- ---- one mention more
 
--- Two numbers compare equal exactly where they are one.
+-- An event before others, and the identifiers that are mentioned then.
+module _ (event : Event) (later : List Event) (old : Mentions) (now : BTreeSet ℕ) (are : AreOf later old)
+    (updates : (id : ℕ) → contains nat_cmp now id ≡ cond (is_at (nat_cmp event.subject.id) id) true (contains nat_cmp old.ids id)) where
+  either_step : (here said : Bool) → cond here true said ≡ (here || said)
+  either_step true said = refl
+  either_step false said = refl
 
-pub at_eqb : (m n : ℕ) → is_eq (nat_cmp m n) ≡ eqb m n
-at_eqb m n = grind (arith, nat_tests)
+  mentioned : (id : ℕ) → contains nat_cmp now id ≡ is_mentioned id (event ∷ later)
+  mentioned id =
+      updates id ∙ ap₂ (λ (here said : Bool). cond here true said) (at_eqb event.subject.id id) (are.ids id)
+      ∙ either_step (eqb event.subject.id id) (is_mentioned id later)
 
--- What the last mention says of a record, after what those after it say.
-pub said_earlier : (event : Event) (later : List Event) (said after : List Record) (copy : Record) → is_mentioned event.subject.id later ≡ false → is_deletion event.action ≡ false
-    → said ≡ reverse (last_mentions later) → copy ≡ event.subject → after ≡ said ++ copy ∷ [] → after ≡ reverse (last_mentions (event ∷ later))
-said_earlier event later said after copy apart stays is same pushed =
-    let first : last_mentions (event ∷ later) ≡ event.subject ∷ last_mentions later =
-    cond-false (is_mentioned event.subject.id later || is_deletion event.action) (last_mentions later) (event.subject ∷ last_mentions later) (or_from _ _ apart stays) in
-    pushed ∙ ap₂ (λ (rs : List Record) (r : Record). rs ++ r ∷ []) is same ∙ sym (reverse_onto (last_mentions later) event.subject []) ∙ ap reverse (sym first)
+  -- What the last mentions say, where its record is mentioned or not, and it deletes this or not.
+  says : (said gone : Bool) → is_mentioned event.subject.id later ≡ said → is_deletion event.action ≡ gone
+      → last_mentions (event ∷ later) ≡ cond (said || gone) (last_mentions later) (event.subject ∷ last_mentions later)
+  says said gone is deletes = ap₂ (λ (m d : Bool). cond (m || d) (last_mentions later) (event.subject ∷ last_mentions later)) is deletes
+
+  -- Its record is mentioned already.
+  pub again : (after : Mentions) → contains nat_cmp old.ids event.subject.id ≡ true → after.ids ≡ now → after.gone ≡ old.gone → after.last.items ≡ old.last.items
+      → AreOf (event ∷ later) after
+  again after there ids gone last =
+      let said : is_mentioned event.subject.id later ≡ true = sym (are.ids event.subject.id) ∙ there in
+      record {
+        ids = λ id. ap (λ (set : BTreeSet ℕ). contains nat_cmp set id) ids ∙ mentioned id;
+        gone = λ id. ap (λ (set : BTreeSet ℕ). contains nat_cmp set id) gone ∙ are.gone id ∙ ap is_gone (sym (mentioned_again id event later said));
+        last = last ∙ are.last ∙ ap reverse (sym (says true (is_deletion event.action) said refl));
+      }
+
+  -- It is the last mention of its record, and deletes this.
+  pub deleted : (after : Mentions) → contains nat_cmp old.ids event.subject.id ≡ false → is_deletion event.action ≡ true → after.ids ≡ now
+      → ((id : ℕ) → contains nat_cmp after.gone id ≡ cond (is_at (nat_cmp event.subject.id) id) true (contains nat_cmp old.gone id)) → after.last.items ≡ old.last.items
+      → AreOf (event ∷ later) after
+  deleted after new deletes ids gone last =
+      let unsaid : is_mentioned event.subject.id later ≡ false = sym (are.ids event.subject.id) ∙ new in
+      record {
+        ids = λ id. ap (λ (set : BTreeSet ℕ). contains nat_cmp set id) ids ∙ mentioned id;
+        gone = λ id.
+            gone id ∙ ap₂ (λ (here off : Bool). cond here true off) (at_eqb event.subject.id id) (are.gone id)
+            ∙ sym (mentioned_first id event later true deletes unsaid);
+        last = last ∙ are.last ∙ ap reverse (sym (says false true unsaid deletes));
+      }
+
+  -- It is the last mention of its record, and says what is to be held of this.
+  pub given : (after : Mentions) → contains nat_cmp old.ids event.subject.id ≡ false → is_deletion event.action ≡ false → after.ids ≡ now → after.gone ≡ old.gone
+      → after.last.items ≡ old.last.items ++ event.subject ∷ [] → AreOf (event ∷ later) after
+  given after new stays ids gone last =
+      let unsaid : is_mentioned event.subject.id later ≡ false = sym (are.ids event.subject.id) ∙ new in
+      record {
+        ids = λ id. ap (λ (set : BTreeSet ℕ). contains nat_cmp set id) ids ∙ mentioned id;
+        gone = λ id.
+            ap (λ (set : BTreeSet ℕ). contains nat_cmp set id) gone ∙ are.gone id ∙ not_gone_yet id event.subject.id later unsaid
+            ∙ sym (mentioned_first id event later false stays unsaid);
+        last =
+            last ∙ ap (λ (rs : List Record). rs ++ event.subject ∷ []) are.last ∙ sym (reverse_onto (last_mentions later) event.subject [])
+            ∙ ap reverse (sym (says false false unsaid stays));
+      }

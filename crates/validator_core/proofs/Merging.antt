@@ -1,21 +1,16 @@
 -- Records that are held and records that are given, in one order of identifier.
-use Rattle.std.proofs.Common.{◌≡◌, ℕ, suc, ◌+◌, ◌<◌, ◌≤◌, eqb, cond, Bool, true, false, List, [], ◌∷◌, ◌++◌, length, Option, Some, None, refl, sym, ap, ◌∙◌, subst, arith, eqb-true, ltb-true, ltb-false}
+use Rattle.std.proofs.Common.{◌≡◌, ℕ, suc, ◌≤◌, eqb, cond, Bool, true, false, List, [], ◌∷◌, ◌++◌, Option, Some, None, refl, sym, ap, ◌∙◌, subst, append_assoc, arith, eqb-true, ltb-true, ltb-false}
 use Rattle.std.specs.Prelude.{nat_lt, reverse}
+use Rattle.std.specs.Option.{option_or}
 use Rattle.std.specs.List.Sorted.{IsStrictlyIncreasing}
-use Rattle.std.proofs.lemmas.Bool.{cond_both, cond-true, cond-false, eqb-false, true≢false}
+use Rattle.std.proofs.lemmas.Bool.{cond_both, cond-true, eqb-false, true≢false}
 use Rattle.std.proofs.lemmas.List.{reverse-append}
-use Rattle.indexmap.specs.IndexMap.{insert_entry}
-use Rattle.swima_model.specs.declared.event.Event.{Event}
 use Rattle.swima_model.specs.declared.record.Record.{Record}
 use Rattle.swima_model.specs.InOrder.{ids}
-use Rattle.swima_model.specs.Live.{by_mention, is_deletion, last_mention, later_or, live, record_of}
-use Rattle.swima_model.proofs.Living.{live_of, live_rises, only_live}
-use Rattle.swima_model.proofs.Places.{Climbs, climbed, climbs, none_above}
+use Rattle.swima_model.specs.Live.{record_of}
+use Rattle.swima_model.proofs.Places.{Climbs, climbed, climbs, none_above, none_or}
 use Rattle.swima_model.proofs.Rises.{AllFrom, from_lower}
-use Rattle.validator_core.specs.Gone.{NoneDeletes, is_gone}
-use Rattle.validator_core.specs.Keyed.{Entries}
-use Rattle.validator_core.specs.Merged.{Filled, is_below, merged, merged_from}
-use Rattle.validator_core.proofs.Entries.{filled_one, from_zero}
+use Rattle.validator_core.specs.Merged.{is_below, merged, merged_from}
 
 -- ---- records that rise
 
@@ -31,6 +26,10 @@ up_rest n r rs up = (up.1.0, up.1.1)
 
 up_from : (m n : ℕ) (rs : List Record) → m ≡ n → Up (suc m) rs → Up (suc n) rs
 up_from m n rs same up = subst (λ (k : ℕ). Up (suc k) rs) same up
+
+from_zero : (ns : List ℕ) → AllFrom 0 ns
+from_zero [] = tt
+from_zero (n ∷ ns) = (omega arith, from_zero ns)
 
 up_strict : (rs : List Record) → IsStrictlyIncreasing (ids rs) → Up 0 rs
 up_strict rs up = (from_zero (ids rs), climbs (ids rs) up)
@@ -56,38 +55,30 @@ merged_up n (r ∷ rs) gs held up = from_up r (merged rs) (λ hs more. merged_up
 
 -- ---- the record of an identifier
 
-abbrev either : Option Record → Option Record → Option Record
-either (Some r) other = Some r
-either None other = other
-
-either_none : (o : Option Record) → o ≡ either o None
-either_none None = refl
-either_none (Some r) = refl
-
-either_cond : (b : Bool) (g : Record) (x y : Option Record) → cond b (Some g) (either x y) ≡ either (cond b (Some g) x) y
+either_cond : (b : Bool) (g : Record) (x y : Option Record) → cond b (Some g) (option_or x y) ≡ option_or (cond b (Some g) x) y
 either_cond true g x y = refl
 either_cond false g x y = refl
 
-same_cond : (b c : Bool) (g r : Record) (x y : Option Record) → b ≡ c → cond b (Some g) (either x y) ≡ either (cond b (Some g) x) (cond c (Some r) y)
+same_cond : (b c : Bool) (g r : Record) (x y : Option Record) → b ≡ c → cond b (Some g) (option_or x y) ≡ option_or (cond b (Some g) x) (cond c (Some r) y)
 same_cond true true g r x y e = refl
 same_cond true false g r x y e = absurd (true≢false e)
 same_cond false true g r x y e = absurd (true≢false (sym e))
 same_cond false false g r x y e = refl
 
-above_cond : (b : Bool) (r : Record) (x y : Option Record) → (b ≡ true → x ≡ None) → cond b (Some r) (either x y) ≡ either x (cond b (Some r) y)
-above_cond true r x y none = ap (λ (o : Option Record). either o (Some r)) (sym (none refl))
+above_cond : (b : Bool) (r : Record) (x y : Option Record) → (b ≡ true → x ≡ None) → cond b (Some r) (option_or x y) ≡ option_or x (cond b (Some r) y)
+above_cond true r x y none = ap (λ (o : Option Record). option_or o (Some r)) (sym (none refl))
 above_cond false r x y none = refl
 
 -- Of both lists together it is the given one, and else the one that is held.
 module _ (q : ℕ) (r : Record) (later : List Record → List Record) (x : Option Record)
-    (is : (hs : List Record) → Up (suc r.id) hs → record_of q (later hs) ≡ either (record_of q hs) x) where
-  from_each : (n : ℕ) (gs : List Record) → Up n gs → record_of q (merged_from r later gs) ≡ either (record_of q gs) (cond (eqb r.id q) (Some r) x)
+    (is : (hs : List Record) → Up (suc r.id) hs → record_of q (later hs) ≡ option_or (record_of q hs) x) where
+  from_each : (n : ℕ) (gs : List Record) → Up n gs → record_of q (merged_from r later gs) ≡ option_or (record_of q gs) (cond (eqb r.id q) (Some r) x)
   from_each n [] up = ap (cond (eqb r.id q) (Some r)) (is [] (tt, tt))
   from_each n (g ∷ gs) up =
-      cond_both (nat_lt g.id r.id) _ _ (λ (rs : List Record). record_of q rs ≡ either (record_of q (g ∷ gs)) (cond (eqb r.id q) (Some r) x))
+      cond_both (nat_lt g.id r.id) _ _ (λ (rs : List Record). record_of q rs ≡ option_or (record_of q (g ∷ gs)) (cond (eqb r.id q) (Some r) x))
       (λ below.
       ap (cond (eqb g.id q) (Some g)) (from_each (suc g.id) gs (up_rest n g gs up)) ∙ either_cond (eqb g.id q) g (record_of q gs) (cond (eqb r.id q) (Some r) x)) (λ off.
-      cond_both (eqb g.id r.id) _ _ (λ (rs : List Record). record_of q rs ≡ either (record_of q (g ∷ gs)) (cond (eqb r.id q) (Some r) x))
+      cond_both (eqb g.id r.id) _ _ (λ (rs : List Record). record_of q rs ≡ option_or (record_of q (g ∷ gs)) (cond (eqb r.id q) (Some r) x))
       (λ same.
       let one : g.id ≡ r.id = eqb-true g.id r.id same in
       ap (cond (eqb g.id q) (Some g)) (is gs (up_from g.id r.id gs one (up_rest n g gs up)))
@@ -98,82 +89,28 @@ module _ (q : ℕ) (r : Record) (later : List Record → List Record) (x : Optio
       ∙ above_cond (eqb r.id q) r (record_of q (g ∷ gs)) x
       (λ here. subst (λ (k : ℕ). record_of k (g ∷ gs) ≡ None) (eqb-true r.id q here) (none_above r.id (suc r.id) (g ∷ gs) (omega arith) more.0))))
 
-merged_each : (q n : ℕ) (rs gs : List Record) → Up n rs → Up n gs → record_of q (merged rs gs) ≡ either (record_of q gs) (record_of q rs)
-merged_each q n [] gs held up = either_none (record_of q gs)
+merged_each : (q n : ℕ) (rs gs : List Record) → Up n rs → Up n gs → record_of q (merged rs gs) ≡ option_or (record_of q gs) (record_of q rs)
+merged_each q n [] gs held up = sym (none_or (record_of q gs))
 merged_each q n (r ∷ rs) gs held up = from_each q r (merged rs) (record_of q rs) (λ hs more. merged_each q (suc r.id) rs hs (up_rest n r rs held) more) n gs up
 
--- ---- what is live
-
-not_gone_step : (here : Bool) (e : Event) (m : Option Event) → is_deletion e.action ≡ false → is_gone m ≡ false → is_gone (later_or m (cond here (Some e) None)) ≡ false
-not_gone_step here e (Some last) stays later = later
-not_gone_step true e None stays later = stays
-not_gone_step false e None stays later = refl
-
-not_gone : (id : ℕ) (events : List Event) → NoneDeletes events → is_gone (last_mention id events) ≡ false
-not_gone id [] none = refl
-not_gone id (e ∷ later) none = not_gone_step (eqb e.subject.id id) e (last_mention id later) none.0 (not_gone id later none.1)
-
-said_first : (held : Option Record) (m : Option Event) → is_gone m ≡ false → either (by_mention None m) held ≡ by_mention held m
-said_first held None stays = refl
-said_first held (Some e) stays =
-    ap (λ (o : Option Record). either o held) (cond-false (is_deletion e.action) None (Some e.subject) stays) ∙ sym (cond-false (is_deletion e.action) None (Some e.subject) stays)
-
-pub nothing_rises : IsStrictlyIncreasing []
-nothing_rises = λ k lt. absurd (omega (arith, lt))
-
--- What the events say, with the records before them, is what is live after them where none deletes.
-module _ (base : List Record) (events : List Event) (given : List Record) (rising : IsStrictlyIncreasing (ids base)) (none : NoneDeletes events) (is : given ≡ live [] events) where
-  given_up : Up 0 given
-  given_up = subst (Up 0) (sym is) (up_strict (live [] events) (live_rises [] events nothing_rises))
-
+module _ (base given : List Record) (rising : IsStrictlyIncreasing (ids base)) (up : IsStrictlyIncreasing (ids given)) where
   pub merged_rises : IsStrictlyIncreasing (ids (merged base given))
-  merged_rises = climbed (ids (merged base given)) (merged_up 0 base given (up_strict base rising) given_up).1
+  merged_rises = climbed (ids (merged base given)) (merged_up 0 base given (up_strict base rising) (up_strict given up)).1
 
-  pub merged_live : merged base given ≡ live base events
-  merged_live =
-      sym (only_live base events (merged base given) rising (record {
-        rising = merged_rises;
-        each = λ q.
-            merged_each q 0 base given (up_strict base rising) given_up
-            ∙ ap (λ (o : Option Record). either o (record_of q base)) (ap (record_of q) is ∙ live_of q [] events)
-            ∙ said_first (record_of q base) (last_mention q events) (not_gone q events none);
-      }))
-
--- ---- how many there are
-
-module _ (r : Record) (later : List Record → List Record) (n : ℕ) (few : (hs : List Record) → length (later hs) ≤ n + length hs) where
-  from_length : (gs : List Record) → length (merged_from r later gs) ≤ suc n + length gs
-  from_length [] = omega (arith, few [])
-  from_length (g ∷ gs) =
-      cond_both (nat_lt g.id r.id) _ _ (λ (rs : List Record). length rs ≤ suc n + length (g ∷ gs)) (λ below. omega (arith, from_length gs)) (λ off.
-      cond_both (eqb g.id r.id) _ _ (λ (rs : List Record). length rs ≤ suc n + length (g ∷ gs)) (λ same. omega (arith, few gs)) (λ apart. omega (arith, few (g ∷ gs))))
-
-pub merged_length : (rs gs : List Record) → length (merged rs gs) ≤ length rs + length gs
-merged_length [] gs = omega arith
-merged_length (r ∷ rs) gs = from_length r (merged rs) (length rs) (λ hs. merged_length rs hs) gs
+  pub merged_of : (q : ℕ) → record_of q (merged base given) ≡ option_or (record_of q given) (record_of q base)
+  merged_of q = merged_each q 0 base given (up_strict base rising) (up_strict given up)
 
 -- ---- one step of the merge
 
--- Given records are kept the last first: one is taken off their end.
-taken_off : (rs left : List Record) (r : Record) → rs ≡ left ++ r ∷ [] → reverse rs ≡ r ∷ reverse left
-taken_off rs left r is = ap reverse is ∙ reverse-append left (r ∷ [])
+-- One record put at the end of those that are made.
+pub placed : (made after : List Record) (next : Record) (rest whole : List Record) → after ≡ made ++ next ∷ [] → whole ≡ next ∷ rest → after ++ rest ≡ made ++ whole
+placed made after next rest whole put is =
+    ap (λ (rs : List Record). rs ++ rest) put ∙ append_assoc made (next ∷ []) rest ∙ ap (λ (rs : List Record). made ++ rs) (sym is)
 
-below_next : (held r : Record) (later gs : List Record) → is_below held.id (r ∷ gs) ≡ true → merged (held ∷ later) (r ∷ gs) ≡ r ∷ merged (held ∷ later) gs
-below_next held r later gs below = cond-true (nat_lt r.id held.id) _ _ below
-
--- One of the given records that is below the one that is held is taken off and put.
-module _ (held next : Record) (items left : List Record) (off : items ≡ left ++ next ∷ []) (below : is_below held.id (reverse items) ≡ true) where
-  pub below_off : (later : List Record) → merged (held ∷ later) (reverse items) ≡ next ∷ merged (held ∷ later) (reverse left)
-  below_off later =
-      let turned = taken_off items left next off in
-      ap (merged (held ∷ later)) turned ∙ below_next held next later (reverse left) (subst (λ (gs : List Record). is_below held.id gs ≡ true) turned below)
-
-  pub room_below : (all later : List Record) (made : Entries) (spare : ℕ) → Filled all made (merged (held ∷ later) (reverse items)) spare → 0 < spare
-  room_below all later made spare filled = omega (arith, ap (λ (rs : List Record). length rs) (below_off later), filled.room)
-
-  pub filled_below : (all later : List Record) (made after : Entries) (spare rest : ℕ) → IsStrictlyIncreasing (ids all)
-      → Filled all made (merged (held ∷ later) (reverse items)) spare → after ≡ insert_entry eqb made next.id next → spare ≤ rest + 1
-      → Filled all after (merged (held ∷ later) (reverse left)) rest
-  filled_below all later made after spare rest up filled put used =
-      filled_one all made after next (merged (held ∷ later) (reverse left)) spare rest up
-      (subst (λ (rs : List Record). Filled all made rs spare) (below_off later) filled) put used
+-- Given records are kept the last first: the next, which is below the one that is held, is taken
+-- off their end.
+pub below_off : (held next : Record) (items left : List Record) → items ≡ left ++ next ∷ [] → is_below held.id (reverse items) ≡ true
+    → (later : List Record) → merged (held ∷ later) (reverse items) ≡ next ∷ merged (held ∷ later) (reverse left)
+below_off held next items left off below later =
+    let turned : reverse items ≡ next ∷ reverse left = ap reverse off ∙ reverse-append left (next ∷ []) in
+    ap (merged (held ∷ later)) turned ∙ cond-true (nat_lt next.id held.id) _ _ (subst (λ (gs : List Record). is_below held.id gs ≡ true) turned below)

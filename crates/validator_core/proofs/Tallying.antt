@@ -3,14 +3,12 @@ use Rattle.std.proofs.Common.{◌≡◌, ℕ, ◌+◌, ◌<◌, eqb, ltb, cond, 
 use Rattle.std.specs.Prelude.{is_some, option_to_list}
 use Rattle.std.specs.BTreeMap.{get, is_at}
 use Rattle.std.specs.List.Sorted.{IsStrictlyIncreasing}
-use Rattle.std.specs.Map.{values_of}
 use Rattle.std.specs.Option.{option_copied}
 use Rattle.std.specs.Ordering.{nat_cmp}
 use Rattle.std.proofs.lemmas.Bool.{cond-true, cond-false, lt-ltb}
 use Rattle.std.proofs.lemmas.Bool.Decides.{nat_tests}
-use Rattle.std.proofs.lemmas.List.{drop_more, length-map}
+use Rattle.std.proofs.lemmas.List.{drop_more}
 use Rattle.std.proofs.lemmas.List.Elements.{filter_more}
-use Rattle.indexmap.specs.IndexMap.{values}
 use Rattle.swima_model.specs.declared.event.Event.{Event}
 use Rattle.swima_model.specs.declared.record.Record.{Record}
 use Rattle.swima_model.specs.History.{contradicts, is_contradiction}
@@ -23,7 +21,6 @@ use Rattle.validator_core.specs.declared.mirror.Taken.{Taken}
 use Rattle.validator_core.specs.declared.mirror.Taken.TheVariants as taken
 use Rattle.validator_core.specs.declared.tally.Tally.{Tally}
 use Rattle.validator_core.specs.Following.{events_above, first_misfit, first_misfit_after, or_later, too_large}
-use Rattle.validator_core.specs.Keyed.{AreKeyed, Entries}
 use Rattle.validator_core.specs.Tally.{AreFew, Follows, IsTally, too_many}
 use Rattle.validator_core.specs.Weighed.{AreWeighed}
 use denote.Ref.{Bor}
@@ -39,10 +36,6 @@ mentioned_step true event found = refl
 mentioned_step false event found = refl
 
 -- ---- what is live of a record
-
--- The records that a tally is of rise.
-pub base_rises : (base : List Record) (before : List Event) (tally : Tally) → IsTally base before tally → IsStrictlyIncreasing (ids base)
-base_rises base before tally is = subst (λ (rs : List Record). IsStrictlyIncreasing (ids rs)) is.records is.keyed.rising
 
 -- Without a mention it is what stood before.
 pub held_before : (id : ℕ) (base : List Record) (before : List Event) (tally : Tally) → IsTally base before tally → get nat_cmp tally.mentions id ≡ None
@@ -62,7 +55,7 @@ held_said id base before tally event is some =
 module _ (base : List Record) (before : List Event) (event : Event) (now : Tally) (held : Option Record) (is : IsTally base before now)
     (found : held ≡ record_of event.subject.id (live base before)) where
   rises : IsStrictlyIncreasing (ids (live base before))
-  rises = live_rises base before (base_rises base before now is)
+  rises = live_rises base before is.rising
 
   -- What is live of the record was counted.
   pub gone_counted : (gone : ℕ) → gone ≡ length (option_to_list held) → length (but event.subject.id (live base before)) + gone ≡ now.count
@@ -86,18 +79,18 @@ module _ (base : List Record) (before : List Event) (event : Event) (now : Tally
   )
 
   -- One that does not.
-  module _ (after : Tally) (put : Bor Event) (same : put.now ≡ event) (records : after.records.now.entries ≡ now.records.now.entries)
+  module _ (after : Tally) (put : Bor Event) (same : put.now ≡ event) (records : after.records.now ≡ now.records.now)
       (mentions : (id : ℕ) → get nat_cmp after.mentions id ≡ cond (is_at (nat_cmp event.subject.id) id) (Some put) (get nat_cmp now.mentions id))
       (come gone : ℕ × ℕ) (came : (come.0 ≡ length (option_to_list (by_mention None (Some event)))) × (come.1 ≡ records_octets (option_to_list (by_mention None (Some event)))))
       (went : (gone.0 ≡ length (option_to_list held)) × (gone.1 ≡ records_octets (option_to_list held)))
       (count : after.count + gone.0 ≡ now.count + come.0) (octets : after.octet_count + gone.1 ≡ now.octet_count + come.1) where
     more : live (live base before) (event ∷ []) ≡ live base (before ++ event ∷ [])
-    more = live_more base before (event ∷ []) (base_rises base before now is)
+    more = live_more base before (event ∷ []) is.rising
 
     pub tally_after : IsTally base (before ++ event ∷ []) after
     tally_after = record {
-      keyed = subst AreKeyed (sym records) is.keyed;
-      records = ap (λ (es : Entries). values_of es) records ∙ is.records;
+      rising = is.rising;
+      records = records ∙ is.records;
       mentions = λ id.
           ap option_copied (mentions id) ∙ mentioned_step (is_at (nat_cmp event.subject.id) id) put (get nat_cmp now.mentions id)
           ∙ ap₂ (λ (here : Bool) (e : Event). later_or (cond here (Some e) None) (option_copied (get nat_cmp now.mentions id))) (at_eqb event.subject.id id) same
@@ -135,17 +128,15 @@ module _ (base : List Record) (before : List Event) (event : Event) (now : Tally
 
 -- ---- none yet
 
-pub begins : (base : List Record) (tally : Tally) → AreKeyed tally.records.now.entries → values tally.records.now ≡ base → ((id : ℕ) → get nat_cmp tally.mentions id ≡ None)
+pub begins : (base : List Record) (tally : Tally) → IsStrictlyIncreasing (ids base) → tally.records.now ≡ base → ((id : ℕ) → get nat_cmp tally.mentions id ≡ None)
     → tally.count ≡ length base → tally.octet_count ≡ records_octets base → IsTally base [] tally
-begins base tally keyed is none count octets =
-    let up : IsStrictlyIncreasing (ids base) = subst (λ (rs : List Record). IsStrictlyIncreasing (ids rs)) is keyed.rising in
-    record {
-      keyed = keyed;
-      records = is;
-      mentions = λ id. ap option_copied (none id);
-      count = count ∙ ap length (sym (live_none base up));
-      octets = octets ∙ ap records_octets (sym (live_none base up));
-    }
+begins base tally up is none count octets = record {
+  rising = up;
+  records = is;
+  mentions = λ id. ap option_copied (none id);
+  count = count ∙ ap length (sym (live_none base up));
+  octets = octets ∙ ap records_octets (sym (live_none base up));
+}
 
 -- ---- event by event
 
@@ -186,11 +177,11 @@ module _ (eid : ℕ) (events : List Event) (i : ℕ) (event : Event) (within : i
 
 -- ---- what a mirror has then
 
-pub weighed_after : (base : List Record) (events : List Event) (tally : Tally) (entries : Entries) → IsTally base events tally → AreFew tally → AreKeyed entries
-    → values_of entries ≡ live base events → AreWeighed entries tally.octet_count
-weighed_after base events tally entries is few keyed lives = record {
-  keyed = keyed;
-  few = omega (arith, few.0, is.count, ap (λ (rs : List Record). length rs) lives, length-map entries (λ (e : ℕ × Record). e.1));
+pub weighed_after : (base : List Record) (events : List Event) (tally : Tally) (records : List Record) → IsTally base events tally → AreFew tally
+    → IsStrictlyIncreasing (ids records) → records ≡ live base events → AreWeighed records tally.octet_count
+weighed_after base events tally records is few up lives = record {
+  rising = up;
+  few = omega (arith, few.0, is.count, ap (λ (rs : List Record). length rs) lives);
   counted = is.octets ∙ ap records_octets (sym lives);
   within = few.1;
 }

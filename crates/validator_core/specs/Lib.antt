@@ -1,4 +1,3 @@
-pub mod Anew
 pub mod Following
 pub mod Further
 pub mod Gone
@@ -6,7 +5,6 @@ pub mod Growth
 pub mod Held
 pub mod Judge
 pub mod Kept
-pub mod Keyed
 pub mod Mentions
 pub mod Merged
 pub mod Recovery

@@ -1,8 +1,6 @@
 -- Records of two lists in order of identifier.
-use Rattle.std.specs.Prelude.{◌≡◌, ◌≤◌, ◌==◌, ◌++◌, ℕ, Bool, false, List, [], ◌∷◌, length, nat_lt, if◌then◌else◌}
-use Rattle.std.specs.Map.{values_of}
+use Rattle.std.specs.Prelude.{◌==◌, ℕ, Bool, false, List, [], ◌∷◌, nat_lt, if◌then◌else◌}
 use Rattle.swima_model.specs.declared.record.Record.{Record}
-use Rattle.validator_core.specs.Keyed.{AreKeyed, Entries}
 
 -- The first of the given records is below this identifier.
 abbrev pub is_below : ℕ → List Record → Bool
@@ -26,9 +24,3 @@ merged_from held later (g ∷ given) =
 abbrev pub merged : List Record → List Record → List Record
 merged [] given = given
 merged (held ∷ later) given = merged_from held (merged later) given
-
--- Of all records in order, these are put in, and there is room for the rest.
-pub record Filled (records : List Record) (made : Entries) (rest : List Record) (spare : ℕ) : Type 0 where
-  pub keyed : AreKeyed made
-  pub all : values_of made ++ rest ≡ records
-  pub room : length rest ≤ spare

@@ -1,12 +1,13 @@
--- What a mirror has beside its records.
-use Rattle.std.specs.Prelude.{◌≡◌, ◌≤◌, ◌^◌, ℕ, length}
-use Rattle.std.specs.Map.{values_of}
+-- What a mirror has: its records, and how many octets they have together.
+use Rattle.std.specs.Prelude.{◌≡◌, ◌≤◌, ◌^◌, ℕ, List, length}
+use Rattle.std.specs.List.Sorted.{IsStrictlyIncreasing}
+use Rattle.swima_model.specs.declared.record.Record.{Record}
+use Rattle.swima_model.specs.InOrder.{ids}
 use Rattle.swima_model.specs.Size.{records_octets}
-use Rattle.validator_core.specs.Keyed.{AreKeyed, Entries}
 
--- The records are by identifier and few, and have that many octets together.
-pub record AreWeighed (entries : Entries) (octets : ℕ) : Type 0 where
-  pub keyed : AreKeyed entries
-  pub few : length entries ≤ 65536
-  pub counted : octets ≡ records_octets (values_of entries)
+-- The records are in order of identifier and few, and have that many octets together.
+pub record AreWeighed (records : List Record) (octets : ℕ) : Type 0 where
+  pub rising : IsStrictlyIncreasing (ids records)
+  pub few : length records ≤ 65536
+  pub counted : octets ≡ records_octets records
   pub within : octets ≤ 2 ^ 40

@@ -1,34 +1,18 @@
-//! The records that are gone after some events.
+//! Records that are gone.
 
-ghost use Rattle.std.specs.Prelude.{◌≡◌, ◌++◌, ◌∷◌, [], List, IfOk, OnOk};
-ghost use Rattle.swima_model.specs.declared.event.Event.{Event as EventValue};
-ghost use Rattle.validator_core.specs.Gone.{AreGone};
+ghost use Rattle.std.specs.Prelude.{◌≡◌};
+ghost use Rattle.std.specs.BTreeSet.{contains};
+ghost use Rattle.std.specs.Ordering.{nat_cmp};
+ghost use Rattle.validator_core.specs.Gone.{kept};
 
-use std::alloc::Global;
 use std::collections::BTreeSet;
-use swima_model::{Action, Event};
-use wire_base::Memory;
+use swima_model::Record;
 
-/// The identifiers of the records whose last event is a deletion.
-pub(crate) fn gone(alloc: Global, events: &[Event]) -> Result<BTreeSet<u32>, Memory>
-    ensures gone { IfOk result (λ made. AreGone events.now made) }
+/// Drops the records of some identifiers, in one pass where there are any. It takes no memory.
+pub(crate) fn drop_gone(records: &mut Vec<Record>, gone: &BTreeSet<u32>)
+    ensures kept { records.new.items ≡ kept (contains nat_cmp gone.now) records.old.items }
 {
-    let mut gone = BTreeSet::new(alloc);
-    for event in events {
-        tell(&mut gone, event)?;
+    if !gone.is_empty() {
+        records.retain(|record| !gone.contains(&record.id));
     }
-    Ok(gone)
-}
-
-/// Notes whether a record is gone after one event more.
-fn tell(gone: &mut BTreeSet<u32>, event: &Event) -> Result<(), Memory>
-    ensures gone { (before : List EventValue) → AreGone before gone.old
-        → OnOk result (AreGone (before ++ event.now ∷ []) gone.new) }
-{
-    if event.action == Action::Deletion {
-        gone.insert(event.subject.id)?;
-    } else {
-        gone.remove(&event.subject.id);
-    }
-    Ok(())
 }

@@ -1,78 +1,71 @@
-//! What events say of records, put in place: each event is of a record that is held, or of one
-//! above all others. A collector numbers its records so.
+//! Records put in place: each is of a record that is held, or comes after all others. A collector
+//! numbers its records so.
 
-ghost use Rattle.std.specs.Prelude.{◌≡◌, ◌≤◌, ◌<◌, ◌+◌, ◌⊎◌, ◌^◌, ℕ, IfSome, IsSome, length, nat_eq};
-ghost use Rattle.indexmap.specs.IndexMap.{insert_entry, spare, values};
-ghost use Rattle.swima_model.specs.Live.{live};
-ghost use Rattle.validator_core.specs.Keyed.{AreBelow, AreKeyed, at, is_held};
-ghost use Rattle.validator_core.specs.Further.{RiseFrom, new_ids};
-ghost use Rattle.validator_core.specs.Gone.{NoneDeletes};
+ghost use Rattle.std.specs.Prelude.{◌≡◌, ◌≤◌, ◌<◌, ◌+◌, ◌⊎◌, ◌∷◌, [], ℕ, IfSome, IsSome, vec_capacity, vec_len};
+ghost use Rattle.std.specs.List.Sorted.{IsStrictlyIncreasing};
+ghost use Rattle.swima_model.specs.InOrder.{ids};
+ghost use Rattle.swima_model.specs.Live.{record_of};
+ghost use Rattle.validator_core.specs.Further.{AreBelow, IsFurther};
+ghost use Rattle.validator_core.specs.Merged.{merged};
 
-use crate::keyed::Keyed;
-use swima_model::{Event, Record};
+use swima_model::{Record, place_of};
 
-/// The number above the identifier of each record.
-pub(crate) fn next(records: &Keyed) -> u64
-    requires keyed { AreKeyed records.now.entries }
-    ensures below { AreBelow result records.now.entries }
-    ensures within { result ≤ 2 ^ 32 }
+/// How many of the given records come after all that are held, where one is held of each other;
+/// `None` where some fall among others. It takes no memory.
+pub(crate) fn further(records: &[Record], given: &[Record]) -> Option<usize>
+    requires rising { IsStrictlyIncreasing (ids records.now) }
+    ensures further { IfSome result (λ count. IsFurther records.now given.now count) }
 {
-    match records.last() {
-        None => 0,
-        Some((id, _)) => *id as u64 + 1,
-    }
-}
-
-/// How many of the events are of records that are not held, where the identifiers of these rise
-/// from `next` on. It takes no memory.
-pub(crate) fn further(records: &Keyed, next: u64, events: &[Event]) -> Option<usize>
-    requires within { next ≤ 2 ^ 32 }
-    ensures rise { IfSome result (λ count. RiseFrom next (new_ids (is_held records.now.entries) events.now)) }
-    ensures count { IfSome result (λ count. count ≡ length (new_ids (is_held records.now.entries) events.now)) }
-{
-    let mut above = next;
+    let next = next(records);
     let mut count = 0;
-    for event in events {
-        if records.contains_key(&event.subject.id) {
-            continue;
-        }
-        let id = event.subject.id as u64;
-        if id < above {
+    for record in given {
+        if record.id as u64 >= next {
+            count += 1;
+        } else if place_of(records, record.id).is_none() {
             return None;
         }
-        above = id + 1;
-        count += 1;
     }
     Some(count)
 }
 
-/// Puts what each event says in place of the record of its identifier, or after all others. It
-/// takes no memory.
-pub(crate) fn put_each(records: &mut Keyed, events: Vec<Event>)
-    requires keyed { AreKeyed records.old.entries }
-    requires stay { NoneDeletes events.items }
-    requires further { (next : ℕ) × (AreBelow next records.old.entries)
-        × (RiseFrom next (new_ids (is_held records.old.entries) events.items)) }
-    requires room { length (new_ids (is_held records.old.entries) events.items) ≤ spare records.old }
-    ensures keyed { AreKeyed records.new.entries }
-    ensures live { values records.new ≡ live (values records.old) events.items }
+/// The number above the identifier of each record.
+fn next(records: &[Record]) -> u64
+    requires rising { IsStrictlyIncreasing (ids records.now) }
+    ensures below { AreBelow result records.now }
 {
-    for event in events {
-        put(records, event.subject);
+    match records.last() {
+        None => 0,
+        Some(record) => record.id as u64 + 1,
     }
 }
 
-/// Puts a record in place of the one of its identifier, or after all others. It takes no memory.
-fn put(records: &mut Keyed, given: Record)
-    requires fits { IsSome (at given.id records.old.entries) ⊎ (0 < spare records.old) }
-    ensures entries { records.new.entries ≡ insert_entry nat_eq records.old.entries given.id given }
-    ensures room { spare records.old ≤ spare records.new + 1 }
-    ensures held { IsSome (at given.id records.old.entries) → spare records.old ≤ spare records.new }
+/// Puts each of the given records in place of the one of its identifier, or after all others, where
+/// there is room for that many. It takes no memory.
+pub(crate) fn put_each(records: &mut Vec<Record>, given: Vec<Record>)
+    requires rising { IsStrictlyIncreasing (ids records.old.items) }
+    requires given { IsStrictlyIncreasing (ids given.items) }
+    requires room { (count : ℕ) × IsFurther records.old.items given.items count
+        × (vec_len records.old + count ≤ vec_capacity records.old) }
+    ensures merged { records.new.items ≡ merged records.old.items given.items }
 {
-    match records.get_mut(&given.id) {
-        Some(held) => *held = given,
-        None => {
-            records.insert(given.id, given).unwrap();
-        }
+    for record in given {
+        put(records, record);
+    }
+}
+
+/// Puts a record in place of the one of its identifier, or after all others, where there is room for
+/// it. It takes no memory.
+fn put(records: &mut Vec<Record>, given: Record)
+    requires rising { IsStrictlyIncreasing (ids records.old.items) }
+    requires fits { IsSome (record_of given.id records.old.items)
+        ⊎ (AreBelow given.id records.old.items × (vec_len records.old < vec_capacity records.old)) }
+    ensures put { records.new.items ≡ merged records.old.items (given ∷ []) }
+    ensures held { IsSome (record_of given.id records.old.items) → vec_len records.new ≡ vec_len records.old }
+    ensures len { vec_len records.new ≤ vec_len records.old + 1 }
+    ensures capacity { vec_capacity records.old ≤ vec_capacity records.new }
+{
+    match place_of(records.as_slice(), given.id) {
+        Some(place) => records[place] = given,
+        None => records.push(given).unwrap(),
     }
 }

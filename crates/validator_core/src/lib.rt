@@ -1,7 +1,6 @@
 //! The mirror of one collector's inventory (RFC 8412, section 3.7): a copy that follows reports.
 //!
-//! It stands on `swima_model` and `wire_base`, and on `indexmap` for the records. The crates above
-//! rest on:
+//! It stands on `swima_model` and `wire_base`. The crates above rest on:
 //!
 //! - `judged` of `Mirror::take`: the answer to a report, and what the mirror holds then, are
 //!   `judge` of `specs/Judge.antt`. Where memory ran out, the mirror is as it was.
@@ -17,11 +16,11 @@
 //! | `mirror/want.rt` | what a mirror wants next |
 //! | `doubled.rt`, `order.rt`, `limits.rt` | inventories: doubled identifiers, order, size |
 //! | `gap.rt`, `misfit.rt`, `tally.rt` | events: gaps, and the first that does not fit |
-//! | `keyed.rt` | the records by identifier, a hash map in order of identifier |
 //! | `follow.rt` | the records that are live after some events |
-//! | `gone.rt` | the records that are gone after some events |
-//! | `in_place.rt`, `anew.rt` | what is put in place, and what is put among others, into a new map |
-//! | `merge.rt` | records of two lists in order of identifier, put into one map |
+//! | `mentions.rt` | what events say of the records that they mention |
+//! | `in_place.rt` | records put in place, or after all others |
+//! | `merge.rt` | records of two lists in order of identifier, put into one |
+//! | `gone.rt` | records that are gone, dropped |
 //! | `lent_or_owned.rt` | lists of a report that is lent or given up |
 //! | `laws.rt` | what the definitions mean, proved |
 //!
@@ -31,23 +30,22 @@
 //! |---|---|
 //! | `Held`, `Judge` | what a mirror holds, and the table of its answers to reports |
 //! | `Right`, `Want` | when it is right over a history, and what it wants next |
-//! | `Following`, `Tally`, `Further` | how events follow on what is held; what judges the next |
+//! | `Following`, `Tally` | how events follow on what is held; what judges the next |
 //! | `Mentions`, `Gone` | what events say of records, and which are gone after them |
-//! | `Keyed`, `Merged`, `Anew` | records by identifier, of two lists, and memory for them |
+//! | `Merged`, `Further` | records of two lists in one; which can be put in place |
 //! | `MaybeOwned`, `Weighed` | lists lent or given up; what a mirror has beside its records |
 //! | `Kept`, `Growth`, `Recovery` | the laws: what reports keep, growing histories, the mark |
 #![tactic(auto)]
 
-mod anew;
 mod doubled;
 mod follow;
 mod gap;
 mod gone;
 mod in_place;
-mod keyed;
 pub mod laws;
 mod lent_or_owned;
 mod limits;
+mod mentions;
 mod merge;
 mod mirror;
 mod misfit;

@@ -1,48 +1,42 @@
-//! Records of two lists in order of identifier, put into one map.
+//! Records of two lists in order of identifier, put into one.
 
-ghost use Rattle.std.specs.Prelude.{◌≡◌, ◌≤◌, ◌+◌, ◌∷◌, [], false, List, reverse};
-ghost use Rattle.std.specs.List.Sorted.{IsStrictlyIncreasing};
-ghost use Rattle.std.specs.Vec.{vec_len};
-ghost use Rattle.indexmap.specs.IndexMap.{index_map_len, spare, values};
+ghost use Rattle.std.specs.Prelude.{◌≡◌, ◌≤◌, ◌+◌, ◌∷◌, ◌++◌, [], false, List, reverse, vec_capacity, vec_len};
 ghost use Rattle.swima_model.specs.declared.record.Record.{Record as RecordValue};
-ghost use Rattle.swima_model.specs.InOrder.{ids};
-ghost use Rattle.validator_core.specs.Keyed.{AreKeyed};
-ghost use Rattle.validator_core.specs.Merged.{Filled, first_is, is_below, merged};
+ghost use Rattle.validator_core.specs.Merged.{first_is, is_below, merged};
 
-use crate::keyed::{Keyed, fill};
 use swima_model::Record;
 
-/// Puts the records that are held and those that are given into a map without any, which has room
+/// Puts the records that are held and those that are given into a list without any, which has room
 /// for all. Of two with one identifier the given one is put. It takes no memory.
-pub(crate) fn merge(records: &mut Keyed, held: Keyed, given: Vec<Record>)
-    requires empty { records.old.entries ≡ [] }
-    requires room { index_map_len held + vec_len given ≤ spare records.old }
-    requires rising { IsStrictlyIncreasing (ids (merged (values held) (reverse given.items))) }
-    ensures keyed { AreKeyed records.new.entries }
-    ensures merged { values records.new ≡ merged (values held) (reverse given.items) }
+pub(crate) fn merge(records: &mut Vec<Record>, held: Vec<Record>, given: Vec<Record>)
+    requires empty { records.old.items ≡ [] }
+    requires room { vec_len held + vec_len given ≤ vec_capacity records.old }
+    ensures merged { records.new.items ≡ merged held.items given.items }
 {
     let mut left = given;
-    for record in held.into_values() {
+    left.reverse();
+    for record in held {
         put_below(records, &mut left, &record);
         let next = chosen(&mut left, record);
-        records.insert(next.id, next).unwrap();
+        records.push(next).unwrap();
     }
     left.reverse();
-    fill(records, left);
+    records.append(&mut left).unwrap();
 }
 
-/// Puts those of the given records that are below the one that is held. It takes no memory.
-fn put_below(records: &mut Keyed, given: &mut Vec<Record>, held: &Record)
-    requires fits { (all : List RecordValue) × (later : List RecordValue) × IsStrictlyIncreasing (ids all)
-        × Filled all records.old.entries (merged (held.now ∷ later) (reverse given.old.items)) (spare records.old) }
-    ensures filled { (all : List RecordValue) (later : List RecordValue) → IsStrictlyIncreasing (ids all)
-        → Filled all records.old.entries (merged (held.now ∷ later) (reverse given.old.items)) (spare records.old)
-        → Filled all records.new.entries (merged (held.now ∷ later) (reverse given.new.items)) (spare records.new) }
+/// Puts those of the given records that are below the one that is held, where there is room for all.
+/// It takes no memory.
+fn put_below(records: &mut Vec<Record>, given: &mut Vec<Record>, held: &Record)
+    requires room { vec_len records.old + vec_len given.old ≤ vec_capacity records.old }
+    ensures put { (later : List RecordValue) → records.new.items ++ merged (held.now ∷ later) (reverse given.new.items)
+        ≡ records.old.items ++ merged (held.now ∷ later) (reverse given.old.items) }
     ensures none { is_below held.now.id (reverse given.new.items) ≡ false }
+    ensures len { vec_len records.new + vec_len given.new ≡ vec_len records.old + vec_len given.old }
+    ensures capacity { vec_capacity records.old ≤ vec_capacity records.new }
 {
     while is_below(given, held.id) {
         let next = given.pop().unwrap();
-        records.insert(next.id, next).unwrap();
+        records.push(next).unwrap();
     }
 }
 
@@ -52,6 +46,7 @@ fn chosen(given: &mut Vec<Record>, held: Record) -> Record
     requires none { is_below held.id (reverse given.old.items) ≡ false }
     ensures next { (later : List RecordValue) → merged (held ∷ later) (reverse given.old.items)
         ≡ result ∷ merged later (reverse given.new.items) }
+    ensures len { vec_len given.new ≤ vec_len given.old }
 {
     if first_is(given, held.id) {
         return given.pop().unwrap();

@@ -10,9 +10,7 @@ ghost use Rattle.validator_core.specs.Right.{StaysRight};
 mod taking;
 pub(crate) mod want;
 
-use crate::keyed::Keyed;
 use crate::lent_or_owned::MaybeOwned;
-use indexmap::IndexMap;
 use std::alloc::Global;
 use std::marker::Model;
 use swima_model::{Kind, Point, Record, Report};
@@ -84,21 +82,20 @@ impl TryCopy for Taken {
 pub struct Mirror {
     kind: Kind,
     point: Option<Point>,
-    records: Keyed,
+    records: Vec<Record>,
     octet_count: u64,
     off: bool,
 }
 
 impl Model for Mirror {
-    ghost use Rattle.indexmap.specs.IndexMap.{values};
     ghost use Rattle.validator_core.specs.Held.{Held};
     ghost use Rattle.validator_core.specs.Weighed.{AreWeighed};
 
     ghost Value = { Held };
 
-    ghost view = { λ mirror. record { kind = mirror.kind; point = mirror.point; records = values mirror.records; off = mirror.off } };
+    ghost view = { λ mirror. record { kind = mirror.kind; point = mirror.point; records = mirror.records.items; off = mirror.off } };
 
-    ghost invariant = { λ mirror. AreWeighed mirror.records.entries mirror.octet_count };
+    ghost invariant = { λ mirror. AreWeighed mirror.records.items mirror.octet_count };
 }
 
 impl Mirror {
@@ -109,7 +106,7 @@ impl Mirror {
         Mirror {
             kind,
             point: None,
-            records: IndexMap::new(alloc),
+            records: Vec::new(alloc),
             octet_count: 0,
             off: false,
         }
@@ -150,7 +147,7 @@ impl Mirror {
     pub fn record_at(&self, place: u32) -> Option<&Record>
         ensures record { option_copied result ≡ slice_get self.now.records place }
     {
-        self.records.values().as_slice().get(place as usize)
+        self.records.get(place as usize)
     }
 
     /// Takes a report: the answer and what the mirror holds then are the first line of the table

@@ -2,7 +2,6 @@
 //! after it.
 
 ghost use Rattle.std.specs.Prelude.{◌≡◌, [], None, IfOk};
-ghost use Rattle.indexmap.specs.IndexMap.{values};
 ghost use Rattle.validator_core.specs.Following.{events_above, first_misfit};
 ghost use Rattle.validator_core.specs.Tally.{AreFew, IsTally};
 
@@ -19,12 +18,12 @@ pub(crate) fn first_misfit<'a>(
     eid: u32,
     events: &'a [Event],
 ) -> Result<Option<Taken>, Memory>
-    requires begins { IsTally (values tally.old.records.now) [] tally.old }
+    requires begins { IsTally tally.old.records.now [] tally.old }
     requires few { AreFew tally.old }
     ensures first { IfOk result (λ found.
-        found ≡ first_misfit (values tally.old.records.now) (events_above eid events.now)) }
+        found ≡ first_misfit tally.old.records.now (events_above eid events.now)) }
     ensures tally { IfOk result (λ found. found ≡ None
-        → IsTally (values tally.old.records.now) (events_above eid events.now) tally.new) }
+        → IsTally tally.old.records.now (events_above eid events.now) tally.new) }
     ensures few { IfOk result (λ found. found ≡ None → AreFew tally.new) }
 {
     for event in events {

@@ -4,15 +4,14 @@ ghost use Rattle.std.specs.Prelude.{◌≡◌, None};
 ghost use Rattle.swima_model.specs.Doubled.{doubled};
 ghost use Rattle.swima_model.specs.InOrder.{ids, in_order};
 
-use swima_model::Records;
-use wire_base::List;
+use swima_model::{Record, Records};
 
 /// The records in order of identifier, of which no two have the same. It takes no memory.
-pub(crate) fn in_order(records: Records) -> Records
+pub(crate) fn in_order(records: Records) -> Vec<Record>
     requires distinct { doubled (ids records) ≡ None }
-    ensures order { result ≡ in_order records }
+    ensures order { result.items ≡ in_order records }
 {
     let mut items = records.into_vec();
     items.sort_unstable_by_key(|record| record.id);
-    List::from_vec(items)
+    items
 }

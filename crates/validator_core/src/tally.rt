@@ -2,30 +2,29 @@
 //! It copies no record and alters none.
 
 ghost use Rattle.std.specs.Prelude.{◌≡◌, ◌<◌, ◌≤◌, ◌^◌, [], List, None, Some, IfOk, length, option_to_list, if◌then◌else◌};
+ghost use Rattle.std.specs.List.Sorted.{IsStrictlyIncreasing};
 ghost use Rattle.std.specs.Option.{option_copied};
 ghost use Rattle.swima_model.specs.declared.event.Event.{Event};
 ghost use Rattle.swima_model.specs.declared.record.Record.{Record};
 ghost use Rattle.swima_model.specs.History.{is_carried, is_contradiction};
+ghost use Rattle.swima_model.specs.InOrder.{ids};
 ghost use Rattle.swima_model.specs.Live.{by_mention, live, record_of};
 ghost use Rattle.swima_model.specs.Size.{MOST_CONTENT_OCTETS, records_octets};
-ghost use Rattle.indexmap.specs.IndexMap.{values};
-ghost use Rattle.validator_core.specs.Keyed.{AreKeyed};
 ghost use Rattle.validator_core.specs.Tally.{AreFew, Follows, IsTally, too_many};
 ghost use Rattle.validator_core.specs.Weighed.{AreWeighed};
 
-use crate::keyed::Keyed;
 use crate::limits::is_large;
 use crate::mirror::Taken;
 use std::alloc::Global;
 use std::collections::BTreeMap;
-use swima_model::{Action, Content, Event, Record};
+use swima_model::{Action, Content, Event, Record, record_of};
 use wire_base::Memory;
 
 /// Records, the last mention of each by some events, and how many records are live after these,
 /// with how many octets.
 #[derive(Drop)]
 pub(crate) struct Tally<'a> {
-    records: &'a Keyed,
+    records: &'a [Record],
     mentions: BTreeMap<u32, &'a Event>,
     count: usize,
     octet_count: u64,
@@ -33,10 +32,10 @@ pub(crate) struct Tally<'a> {
 
 impl<'a> Tally<'a> {
     /// The tally of `records`, which have that many octets, before any event. It takes no memory.
-    pub(crate) fn new(alloc: Global, records: &'a Keyed, octet_count: u64) -> Self
-        requires weighed { AreWeighed records.now.entries octet_count }
-        ensures begins { IsTally (values result.records.now) [] result }
-        ensures records { result.records.now.entries ≡ records.now.entries }
+    pub(crate) fn new(alloc: Global, records: &'a [Record], octet_count: u64) -> Self
+        requires weighed { AreWeighed records.now octet_count }
+        ensures begins { IsTally result.records.now [] result }
+        ensures records { result.records.now ≡ records.now }
         ensures few { AreFew result }
     {
         Tally {
@@ -76,12 +75,12 @@ impl<'a> Tally<'a> {
 
     /// What is live of the record of this identifier.
     fn held(&self, id: u32) -> Option<&'a Record>
-        requires keyed { AreKeyed self.now.records.now.entries }
+        requires rising { IsStrictlyIncreasing (ids self.now.records.now) }
         ensures held { (base : List Record) (before : List Event) → IsTally base before self.now
             → option_copied result ≡ record_of id (live base before) }
     {
         match self.mentions.get(&id) {
-            None => self.records.get(&id),
+            None => record_of(self.records, id),
             Some(event) => said(*event),
         }
     }

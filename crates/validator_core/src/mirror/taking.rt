@@ -12,7 +12,6 @@ use super::{Mirror, Taken};
 use crate::doubled::doubled;
 use crate::follow::follow;
 use crate::gap::gap;
-use crate::keyed::keyed;
 use crate::lent_or_owned::MaybeOwned;
 use crate::limits::{is_large, records_octets};
 use crate::misfit::first_misfit;
@@ -80,8 +79,7 @@ impl Mirror {
                 octets,
             });
         }
-        let ordered = in_order(records.into_list()?);
-        self.records = keyed(alloc, ordered)?;
+        self.records = in_order(records.into_list()?);
         self.octet_count = octets;
         self.point = Some(point);
         self.off = false;
@@ -153,7 +151,11 @@ impl Mirror {
             ≡ (answer, self.new)) }
         ensures unchanged { OnErr result (self.new ≡ self.old) }
     {
-        let mut tally = Tally::new(*self.records.allocator(), &self.records, self.octet_count);
+        let mut tally = Tally::new(
+            *self.records.allocator(),
+            self.records.as_slice(),
+            self.octet_count,
+        );
         if let Some(misfit) = first_misfit(&mut tally, held.eid, events.as_slice())? {
             self.off = true;
             return Ok(misfit);

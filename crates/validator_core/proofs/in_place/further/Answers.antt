@@ -1,29 +1,35 @@
--- The next identifier that is not held is above those before it.
-use Rattle.std.proofs.Common.{◌+◌, ◌∷◌, ◌∙◌, [], ℕ, List, take, length, ap, sym, subst, arith, rules}
-use Rattle.std.proofs.lemmas.List.{length-append, take_all}
-use Rattle.swima_model.specs.declared.event.Event.{Event}
-use Rattle.validator_core.specs.Further.{new_ids}
-use Rattle.validator_core.specs.Keyed.{is_held}
-use Rattle.validator_core.proofs.InPlace.{RiseTo, new_more, rise_from, rise_push}
+-- The next of the given records comes after all that are held, or one of its identifier is held.
+use Rattle.std.proofs.Common.{◌≡◌, ◌<◌, ◌≤◌, inl, inr, true, false, rules, arith}
+use Rattle.std.specs.Prelude.{is_some}
+use Rattle.std.proofs.lemmas.Bool.{le-leb, lt-leb}
+use Rattle.validator_core.proofs.InPlace.{counted_on, others_on, place_some}
+use Rattle.validator_core.proofs.in_place.further.Goals.{then-record-next, else-record-next+else-is_none}
 use Rattle.validator_core.proofs.in_place.further.Goals as goal
 
-pub loop-event-preserved : goal.loop-event-preserved
-loop-event-preserved c =
-    let held = is_held c.args.records.now.entries in
-    let before = new_ids held (take c.loop-event.event-index c.args.events.now) in
-    let id = c.event-item.result.subject.id in
-    let more =
-    new_more held c.args.events.now c.loop-event.event-index c.event-item.result c.loop-event-test.true c.event-item.is
-    (sym c.contains_key.ensures ∙ c.if-contains_key.false) in
-    record {
-      rise = subst (λ (ids : List ℕ). RiseTo c.args.next (id + 1) ids) (sym more) (rise_push c.args.next c.loop-event.above id before c.loop-event.invariant.rise (omega (arith, c.if-id-above.false)));
-      count = omega (arith, c.loop-event.invariant.count, ap (λ (ids : List ℕ). length ids) more, length-append before (id ∷ []));
-      few = omega (arith, c.loop-event.invariant.few);
-      above = search rules;
-    }
-
-pub returns-clause-rise : goal.returns-clause-rise
-returns-clause-rise c =
-    let all = take_all c.loop-event.event-index c.args.events.now (omega (arith, c.loop-event-test.false)) in
-    rise_from c.args.next c.loop-event.above (new_ids (is_held c.args.records.now.entries) c.args.events.now)
-    (subst (λ (es : List Event). RiseTo c.args.next c.loop-event.above (new_ids (is_held c.args.records.now.entries) es)) all c.loop-event.invariant.rise)
+pub loop-record-preserved : goal.loop-record-preserved
+loop-record-preserved c =
+    let held = c.args.records.now in
+    let given = c.args.given.now in
+    let next = c.next-next.result in
+    let index = c.loop-record.record-index in
+    let item = c.record-item.result in
+    let within = c.loop-record-test.true in
+    let is = c.record-item.is in
+    let before = c.loop-record.invariant in
+    elim c.if-record-next.branch [
+      | then-record-next w ↦
+          let le : next ≤ item.id = omega (arith, w.if-record-next.true) in
+          record {
+            others = others_on held given next index item within is before.others (inr le);
+            count = omega (arith, w.count-is, before.count, counted_on held given next index item within is true (le-leb next item.id le));
+            few = omega (arith, w.count-is, before.few);
+          }
+      | else-record-next+else-is_none w ↦
+          let lt : item.id < next = omega (arith, w.if-record-next.false) in
+          let there : is_some w.place_of.result ≡ true = search rules in
+          record {
+            others = others_on held given next index item within is before.others (inl (place_some held item.id w.place_of.result w.place_of.ensures.place there));
+            count = omega (arith, w.count-is, before.count, counted_on held given next index item within is false (lt-leb next item.id lt));
+            few = omega (arith, w.count-is, before.few);
+          }
+    ]

@@ -1,31 +1,49 @@
--- The next event is put in, and what is live after those that are left stays.
-use Rattle.std.proofs.Common.{List, ◌∷◌, ◌∙◌, length, ap, sym, subst, arith}
+-- The next of the given records is put, and those that are left come to the same.
+use Rattle.std.proofs.Common.{◌∷◌, ◌∙◌, [], List, length, ap, sym, subst, arith}
 use Rattle.std.proofs.lemmas.List.{nil_from_length}
+use Rattle.std.specs.List.Sorted.{IsStrictlyIncreasing}
+use Rattle.std.specs.Prelude.{vec_capacity, vec_len}
 use Rattle.std.specs.Vec.Iter.{into_iter_items}
-use Rattle.indexmap.specs.IndexMap.{spare, values}
-use Rattle.swima_model.specs.declared.event.Event.{Event}
-use Rattle.swima_model.specs.Live.{live}
-use Rattle.swima_model.proofs.Living.{live_none}
-use Rattle.validator_core.proofs.InPlace.{Puts, goes_on, live_on}
+use Rattle.swima_model.specs.declared.record.Record.{Record}
+use Rattle.swima_model.specs.InOrder.{ids}
+use Rattle.swima_model.proofs.Living.{strict_rest}
+use Rattle.validator_core.specs.Further.{IsFurther}
+use Rattle.validator_core.specs.Merged.{merged}
+use Rattle.validator_core.proofs.InPlace.{goes_on, merged_none, merged_twice, one_rises, put_fits}
+use Rattle.validator_core.proofs.Merging.{merged_rises}
 use Rattle.validator_core.proofs.in_place.put_each.Goals as goal
 
-pub loop-event-preserved : goal.loop-event-preserved
-loop-event-preserved c =
-    let base = c.args.records.now.entries in
-    let now = c.loop-event.records.entries in
-    let room = spare c.loop-event.records in
-    let puts : Puts base now (c.in-Some.event ∷ into_iter_items c.next.new.self) room =
-    subst (λ (es : List Event). Puts base now es room) c.in-Some.ensures.steps.0 c.loop-event.invariant.puts in
+pub put-requires-clause-fits : goal.put-requires-clause-fits
+put-requires-clause-fits c =
+    let now = c.loop-record.records in
+    let (count, further, room) = c.loop-record.invariant.room in
+    put_fits now.items c.in-Some.record (into_iter_items c.next.new.self) count (vec_len now) (vec_capacity now)
+    (subst (λ (rs : List Record). IsFurther now.items rs count) c.in-Some.ensures.steps.0 further) room
+
+pub loop-record-preserved : goal.loop-record-preserved
+loop-record-preserved c =
+    let now = c.loop-record.records in
+    let after = c.put.new.records in
+    let next = c.in-Some.record in
+    let rest = into_iter_items c.next.new.self in
+    let is = c.in-Some.ensures.steps.0 in
+    let (count, further, room) = c.loop-record.invariant.room in
+    let rising = c.loop-record.invariant.rising in
+    let up : IsStrictlyIncreasing (ids (next ∷ rest)) = subst (λ (rs : List Record). IsStrictlyIncreasing (ids rs)) is c.loop-record.invariant.given in
     record {
-      puts = goes_on base now c.put.new.records.entries c.in-Some.event (into_iter_items c.next.new.self) room (spare c.put.new.records) puts c.put.ensures.entries c.put.ensures.room c.put.ensures.held;
-      len = omega (arith, ap (λ (es : List Event). length es) c.in-Some.ensures.steps.0, c.in-Some.ensures.steps.1, c.loop-event.invariant.len);
-      live =
-          live_on base now c.put.new.records.entries c.in-Some.event (into_iter_items c.next.new.self) room (spare c.put.new.records) puts c.put.ensures.entries c.put.ensures.room c.put.ensures.held
-          ∙ ap (λ (es : List Event). live (values c.loop-event.records) es) (sym c.in-Some.ensures.steps.0) ∙ c.loop-event.invariant.live;
+      rising = subst (λ (rs : List Record). IsStrictlyIncreasing (ids rs)) (sym c.put.ensures.put) (merged_rises now.items (next ∷ []) rising (one_rises next));
+      given = strict_rest next.id (ids rest) up;
+      room =
+          goes_on now.items next rest count (vec_len now) (vec_capacity now) (subst (λ (rs : List Record). IsFurther now.items rs count) is further) room
+          after.items (vec_len after) (vec_capacity after) rising up c.put.ensures.put c.put.ensures.held c.put.ensures.len c.put.ensures.capacity;
+      len = omega (arith, ap (λ (rs : List Record). length rs) is, c.in-Some.ensures.steps.1, c.loop-record.invariant.len);
+      merged =
+          ap (λ (rs : List Record). merged rs rest) c.put.ensures.put ∙ merged_twice now.items next rest rising up ∙ ap (merged now.items) (sym is)
+          ∙ c.loop-record.invariant.merged;
     }
 
-pub returns-clause-live : goal.returns-clause-live
-returns-clause-live c =
-    let none = nil_from_length (into_iter_items c.loop-event.event-iterator) (omega (arith, c.loop-event.invariant.len, c.in-None.ensures.steps.0)) in
-    sym (live_none (values c.loop-event.records) c.loop-event.invariant.puts.keyed.rising)
-    ∙ ap (λ (es : List Event). live (values c.loop-event.records) es) (sym none) ∙ c.loop-event.invariant.live
+pub returns : goal.returns
+returns c =
+    let now = c.loop-record.records.items in
+    let none = nil_from_length (into_iter_items c.loop-record.record-iterator) (omega (arith, c.loop-record.invariant.len, c.in-None.ensures.steps.0)) in
+    record { merged = sym (merged_none now) ∙ ap (merged now) (sym none) ∙ c.loop-record.invariant.merged }

@@ -1,14 +1,18 @@
--- What is live after the events that are left, over the records now, is what is live after all.
-use Rattle.std.proofs.Common.{◌≡◌, length}
+-- The given records that are left fit where those that are held now are, and come to the same.
+use Rattle.std.proofs.Common.{◌≡◌, ◌+◌, ◌≤◌, ℕ, length}
+use Rattle.std.specs.List.Sorted.{IsStrictlyIncreasing}
+use Rattle.std.specs.Prelude.{vec_capacity, vec_len}
 use Rattle.std.specs.Vec.Iter.{into_iter_items, into_iter_len}
-use Rattle.indexmap.specs.IndexMap.{spare, values}
-use Rattle.swima_model.specs.Live.{live}
-use Rattle.validator_core.proofs.InPlace.{Puts}
+use Rattle.swima_model.specs.InOrder.{ids}
+use Rattle.validator_core.specs.Further.{IsFurther}
+use Rattle.validator_core.specs.Merged.{merged}
 use Rattle.validator_core.proofs.in_place.put_each.Given as goal
 
-abbrev pub invariant-loop-event : goal.invariant-loop-event
-invariant-loop-event l = record {
-  puts : Puts l.fn.records.entries l.records.entries (into_iter_items l.event-iterator) (spare l.records);
-  len : into_iter_len l.event-iterator ≡ length (into_iter_items l.event-iterator);
-  live : live (values l.records) (into_iter_items l.event-iterator) ≡ live (values l.fn.records) l.fn.events.items;
+abbrev pub invariant-loop-record : goal.invariant-loop-record
+invariant-loop-record l = record {
+  rising : IsStrictlyIncreasing (ids l.records.items);
+  given : IsStrictlyIncreasing (ids (into_iter_items l.record-iterator));
+  room : (count : ℕ) × IsFurther l.records.items (into_iter_items l.record-iterator) count × (vec_len l.records + count ≤ vec_capacity l.records);
+  len : into_iter_len l.record-iterator ≡ length (into_iter_items l.record-iterator);
+  merged : merged l.records.items (into_iter_items l.record-iterator) ≡ merged l.fn.records.items l.fn.given.items;
 }

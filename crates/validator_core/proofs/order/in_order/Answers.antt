@@ -21,5 +21,5 @@ returns c =
     let moved : IsPermutation (in_order given) made =
     IsPermutation-trans (in_order given) given made (IsPermutation-sym given (in_order given) (in_order_permutation given)) c.sort_unstable_by_key.ensures.permutation in
     record {
-      order = c.from_vec.ensures.items ∙ same_in_order (in_order given) made moved strict (rises_by (λ (r : Record). r.id) _ up) ∙ ap in_order copied;
+      order = same_in_order (in_order given) made moved strict (rises_by (λ (r : Record). r.id) _ up) ∙ ap in_order copied;
     }

@@ -2,14 +2,13 @@
 use Rattle.std.proofs.Common.{◌∙◌, sym, ap}
 use Rattle.std.specs.Option.{option_copied}
 use Rattle.swima_model.specs.Live.{record_of}
-use Rattle.validator_core.proofs.Entries.{found}
 use Rattle.validator_core.proofs.Tallying.{held_before, held_said}
 use Rattle.validator_core.proofs.tally.Tally.held.Goals as goal
 
 pub returns-in-None : goal.returns-in-None
 returns-in-None c = record {
   held = λ base before is.
-      c.get-in-None.ensures.value ∙ found c.args.id c.args.self.now.records.now.entries is.keyed ∙ ap (record_of c.args.id) is.records
+      c.record_of.ensures.found ∙ ap (record_of c.args.id) is.records
       ∙ held_before c.args.id base before c.args.self.now is (sym c.get.ensures.value ∙ ap option_copied c.in-None.is);
 }
 
