@@ -37,17 +37,9 @@ mentioned_step false event found = refl
 
 -- ---- what is live of a record
 
--- Without a mention it is what stood before.
-pub held_before : (id : ℕ) (base : List Record) (before : List Event) (tally : Tally) → IsTally base before tally → get nat_cmp tally.mentions id ≡ None
-    → record_of id base ≡ record_of id (live base before)
-held_before id base before tally is none =
-    sym (live_of id base before ∙ ap (by_mention (record_of id base)) (sym (is.mentions id) ∙ ap option_copied none))
-
--- Otherwise it is what the last mention says.
-pub held_said : (id : ℕ) (base : List Record) (before : List Event) (tally : Tally) (event : Bor Event) → IsTally base before tally → get nat_cmp tally.mentions id ≡ Some event
-    → by_mention None (Some event.now) ≡ record_of id (live base before)
-held_said id base before tally event is some =
-    sym (live_of id base before ∙ ap (by_mention (record_of id base)) (sym (is.mentions id) ∙ ap option_copied some))
+pub held_is : (id : ℕ) (base : List Record) (before : List Event) (tally : Tally) (last : Option (Bor Event)) → IsTally base before tally → last ≡ get nat_cmp tally.mentions id
+    → by_mention (record_of id tally.records.now) (option_copied last) ≡ record_of id (live base before)
+held_is id base before tally last is found = ap₂ by_mention (ap (record_of id) is.records) (ap option_copied found ∙ is.mentions id) ∙ sym (live_of id base before)
 
 -- ---- one event more
 

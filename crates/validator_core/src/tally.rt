@@ -8,7 +8,7 @@ ghost use Rattle.swima_model.specs.declared.event.Event.{Event};
 ghost use Rattle.swima_model.specs.declared.record.Record.{Record};
 ghost use Rattle.swima_model.specs.History.{is_carried, is_contradiction};
 ghost use Rattle.swima_model.specs.InOrder.{ids};
-ghost use Rattle.swima_model.specs.Live.{by_mention, live, record_of};
+ghost use Rattle.swima_model.specs.Live.{by_mention, record_of};
 ghost use Rattle.swima_model.specs.Size.{MOST_CONTENT_OCTETS, records_octets};
 ghost use Rattle.validator_core.specs.Tally.{AreFew, Follows, IsTally, too_many};
 ghost use Rattle.validator_core.specs.Weighed.{AreWeighed};
@@ -53,7 +53,8 @@ impl<'a> Tally<'a> {
         self.octet_count
     }
 
-    /// Follows an event that fits, or gives what is to be said of one that does not.
+    /// Follows an event that fits, or gives what is to be said of one that does not; the tally is of
+    /// no use after that.
     pub(crate) fn follow(&mut self, event: &'a Event) -> Result<Option<Taken>, Memory>
         requires some { (base : List Record) × (before : List Event) × IsTally base before self.old }
         requires few { AreFew self.old }
@@ -61,28 +62,17 @@ impl<'a> Tally<'a> {
             → IfOk result (λ said. Follows base before event.now said self.new) }
         ensures few { IfOk result (λ said. said ≡ None → AreFew self.new) }
     {
-        let held = self.held(event.subject.id);
+        let id = event.subject.id;
+        let last = self.mentions.insert(id, event)?;
+        let held = live_record(self.records, id, last);
         if is_contradiction(event, held) {
             return Ok(Some(Taken::Contradiction { eid: event.eid }));
         }
         let gone = weight(held);
         let come = weight(said(event));
-        self.mentions.insert(event.subject.id, event)?;
         self.count = self.count + come.0 - gone.0;
         self.octet_count = self.octet_count + come.1 - gone.1;
         Ok(self.too_large())
-    }
-
-    /// What is live of the record of this identifier.
-    fn held(&self, id: u32) -> Option<&'a Record>
-        requires rising { IsStrictlyIncreasing (ids self.now.records.now) }
-        ensures held { (base : List Record) (before : List Event) → IsTally base before self.now
-            → option_copied result ≡ record_of id (live base before) }
-    {
-        match self.mentions.get(&id) {
-            None => record_of(self.records, id),
-            Some(event) => said(*event),
-        }
     }
 
     /// What is said where too much is live.
@@ -97,6 +87,17 @@ impl<'a> Tally<'a> {
             });
         }
         None
+    }
+}
+
+/// What is live of the record of this identifier, where that is its last mention.
+fn live_record<'a>(records: &'a [Record], id: u32, last: Option<&'a Event>) -> Option<&'a Record>
+    requires rising { IsStrictlyIncreasing (ids records.now) }
+    ensures held { option_copied result ≡ by_mention (record_of id records.now) (option_copied last.entry) }
+{
+    match last {
+        None => record_of(records, id),
+        Some(event) => said(event),
     }
 }
 
