@@ -1,8 +1,8 @@
 -- Where a mirror stands after an answer, and what it holds.
-use Rattle.std.proofs.Common.{◌≡◌, ℕ, eqb, leb, ltb, cond, false, not, List, [], length, Option, Some, None, refl, sym, ap, ◌∙◌, subst, arith, eqb-true, ltb-false}
-use Rattle.std.proofs.lemmas.Bool.{cond_both, not-false, or_parts}
-use Rattle.std.specs.List.Sorted.{IsStrictlyIncreasing}
-use Rattle.std.proofs.lemmas.List.Sorted.{sum_by-IsPermutation}
+use Rattle.std.proofs.Common.{◌≡◌, ℕ, eqb, leb, ltb, cond, false, not, List, [], length, Option, Some, None, refl, sym, ap, ap₂, ◌∙◌, subst, arith, eqb-true, ltb-false}
+use Rattle.std.proofs.lemmas.Bool.{cond-false, cond_both, not-false, or_parts}
+use Rattle.std.specs.List.Sorted.{IsPermutation, IsStrictlyIncreasing}
+use Rattle.std.proofs.lemmas.List.Sorted.{IsPermutation-map, sum_by-IsPermutation}
 use Rattle.swima_model.specs.Doubled.{doubled}
 use Rattle.swima_model.specs.InOrder.{ids, in_order}
 use Rattle.swima_model.specs.Live.{live}
@@ -15,6 +15,7 @@ use Rattle.swima_model.specs.declared.report.Report.{Report}
 use Rattle.swima_model.specs.declared.report.Report.TheVariants.{Inventory, Events}
 use Rattle.swima_model.proofs.Living.{live_rises}
 use Rattle.swima_model.proofs.Placing.{in_order_permutation, in_order_rising_permutation, length_in_order}
+use Rattle.swima_model.proofs.Repeats.{doubled_least, found_doubled}
 use Rattle.validator_core.specs.declared.mirror.Taken.{Taken}
 use Rattle.validator_core.specs.declared.mirror.Taken.TheVariants as taken
 use Rattle.validator_core.specs.Following.{events_above, first_misfit, gap}
@@ -149,7 +150,24 @@ judge_keeps_rising mirror (Events kind fulfil id point consulted events) up =
     each_events_line (λ (judged : Taken × Held). IsRising judged.1) mirror kind point.epoch consulted events up (λ _. up) up (λ _ _. up) (λ _ _. up)
     (λ held _ _. live_rises mirror.records (events_above held.eid events) up)
 
--- Records that are not too many fit into a mirror in their order.
+-- The smallest doubled identifier is the same in any order.
+pub doubled_permuted : (records others : List Record) → IsPermutation records others → doubled (ids records) ≡ doubled (ids others)
+doubled_permuted records others moved =
+    sym (found_doubled (ids records) (ids others) (doubled (ids others)) (IsPermutation-map (λ (r : Record). r.id) records others moved) (doubled_least (ids others)))
+
+-- Records that are not too many are refused for a doubled identifier, or taken.
+pub twice : (mirror : Held) (point : Point) (records : List Record) (id : ℕ) → doubled (ids records) ≡ Some id
+    → judge_records mirror point records (doubled (ids records)) ≡ (taken.Doubled id, marked mirror)
+twice mirror point records id is = ap (judge_records mirror point records) is
+
+pub adopted : (mirror : Held) (point : Point) (records ordered : List Record) (count octets : ℕ) → count ≡ length records → octets ≡ records_octets records → is_large count octets ≡ false
+    → doubled (ids records) ≡ None → ordered ≡ in_order records
+    → judge_records mirror point records (doubled (ids records)) ≡ (taken.Adopted, record mirror { point = Some point; records = ordered; off = false })
+adopted mirror point records ordered count octets counted weighed fits distinct order =
+    ap (judge_records mirror point records) distinct ∙ cond-false (is_large (length records) (records_octets records)) _ _ (ap₂ is_large (sym counted) (sym weighed) ∙ fits)
+    ∙ ap (λ (rs : List Record). (taken.Adopted, record mirror { point = Some point; records = rs; off = false })) (sym order)
+
+-- They fit into a mirror in their order.
 pub weighed_in_order : (records ordered : List Record) (count octets : ℕ) → count ≡ length records → octets ≡ records_octets records → is_large count octets ≡ false
     → doubled (ids records) ≡ None → ordered ≡ in_order records → AreWeighed ordered octets
 weighed_in_order records ordered count octets counted weighed fits distinct order =

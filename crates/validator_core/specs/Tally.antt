@@ -14,8 +14,8 @@ use Rattle.validator_core.specs.declared.mirror.Taken.TheVariants as taken
 use Rattle.validator_core.specs.declared.tally.Tally.{Tally}
 use Rattle.validator_core.specs.Following.{misfit}
 
--- The tally is of these records, in order of identifier, and these events: it has the last mention of
--- each record, and counts what is live.
+-- The tally is of these records, in order of identifier, and these events: it has the last mention
+-- of each record, and counts what is live.
 pub record IsTally (base : List Record) (before : List Event) (tally : Tally) : Type 0 where
   pub rising : IsStrictlyIncreasing (ids base)
   pub records : tally.records.now ≡ base

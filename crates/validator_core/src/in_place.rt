@@ -53,8 +53,8 @@ pub(crate) fn put_each(records: &mut Vec<Record>, given: Vec<Record>)
     }
 }
 
-/// Puts a record in place of the one of its identifier, or after all others, where there is room for
-/// it. It takes no memory.
+/// Puts a record in place of the one of its identifier, or after all others, where there is room
+/// for it. It takes no memory.
 fn put(records: &mut Vec<Record>, given: Record)
     requires rising { IsStrictlyIncreasing (ids records.old.items) }
     requires fits { IsSome (record_of given.id records.old.items)

@@ -33,7 +33,7 @@
 //! | `Following`, `Tally` | how events follow on what is held; what judges the next |
 //! | `Mentions`, `Gone` | what events say of records, and which are gone after them |
 //! | `Merged`, `Further` | records of two lists in one; which can be put in place |
-//! | `MaybeOwned`, `Weighed` | lists lent or given up; what a mirror has beside its records |
+//! | `MaybeOwned`, `Weighed` | lists lent or given up; a mirror's records and their octets |
 //! | `Kept`, `Growth`, `Recovery` | the laws: what reports keep, growing histories, the mark |
 #![tactic(auto)]
 

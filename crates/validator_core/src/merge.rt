@@ -24,8 +24,8 @@ pub(crate) fn merge(records: &mut Vec<Record>, held: Vec<Record>, given: Vec<Rec
     records.append(&mut left).unwrap();
 }
 
-/// Puts those of the given records that are below the one that is held, where there is room for all.
-/// It takes no memory.
+/// Puts those of the given records that are below the one that is held, where there is room for
+/// all. It takes no memory.
 fn put_below(records: &mut Vec<Record>, given: &mut Vec<Record>, held: &Record)
     requires room { vec_len records.old + vec_len given.old ≤ vec_capacity records.old }
     ensures put { (later : List RecordValue) → records.new.items ++ merged (held.now ∷ later) (reverse given.new.items)

@@ -53,8 +53,8 @@ impl<'a> Tally<'a> {
         self.octet_count
     }
 
-    /// Follows an event that fits, or gives what is to be said of one that does not; the tally is of
-    /// no use after that.
+    /// Follows an event that fits, or gives what is to be said of one that does not. After that the
+    /// tally is of no use.
     pub(crate) fn follow(&mut self, event: &'a Event) -> Result<Option<Taken>, Memory>
         requires some { (base : List Record) × (before : List Event) × IsTally base before self.old }
         requires few { AreFew self.old }

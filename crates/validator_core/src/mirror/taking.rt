@@ -57,7 +57,8 @@ impl Mirror {
         }
     }
 
-    /// Takes the records of an inventory that is not stale.
+    /// Takes the records of an inventory that is not stale. Where they are not too many they are
+    /// put in order first, and a doubled identifier is found in that order.
     fn take_records(&mut self, point: Point, records: MaybeOwned<Record>) -> Result<Taken, Memory>
         requires { length (list_of records) < 2 ^ 32 }
         ensures judged { IfOk result (λ answer.
@@ -66,20 +67,25 @@ impl Mirror {
         ensures unchanged { OnErr result (self.new ≡ self.old) }
     {
         let alloc = *self.records.allocator();
-        if let Some(id) = doubled(alloc, records.as_slice())? {
-            self.off = true;
-            return Ok(Taken::Doubled { id });
-        }
         let count = records.as_slice().len();
         let octets = records_octets(records.as_slice());
         if is_large(count, octets) {
+            let found = doubled(alloc, records.as_slice())?;
             self.off = true;
-            return Ok(Taken::Large {
-                count: count as u32,
-                octets,
-            });
+            return match found {
+                Some(id) => Ok(Taken::Doubled { id }),
+                None => Ok(Taken::Large {
+                    count: count as u32,
+                    octets,
+                }),
+            };
         }
-        self.records = in_order(records.into_list()?);
+        let ordered = in_order(records.into_list()?);
+        if let Some(id) = doubled(alloc, ordered.as_slice())? {
+            self.off = true;
+            return Ok(Taken::Doubled { id });
+        }
+        self.records = ordered;
         self.octet_count = octets;
         self.point = Some(point);
         self.off = false;

@@ -1,5 +1,5 @@
 -- Where no two have the same identifier, each sort by identifier gives `in_order`.
-use Rattle.std.proofs.Common.{◌∙◌, List, ap, rules}
+use Rattle.std.proofs.Common.{◌∙◌, List, ap, rules, subst}
 use Rattle.std.specs.List.Sorted.{IsPermutation, IsStrictlyIncreasing}
 use Rattle.std.proofs.lemmas.List.Sorted.{IsNonDecreasingBy-from_sort_by_key, IsPermutation-sym, IsPermutation-trans}
 use Rattle.swima_model.specs.declared.record.Record.{Record}
@@ -16,10 +16,11 @@ returns c =
     let made = c.sort_unstable_by_key.new.self.items in
     let copied = c.into_vec-items.ensures.items in
     let up = IsNonDecreasingBy-from_sort_by_key (λ (r : Record). r.id) _ c.sort_unstable_by_key.ensures.sorted (λ a r q k. search rules) in
-    let strict : IsStrictlyIncreasing (ids (in_order given)) =
-    (in_order_rising_permutation given).strict (ap (λ (rs : List Record). doubled (ids rs)) copied ∙ c.requires.distinct) in
-    let moved : IsPermutation (in_order given) made =
-    IsPermutation-trans (in_order given) given made (IsPermutation-sym given (in_order given) (in_order_permutation given)) c.sort_unstable_by_key.ensures.permutation in
+    let moved : IsPermutation given made = c.sort_unstable_by_key.ensures.permutation in
+    let turned : IsPermutation (in_order given) made = IsPermutation-trans (in_order given) given made (IsPermutation-sym given (in_order given) (in_order_permutation given)) moved in
     record {
-      order = same_in_order (in_order given) made moved strict (rises_by (λ (r : Record). r.id) _ up) ∙ ap in_order copied;
+      same = subst (λ (rs : List Record). IsPermutation rs made) copied moved;
+      order = λ none.
+          let strict : IsStrictlyIncreasing (ids (in_order given)) = (in_order_rising_permutation given).strict (ap (λ (rs : List Record). doubled (ids rs)) copied ∙ none) in
+          same_in_order (in_order given) made turned strict (rises_by (λ (r : Record). r.id) _ up) ∙ ap in_order copied;
     }
