@@ -1,11 +1,12 @@
 -- Where a mirror stands after an answer, and what it holds.
-use Rattle.std.proofs.Common.{◌≡◌, ℕ, eqb, leb, ltb, cond, false, not, List, [], length, Option, Some, None, refl, sym, ap, ap₂, ◌∙◌, subst, arith, eqb-true, ltb-false}
-use Rattle.std.proofs.lemmas.Bool.{cond-false, cond_both, not-false, or_parts}
-use Rattle.std.specs.List.Sorted.{IsPermutation, IsStrictlyIncreasing}
-use Rattle.std.proofs.lemmas.List.Sorted.{IsPermutation-map, sum_by-IsPermutation}
+use Rattle.std.proofs.Common.{◌≡◌, ℕ, eqb, leb, ltb, cond, false, true, not, List, [], length, Option, Some, None, refl, sym, ap, ap₂, ◌∙◌, subst, arith, eqb-true, ltb-false}
+use Rattle.std.proofs.lemmas.Bool.{cond-false, cond-true, cond_both, not-false, or_parts}
+use Rattle.std.specs.List.Sorted.{IsStrictlyIncreasing}
+use Rattle.std.proofs.lemmas.List.Sorted.{sum_by-IsPermutation}
 use Rattle.swima_model.specs.Doubled.{doubled}
 use Rattle.swima_model.specs.InOrder.{ids, in_order}
 use Rattle.swima_model.specs.Live.{live}
+use Rattle.swima_model.specs.Repeated.{IsLeastRepeated}
 use Rattle.swima_model.specs.Size.{content_octets, is_large, records_octets}
 use Rattle.swima_model.specs.declared.event.Event.{Event}
 use Rattle.swima_model.specs.declared.record.Record.{Record}
@@ -15,13 +16,15 @@ use Rattle.swima_model.specs.declared.report.Report.{Report}
 use Rattle.swima_model.specs.declared.report.Report.TheVariants.{Inventory, Events}
 use Rattle.swima_model.proofs.Living.{live_rises}
 use Rattle.swima_model.proofs.Placing.{in_order_permutation, in_order_rising_permutation, length_in_order}
-use Rattle.swima_model.proofs.Repeats.{doubled_least, found_doubled}
+use Rattle.swima_model.proofs.Repeats.{found_doubled}
 use Rattle.validator_core.specs.declared.mirror.Taken.{Taken}
 use Rattle.validator_core.specs.declared.mirror.Taken.TheVariants as taken
 use Rattle.validator_core.specs.Following.{events_above, first_misfit, gap}
 use Rattle.validator_core.specs.Held.{Held}
 use Rattle.validator_core.specs.Kept.{IsRising, JudgeKeepsRising}
+use Rattle.validator_core.specs.Placed.{AreInOrder, ids_of}
 use Rattle.validator_core.specs.Weighed.{AreWeighed}
+use Rattle.validator_core.specs.declared.order.Placed.{Placed}
 use Rattle.validator_core.specs.Judge.{Judged, StandsAt, is_stale, judge, judge_above, judge_events, judge_events_at, judge_inventory, judge_numbered, judge_records, marked, same_kind}
 use Rattle.validator_core.proofs.Misfits.{IsMisfit, IsMisfitIfAny, misfit_after}
 
@@ -150,15 +153,23 @@ judge_keeps_rising mirror (Events kind fulfil id point consulted events) up =
     each_events_line (λ (judged : Taken × Held). IsRising judged.1) mirror kind point.epoch consulted events up (λ _. up) up (λ _ _. up) (λ _ _. up)
     (λ held _ _. live_rises mirror.records (events_above held.eid events) up)
 
--- The smallest doubled identifier is the same in any order.
-pub doubled_permuted : (records others : List Record) → IsPermutation records others → doubled (ids records) ≡ doubled (ids others)
-doubled_permuted records others moved =
-    sym (found_doubled (ids records) (ids others) (doubled (ids others)) (IsPermutation-map (λ (r : Record). r.id) records others moved) (doubled_least (ids others)))
+-- The smallest doubled identifier is the one that is found among the identifiers in order.
+pub doubled_in_order : (records given : List Record) (places seen : List Placed) (found : Option ℕ) → given ≡ records → seen ≡ places
+    → AreInOrder given places → IsLeastRepeated (ids_of seen) found → doubled (ids records) ≡ found
+doubled_in_order records given places seen found all same order least =
+    ap (λ (rs : List Record). doubled (ids rs)) (sym all)
+    ∙ sym (found_doubled (ids given) (ids_of places) found order.same (subst (λ (ps : List Placed). IsLeastRepeated (ids_of ps) found) same least))
 
--- Records that are not too many are refused for a doubled identifier, or taken.
+-- Records are refused for a doubled identifier, or because they are too large, or taken.
 pub twice : (mirror : Held) (point : Point) (records : List Record) (id : ℕ) → doubled (ids records) ≡ Some id
     → judge_records mirror point records (doubled (ids records)) ≡ (taken.Doubled id, marked mirror)
 twice mirror point records id is = ap (judge_records mirror point records) is
+
+pub too_large : (mirror : Held) (point : Point) (records : List Record) (count octets : ℕ) → count ≡ length records → octets ≡ records_octets records → is_large count octets ≡ true
+    → doubled (ids records) ≡ None → judge_records mirror point records (doubled (ids records)) ≡ (taken.Large count octets, marked mirror)
+too_large mirror point records count octets counted weighed large distinct =
+    ap (judge_records mirror point records) distinct ∙ cond-true (is_large (length records) (records_octets records)) _ _ (ap₂ is_large (sym counted) (sym weighed) ∙ large)
+    ∙ ap₂ (λ (n k : ℕ). (taken.Large n k, marked mirror)) (sym counted) (sym weighed)
 
 pub adopted : (mirror : Held) (point : Point) (records ordered : List Record) (count octets : ℕ) → count ≡ length records → octets ≡ records_octets records → is_large count octets ≡ false
     → doubled (ids records) ≡ None → ordered ≡ in_order records

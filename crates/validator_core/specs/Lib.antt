@@ -7,6 +7,7 @@ pub mod Judge
 pub mod Kept
 pub mod Mentions
 pub mod Merged
+pub mod Placed
 pub mod Recovery
 pub mod Right
 pub mod Want

@@ -32,6 +32,7 @@
 //! | `Right`, `Want` | when it is right over a history, and what it wants next |
 //! | `Following`, `Tally` | how events follow on what is held; what judges the next |
 //! | `Mentions`, `Gone` | what events say of records, and which are gone after them |
+//! | `Placed` | the identifiers of an inventory in order, with the places of their records |
 //! | `Merged`, `Further` | records of two lists in one; which can be put in place |
 //! | `MaybeOwned`, `Weighed` | lists lent or given up; a mirror's records and their octets |
 //! | `Kept`, `Growth`, `Recovery` | the laws: what reports keep, growing histories, the mark |

@@ -13,9 +13,9 @@ use crate::doubled::doubled;
 use crate::follow::follow;
 use crate::gap::gap;
 use crate::lent_or_owned::MaybeOwned;
-use crate::limits::{is_large, records_octets};
+use crate::limits::is_large;
 use crate::misfit::first_misfit;
-use crate::order::in_order;
+use crate::order::{Listed, in_order, list};
 use crate::tally::Tally;
 use swima_model::{Event, Kind, Point, Record};
 use wire_base::Memory;
@@ -57,8 +57,7 @@ impl Mirror {
         }
     }
 
-    /// Takes the records of an inventory that is not stale. Where they are not too many they are
-    /// put in order first, and a doubled identifier is found in that order.
+    /// Takes the records of an inventory that is not stale.
     fn take_records(&mut self, point: Point, records: MaybeOwned<Record>) -> Result<Taken, Memory>
         requires { length (list_of records) < 2 ^ 32 }
         ensures judged { IfOk result (λ answer.
@@ -66,26 +65,20 @@ impl Mirror {
             ≡ (answer, self.new)) }
         ensures unchanged { OnErr result (self.new ≡ self.old) }
     {
-        let alloc = *self.records.allocator();
         let count = records.as_slice().len();
-        let octets = records_octets(records.as_slice());
-        if is_large(count, octets) {
-            let found = doubled(alloc, records.as_slice())?;
-            self.off = true;
-            return match found {
-                Some(id) => Ok(Taken::Doubled { id }),
-                None => Ok(Taken::Large {
-                    count: count as u32,
-                    octets,
-                }),
-            };
-        }
-        let ordered = in_order(records.into_list()?);
-        if let Some(id) = doubled(alloc, ordered.as_slice())? {
+        let Listed { places, octets } = list(*self.records.allocator(), records.as_slice())?;
+        if let Some(id) = doubled(places.as_slice()) {
             self.off = true;
             return Ok(Taken::Doubled { id });
         }
-        self.records = ordered;
+        if is_large(count, octets) {
+            self.off = true;
+            return Ok(Taken::Large {
+                count: count as u32,
+                octets,
+            });
+        }
+        self.records = in_order(records.into_list()?, places);
         self.octet_count = octets;
         self.point = Some(point);
         self.off = false;

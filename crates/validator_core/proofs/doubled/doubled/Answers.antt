@@ -1,23 +1,31 @@
--- The identifiers in order have the doubled ones of the records.
-use Rattle.std.proofs.Common.{◌∙◌, ℕ, List, ap, sym, subst}
-use Rattle.std.specs.List.Sorted.{IsPermutation, IsNonDecreasing}
-use Rattle.std.proofs.lemmas.List.{take_all}
-use Rattle.std.proofs.lemmas.List.Sorted.{IsNonDecreasingBy-from_sort}
-use Rattle.swima_model.specs.InOrder.{ids}
+-- The first number that equals the one before it is the least that stands twice.
+use Rattle.std.proofs.Common.{◌∙◌, ◌≡◌, ◌+◌, ◌<◌, ℕ, List, Option, Some, None, true, eqb, ap, sym, subst, get_or, drop, length, eqb-true}
+use Rattle.std.specs.Option.{option_eq}
+use Rattle.std.proofs.lemmas.Bool.{cond-true, false≢true}
+use Rattle.std.proofs.lemmas.List.{at_drop_all, at_drop_more}
 use Rattle.swima_model.specs.Repeated.{IsLeastRepeated}
-use Rattle.swima_model.proofs.Repeats.{found_doubled}
+use Rattle.swima_model.proofs.Rises.{rises, repeat_after, least_of_rising}
+use Rattle.validator_core.specs.Placed.{ids_of}
+use Rattle.validator_core.specs.declared.order.Placed.{Placed}
 use Rattle.validator_core.proofs.doubled.doubled.Goals as goal
 
-pub repeated-requires : goal.repeated-requires
-repeated-requires c =
-    let sorted = c.sort_unstable.new.self.items in
-    record { rising = subst IsNonDecreasing (sym c.as_slice.ensures.value) (IsNonDecreasingBy-from_sort (λ (n : ℕ). n) sorted c.sort_unstable.ensures.sorted) }
+found_here : (before : Option ℕ) (places : List Placed) (i : ℕ) (d : Placed) → i < length places → option_eq eqb before (Some (get_or places i d).id) ≡ true
+    → repeat_after before (ids_of (drop i places)) ≡ before
+found_here None places i d lt e = absurd (false≢true e)
+found_here (Some b) places i d lt e =
+    let n = (get_or places i d).id in
+    at_drop_more (λ (ps : List Placed). repeat_after (Some b) (ids_of ps)) places i d lt
+    ∙ cond-true (eqb b n) (Some n) (repeat_after (Some n) (ids_of (drop (i + 1) places))) e
+    ∙ ap (λ (m : ℕ). Some m) (sym (eqb-true b n e))
+
+pub returns-then-eq : goal.returns-then-eq
+returns-then-eq c =
+    let numbers = ids_of c.args.places.now in
+    let here = found_here c.loop-placed.before c.args.places.now c.loop-placed.placed-index _ c.loop-placed-test.true (sym c.eq.ensures ∙ c.if-eq.true) in
+    record { least = subst (IsLeastRepeated numbers) (sym c.loop-placed.invariant ∙ here) (least_of_rising numbers (rises numbers c.requires.rising)) }
 
 pub returns : goal.returns
 returns c =
-    let records = c.args.records.now in
-    let sorted = c.sort_unstable.new.self.items in
-    let all = c.loop-record.invariant ∙ ap ids (take_all c.loop-record.record-index records c.loop-record-test.false) in
-    let order = subst (λ (numbers : List ℕ). IsPermutation numbers sorted) all c.sort_unstable.ensures.permutation in
-    let least = subst (λ (numbers : List ℕ). IsLeastRepeated numbers c.repeated.result) c.as_slice.ensures.value c.repeated.ensures.least in
-    record { smallest = found_doubled (ids records) sorted c.repeated.result order least }
+    let numbers = ids_of c.args.places.now in
+    let none = at_drop_all (λ (ps : List Placed). repeat_after c.loop-placed.before (ids_of ps)) c.args.places.now c.loop-placed.placed-index c.loop-placed-test.false in
+    record { least = subst (IsLeastRepeated numbers) (sym c.loop-placed.invariant ∙ none) (least_of_rising numbers (rises numbers c.requires.rising)) }
