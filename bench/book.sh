@@ -25,6 +25,7 @@
 #   middle   the same with the record in the middle
 #   last     the same with the last record
 #   delete   the record of the lowest identifier is deleted
+#   upper    the record of the lowest identifier in the upper half is deleted
 #
 # Two tables come after it: how much longer each work takes with 65,536 records than with 1,000, and
 # how long it takes to delete all 65,536 in order.
@@ -78,6 +79,7 @@ works=('answer 20' 'targets 10000' 'events 20000' 'change 500000' 'rename 500000
         done
     done
     row 65536 delete 65536
+    row 65536 upper 32768
 } | awk -F '\t' -v runs="$runs" '
     BEGIN {
         printf "a book, lowest time of %d runs\n\n", runs

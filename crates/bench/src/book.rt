@@ -49,6 +49,8 @@ pub(crate) enum Work {
     Last,
     /// A deletion of the first record.
     Delete,
+    /// A deletion of the first record of the upper half.
+    Upper,
 }
 
 impl Work {
@@ -64,6 +66,7 @@ impl Work {
             "middle" => Ok(Work::Middle),
             "last" => Ok(Work::Last),
             "delete" => Ok(Work::Delete),
+            "upper" => Ok(Work::Upper),
             _ => Err(Trouble::Words),
         }
     }
@@ -88,7 +91,8 @@ fn done_on(alloc: Global, book: &mut Book, work: Work, times: u32) -> Result<u64
         Work::First => exchanges(alloc, book, 1, times),
         Work::Middle => exchanges(alloc, book, count / 2 + 1, times),
         Work::Last => exchanges(alloc, book, count, times),
-        Work::Delete => deletions(book, times),
+        Work::Delete => deletions(book, 1, times),
+        Work::Upper => deletions(book, count / 2 + 1, times),
     }
 }
 
@@ -193,10 +197,10 @@ fn alter_in_turns(
     Ok(done)
 }
 
-/// Deletes the records of the lowest identifiers, that many, and gives how many.
-fn deletions(book: &mut Book, times: u32) -> Result<u64, Trouble> {
+/// Deletes that many records, of the identifier `first` and of those above it, and gives how many.
+fn deletions(book: &mut Book, first: u32, times: u32) -> Result<u64, Trouble> {
     for before in 0..times {
-        delete(book, before.saturating_add(1))?;
+        delete(book, first.saturating_add(before))?;
     }
     Ok(times as u64)
 }

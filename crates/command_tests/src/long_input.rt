@@ -7,12 +7,12 @@ use std::test::Fail;
 use wire_base::{Failed, Source};
 
 /// Octets, and how many of any value follow them, at least one.
-pub type Part = (&'static [u8], usize);
+pub(crate) type Part = (&'static [u8], usize);
 
 /// An input of parts one after another. Octets of any value are what stands where they are read to,
 /// so they take no time.
 #[derive(Drop)]
-pub struct LongInput {
+pub(crate) struct LongInput {
     parts: Vec<Part>,
     /// The place of the part that is read next.
     next: usize,
@@ -20,13 +20,18 @@ pub struct LongInput {
 
 impl LongInput {
     /// An input of these parts.
-    pub fn new(alloc: Global, parts: &[Part]) -> Result<Self, Fail> {
+    pub(crate) fn new(alloc: Global, parts: &[Part]) -> Result<Self, Fail> {
         let parts = Vec::from_slice(alloc, parts)?;
         Ok(LongInput { parts, next: 0 })
     }
 
     /// An input of a part `count` times, and of these after it.
-    pub fn repeated(alloc: Global, part: Part, count: u32, last: &[Part]) -> Result<Self, Fail> {
+    pub(crate) fn repeated(
+        alloc: Global,
+        part: Part,
+        count: u32,
+        last: &[Part],
+    ) -> Result<Self, Fail> {
         let mut parts = Vec::new(alloc);
         for _ in 0..count {
             parts.push(part)?;

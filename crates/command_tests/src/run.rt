@@ -11,7 +11,7 @@ const ROOM: usize = 4_194_304;
 
 /// The status, and what was written, of the words over this input and these files. The calls of
 /// these numbers fail, of the output.
-pub fn run<S: Source>(
+pub(crate) fn run<S: Source>(
     alloc: Global,
     words: &[&str],
     input: &mut S,
@@ -24,13 +24,13 @@ pub fn run<S: Source>(
 }
 
 /// Whether the answer has that status and that text.
-pub fn is_printed(answer: (u8, Octets), wanted: (u8, &str)) -> bool {
+pub(crate) fn is_printed(answer: (u8, Octets), wanted: (u8, &str)) -> bool {
     answer.0 == wanted.0 && answer.1.as_slice() == wanted.1.as_bytes()
 }
 
 /// Whether that status comes of the words over this input, and that text is written. The calls of
 /// these numbers fail, of the input and of the output.
-pub fn prints_failing(
+pub(crate) fn prints_failing(
     alloc: Global,
     words: &[&str],
     input: &[u8],
@@ -46,7 +46,7 @@ pub fn prints_failing(
 }
 
 /// The same of a long input, where no call fails.
-pub fn prints(
+pub(crate) fn prints(
     alloc: Global,
     words: &[&str],
     mut input: LongInput,
@@ -57,7 +57,7 @@ pub fn prints(
 }
 
 /// The same of an input of one part.
-pub fn prints_part(
+pub(crate) fn prints_part(
     alloc: Global,
     words: &[&str],
     part: Part,

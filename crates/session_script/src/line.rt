@@ -12,7 +12,7 @@ use wire_base::Memory;
 
 /// A line.
 #[derive(Debug, Drop)]
-pub enum Line {
+pub(crate) enum Line {
     /// Creates a record.
     Create(Content),
     /// Gives a record another content.
