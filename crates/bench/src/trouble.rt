@@ -38,7 +38,7 @@ pub(crate) enum Trouble {
 const WORDS: &str = "\
 the words are none of these:
   bench book RECORDS answer|targets|events|change|rename TIMES
-  bench book RECORDS first|middle|last|delete TIMES
+  bench book RECORDS first|middle|last|delete|upper TIMES
   bench shelf alone|1|2|4 change|read|both TIMES
   bench shelf 1|2|4 events TIMES
   bench sessions first RECORDS SIZE
