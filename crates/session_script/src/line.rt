@@ -12,7 +12,7 @@ use wire_base::Memory;
 
 /// A line.
 #[derive(Debug, Drop)]
-pub(crate) enum Line {
+pub enum Line {
     /// Creates a record.
     Create(Content),
     /// Gives a record another content.
