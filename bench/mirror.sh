@@ -5,7 +5,8 @@
 # 65,536 records with bodies of 1 KiB.
 #
 # usage: bench/mirror.sh [RUNS]     each of the two runs RUNS times on each input, in turns,
-#                                   5 if not given
+#                                   5 if not given; 8 times as often on an input below 8,000,000
+#                                   octets, since the time of a few milliseconds spreads more
 #
 # The program is built first where that is needed, and building is not measured. The times are those
 # of the program alone, without the start script and with its output thrown away. What its process
@@ -74,9 +75,11 @@ END
 # Writes the stream of the words after the kind, measures, and prints a line: name, octets,
 # microseconds of both, KiB, status, last answer.
 measure() {
-    local name=$1 kind=$2 ours='' theirs='' took status
+    local name=$1 kind=$2 ours='' theirs='' took turns status
     python3 "$top/bench/streams.py" "${@:3}" "$input" || exit 1
-    for ((run = 0; run < runs; run++)); do
+    turns=$runs
+    if [ "$(stat -c %s -- "$input")" -lt 8000000 ]; then turns=$((8 * runs)); fi
+    for ((run = 0; run < turns; run++)); do
         took=$(microseconds "$program" mirror "$kind")
         if [ -z "$ours" ] || [ "$took" -lt "$ours" ]; then ours=$took; fi
         took=$(microseconds sha256sum)
