@@ -138,7 +138,7 @@ impl Live {
     /// Puts a record of the next identifier at the end.
     pub(crate) fn push(&mut self, content: Content) -> Result<(), Memory>
         requires next { self.old.next < 2 ^ 32 - 1 }
-        ensures pushed { OnOk result (self.new ≡ record {
+        ensures appended { OnOk result (self.new ≡ record {
           next = self.old.next + 1;
           records = self.old.records ++ record { id = self.old.next; content = content } ∷ [];
         }) }
@@ -206,7 +206,7 @@ fn slot_of(places: &[Place], id: u32) -> Option<usize>
 /// Puts a place with a record at the end, where there is room for it. It takes no memory.
 fn push_place(places: &mut Vec<Place>, id: u32, content: Content)
     requires room { vec_len places.old < vec_capacity places.old }
-    ensures pushed { places.new.items ≡ places.old.items
+    ensures appended { places.new.items ≡ places.old.items
         ++ record { id = id; held = Some (record { id = id; content = content }) } ∷ [] }
 {
     let place = Place {

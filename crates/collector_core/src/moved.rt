@@ -53,7 +53,7 @@ fn later_idents(log: &EventLog, after: u32) -> ArrayVec<&[u8], MOST_EVENTS>
 /// Puts the software identifier of the event at the end, where the log keeps it.
 fn push_ident<'a>(later: &mut ArrayVec<&'a [u8], MOST_EVENTS>, log: &'a EventLog, eid: u32)
     requires room { array_vec_len later.old < 4096 }
-    ensures pushed { values later.new.items ≡ values later.old.items ++ idents (option_to_list (event_at log.now eid)) }
+    ensures appended { values later.new.items ≡ values later.old.items ++ idents (option_to_list (event_at log.now eid)) }
 {
     if let Some(event) = log.get(eid) {
         later.push(event.subject.content.ident.bytes());

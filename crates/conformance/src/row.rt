@@ -56,19 +56,19 @@ fn holds(
     line: &str,
 ) -> Option<bool> {
     let Some(row) = written_out(alloc, names, line) else {
-        return put_wrong(alloc, out, line, "no row, or out of memory");
+        return push_wrong(alloc, out, line, "no row, or out of memory");
     };
     let Some((asked, wanted)) = row.as_str().split_once(" = ") else {
-        return put_wrong(alloc, out, line, "no row");
+        return push_wrong(alloc, out, line, "no row");
     };
     let (call, words) = call_of(asked);
     match answer(alloc, held, call, words) {
-        None => put_wrong(alloc, out, line, "nothing: other words, or out of memory"),
+        None => push_wrong(alloc, out, line, "nothing: other words, or out of memory"),
         Some(text) => {
             if text.as_str() == wanted {
                 return Some(true);
             }
-            put_wrong(alloc, out, line, text.as_str())
+            push_wrong(alloc, out, line, text.as_str())
         }
     }
 }
@@ -82,7 +82,7 @@ fn call_of<'a>(asked: &'a str) -> (&'a str, &'a str) {
 }
 
 /// Puts the line and what it gives at the end of the text, and answers that the row does not hold.
-fn put_wrong(alloc: Global, out: &mut String, line: &str, gives: &str) -> Option<bool> {
+fn push_wrong(alloc: Global, out: &mut String, line: &str, gives: &str) -> Option<bool> {
     let text = format!(in alloc; "{line}\n  gives {gives}\n").ok()?;
     out.push_str(text.as_str()).ok()?;
     Some(false)

@@ -39,7 +39,7 @@ pub fn report_text(alloc: Global, report: &Report) -> Option<String> {
             let (epoch, eid) = (point.epoch, point.eid);
             let text = format!(in alloc; "{id} {epoch} {eid}").ok()?;
             out.push_str(text.as_str()).ok()?;
-            put_records(alloc, &mut out, records.as_slice())?;
+            push_records(alloc, &mut out, records.as_slice())?;
             Some(out)
         }
         Report::Events {
@@ -66,7 +66,7 @@ fn head_text(alloc: Global, attr_type: u32, kind: Kind, fulfil: bool) -> Option<
     format!(in alloc; "{attr_type} {kind} {flag} ").ok()
 }
 
-fn put_records(alloc: Global, out: &mut String, records: &[Record]) -> Option<()> {
+fn push_records(alloc: Global, out: &mut String, records: &[Record]) -> Option<()> {
     for record in records {
         let text = record_text(alloc, record)?;
         out.push_str("; ").ok()?;

@@ -13,7 +13,7 @@ impl Watch for OpenGate {
     fn stopped(&self, _why: SweepStop) {}
 }
 
-/// Tells why sweeping stopped, if it did.
+/// Lets the watch know why sweeping stopped, if it did.
 pub(crate) fn tell_stop<W: Watch>(watch: &W, stopped: Option<SweepStop>) {
     if let Some(why) = stopped {
         watch.stopped(why);

@@ -127,7 +127,7 @@ impl Subs {
     fn add(&mut self, request: &Request) -> Result<(), Memory>
         requires new { is_held request.now.id self.old ≡ false }
         requires few { length self.old < MOST }
-        ensures added { OnOk result (self.new ≡ self.old ++ new_waiting request.now ∷ []) }
+        ensures appended { OnOk result (self.new ≡ self.old ++ new_waiting request.now ∷ []) }
         ensures unchanged { OnErr result (self.new ≡ self.old) }
     {
         let request = request.copy()?;

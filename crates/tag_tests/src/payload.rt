@@ -8,11 +8,11 @@ use std::test::Fail;
 use wire_base::{List, MemFiles, Memory, NamedFile, Text};
 
 /// The SHA-256 digest of `abc`.
-pub const SHA_256: &[u8] =
+pub(crate) const SHA_256: &[u8] =
     b"\xba\x78\x16\xbf\x8f\x01\xcf\xea\x41\x41\x40\xde\x5d\xae\x22\x23\xb0\x03\x61\xa3\x96\x17\x7a\x9c\xb4\x10\xff\x61\xf2\x00\x15\xad";
 
 /// The payload whose spelling has these parts.
-pub fn payload(alloc: Global, parts: &[&[u8]]) -> Result<Payload, Fail> {
+pub(crate) fn payload(alloc: Global, parts: &[&[u8]]) -> Result<Payload, Fail> {
     let mut octets = Vec::new(alloc);
     for part in parts {
         octets.extend_from_slice(part)?;
@@ -22,7 +22,7 @@ pub fn payload(alloc: Global, parts: &[&[u8]]) -> Result<Payload, Fail> {
 }
 
 /// The payload 17: {7: [1, SHA-256 of abc], 24: NAME}, the name with its initial octets.
-pub fn stated_of(alloc: Global, name: &[u8]) -> Result<Payload, Fail> {
+pub(crate) fn stated_of(alloc: Global, name: &[u8]) -> Result<Payload, Fail> {
     let stated = [
         b"\xa1\x11\xa2\x07\x82\x01\x58\x20".as_slice(),
         SHA_256,
@@ -33,7 +33,7 @@ pub fn stated_of(alloc: Global, name: &[u8]) -> Result<Payload, Fail> {
 }
 
 /// Files of these names and contents; the calls of these numbers fail.
-pub fn files(alloc: Global, held: &[(&str, &[u8])], failing: &[u64]) -> Result<MemFiles, Memory> {
+pub(crate) fn files(alloc: Global, held: &[(&str, &[u8])], failing: &[u64]) -> Result<MemFiles, Memory> {
     let mut files = List::new(alloc);
     for (name, content) in held {
         let name = Text::new(alloc, name)?;
@@ -44,7 +44,7 @@ pub fn files(alloc: Global, held: &[(&str, &[u8])], failing: &[u64]) -> Result<M
 }
 
 /// Whether the answer is these paths and verdicts, in order.
-pub fn are(answer: Result<Verdicts, VerifyRefused>, wanted: &[(&str, Verdict)]) -> bool {
+pub(crate) fn are(answer: Result<Verdicts, VerifyRefused>, wanted: &[(&str, Verdict)]) -> bool {
     match answer {
         Ok(verdicts) => are_verdicts(verdicts.as_slice(), wanted),
         Err(_) => false,
@@ -60,7 +60,7 @@ fn are_verdicts(verdicts: &[(Text, Verdict)], wanted: &[(&str, Verdict)]) -> boo
 }
 
 /// Whether the answer is that the read of the file of this path failed.
-pub fn is_fault(answer: Result<Verdicts, VerifyRefused>, wanted: &str) -> bool {
+pub(crate) fn is_fault(answer: Result<Verdicts, VerifyRefused>, wanted: &str) -> bool {
     match answer {
         Err(VerifyRefused::FileFault { path }) => path.as_str() == wanted,
         _ => false,

@@ -22,7 +22,7 @@ pub fn put_escaped(out: &mut Octets, octets: &[u8]) -> Result<(), Memory>
         let Some((first, behind)) = others.split_first() else {
             return Ok(());
         };
-        push_hex(out, *first)?;
+        put_hex(out, *first)?;
         rest = behind;
     }
 }
@@ -42,7 +42,7 @@ fn plain_front(octets: &[u8]) -> usize
 }
 
 /// Puts an octet that does not stand for itself at the end of `out`.
-fn push_hex(out: &mut Octets, octet: u8) -> Result<(), Memory>
+fn put_hex(out: &mut Octets, octet: u8) -> Result<(), Memory>
     ensures appended { OnOk result (out.new ≡ out.old ++ hex_octet octet) }
 {
     out.extend(&[b'\\', b'x', hex_digit(octet / 16), hex_digit(octet % 16)])

@@ -175,7 +175,7 @@ impl<T: Drop> List<T> {
     /// dropped and the list is as it was.
     pub fn insert(&mut self, place: usize, item: T) -> Result<(), Memory>
         requires within { place ≤ length self.old }
-        ensures ok { OnOk result (self.new ≡ insert self.old place item) }
+        ensures inserted { OnOk result (self.new ≡ insert self.old place item) }
         ensures unchanged { OnErr result (self.new ≡ self.old) }
     {
         self.items.insert(place, item)?;

@@ -11,7 +11,7 @@ push_ident-requires c =
 pub loop-eid-preserved : goal.loop-eid-preserved
 loop-eid-preserved c =
     let first : c.max-first.result ≡ max c.args.log.now.first (c.args.after + 1) = omega (arith, c.max-first.ensures, c.first.ensures.first) in
-    c.push_ident.ensures.pushed ∙ idents_more c.args.log.now c.first.ensures.log c.args.after c.max-first.result first c.loop-eid.eid _ _ c.loop-eid.auto.eid c.loop-eid.invariant refl
+    c.push_ident.ensures.appended ∙ idents_more c.args.log.now c.first.ensures.log c.args.after c.max-first.result first c.loop-eid.eid _ _ c.loop-eid.auto.eid c.loop-eid.invariant refl
 
 pub returns : goal.returns
 returns c =

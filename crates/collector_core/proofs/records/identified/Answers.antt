@@ -10,7 +10,7 @@ and_one live content = record { next = live.next + 1; records = live.records ++ 
 
 pub loop-content-preserved : goal.loop-content-preserved
 loop-content-preserved c =
-    c.in_ok-push.ensures.pushed
+    c.in_ok-push.ensures.appended
     ∙ ap (λ (x : Content). and_one c.loop-content.live x) c.in_ok-copy.ensures.equal
     ∙ ap (λ (live : LiveView). and_one live c.content-item.result) c.loop-content.invariant
     ∙ ap (λ (rs : List Record). record { next = c.loop-content.content-index + 1 + 1; records = rs }) (sym (identified_more c.args.contents.now c.loop-content.content-index c.content-item.result (search rules) c.content-item.is))

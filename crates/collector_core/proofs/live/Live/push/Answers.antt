@@ -9,7 +9,7 @@ use Rattle.collector_core.proofs.live.Live.push.Goals as goal
 
 pub invariant_of-self-2 : goal.invariant_of-self-2
 invariant_of-self-2 c =
-    let pushed = c.push_place.ensures.pushed
+    let pushed = c.push_place.ensures.appended
     ∙ ap (λ (l : List Place). l ++ record { id = c.self.inside.next; held = Some (record { id = c.self.inside.next; content = c.args.content }) } ∷ []) c.reserve.ensures.items in (
       subst (ArePlaces (c.self.inside.next + 1) c.self.inside.empty) (sym pushed) (pushed_places c.self.inside.next c.self.inside.empty c.self.inside.places.items c.args.content c.self.invariant.0),
       subst (IsIndex c.put_key.new.index) (sym (ap standing pushed ∙ pushed_standing c.self.inside.places.items c.self.inside.next c.args.content))
@@ -19,7 +19,7 @@ invariant_of-self-2 c =
 
 pub returns-clause-pushed : goal.returns-clause-pushed
 returns-clause-pushed c =
-    let pushed = c.push_place.ensures.pushed
+    let pushed = c.push_place.ensures.appended
     ∙ ap (λ (l : List Place). l ++ record { id = c.self.inside.next; held = Some (record { id = c.self.inside.next; content = c.args.content }) } ∷ []) c.reserve.ensures.items in
     ap (λ (rs : List Record). record { next = c.self.inside.next + 1; records = rs }) (ap standing pushed ∙ pushed_standing c.self.inside.places.items c.self.inside.next c.args.content)
     ∙ ap (λ (live : LiveView). record { next = live.next + 1; records = live.records ++ record { id = live.next; content = c.args.content } ∷ [] }) c.self.view_is

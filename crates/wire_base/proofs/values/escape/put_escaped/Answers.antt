@@ -17,5 +17,5 @@ returns-in_default c = record {
 
 pub loop-first-preserved : goal.loop-first-preserved
 loop-first-preserved c =
-    put_past c.loop-first.rest.now _ _ c.in-Some.behind.now c.loop-first.out _ c.push_hex.new.out _ c.plain_front.result c.in-Some.first.now c.plain_front.ensures.front c.split_at.ensures.front c.split_at.ensures.back c.in-Some.ensures.cases.0
-    c.in_ok-extend.ensures.appended c.in_ok-push_hex.ensures.appended c.loop-first.invariant
+    put_past c.loop-first.rest.now _ _ c.in-Some.behind.now c.loop-first.out _ c.put_hex.new.out _ c.plain_front.result c.in-Some.first.now c.plain_front.ensures.front c.split_at.ensures.front c.split_at.ensures.back c.in-Some.ensures.cases.0
+    c.in_ok-extend.ensures.appended c.in_ok-put_hex.ensures.appended c.loop-first.invariant
