@@ -19,6 +19,9 @@
 # The row `rt` has what `rt ci` takes itself, with programs that are of no one crate. The last line
 # has the sum, the time of the clock, and the last line of `rt ci`.
 #
+# Where it is ended by SIGTERM or SIGINT, it ends `rt ci`, prints what was counted until then, and
+# its status is 143 or 130.
+#
 # Every 0.2 seconds the processes below `rt ci` are looked at in /proc. One that has ended counts as
 # it was last seen, with what was charged to `rt ci` since, which those that ended meanwhile share.
 # So the last line is exact, and a row nearly so.
@@ -37,6 +40,17 @@ from collections import defaultdict
 
 KINDS = ("proof", "tests", "seed", "edits", "rest")
 TICKS = os.sysconf("SC_CLK_TCK")
+
+
+class Ended(Exception):
+    """A signal that ends the run."""
+
+    def __init__(self, number):
+        self.number = number
+
+
+def end(number, _):
+    raise Ended(number)
 
 
 def processes(first):
@@ -114,18 +128,19 @@ def gate(spent):
     ended, last = threading.Event(), ""
     watcher = threading.Thread(target=watch, args=(rt.pid, ended, spent))
     watcher.start()
+    status = None
     try:
         for last in rt.stdout:
             print(last, end="", file=sys.stderr, flush=True)
-        _, status, usage = os.wait4(rt.pid, 0)
-        rt.returncode = os.waitstatus_to_exitcode(status)
+    except Ended as signal_seen:
+        rt.terminate()
+        status = 128 + signal_seen.number
     finally:
-        if rt.returncode is None:
-            rt.terminate()
-            rt.wait()
+        _, ended_with, usage = os.wait4(rt.pid, 0)
+        rt.returncode = os.waitstatus_to_exitcode(ended_with)
         ended.set()
         watcher.join()
-    return rt.returncode, last.strip(), usage.ru_utime + usage.ru_stime
+    return rt.returncode if status is None else status, last.strip(), usage.ru_utime + usage.ru_stime
 
 
 def show(spent, whole):
@@ -139,7 +154,8 @@ def show(spent, whole):
     print(f"{'rt':<18}{'':45}{whole - sum(rows[-1][1]):9.1f}")
 
 
-signal.signal(signal.SIGTERM, lambda *_: sys.exit(143))
+for number in (signal.SIGTERM, signal.SIGINT):
+    signal.signal(number, end)
 top = sys.argv[1]
 with tempfile.TemporaryDirectory(prefix="gate-") as folder:
     subprocess.run(["git", "clone", "--quiet", "--", top, f"{folder}/clone"], check=True, stdin=subprocess.DEVNULL)

@@ -5,7 +5,7 @@ ghost use Rattle.collector_session.specs.Answers.{AppliesTo};
 ghost use Rattle.collector_session.specs.Sizes.{Closed, Fits, Grown, MOST_ROOM};
 ghost use Rattle.collector_session.specs.Standing.{draft_of};
 ghost use Rattle.pb_batch.specs.Form.{BATCH_MESSAGES};
-ghost use Rattle.session_rules.specs.Answering.{closed, earlier_left, gives_up, keeps_place, point_in, puts_error, puts_report, puts_status, reach_of};
+ghost use Rattle.session_rules.specs.Answering.{closed, earlier_left, gives_up, keeps_place, puts_error, puts_report, puts_status, reach_of};
 ghost use Rattle.swima_model.specs.Reports.{FitsAttribute};
 ghost use Rattle.swima_model.specs.Size.{report_size};
 
@@ -112,7 +112,7 @@ impl Draft {
     {
         let value = write_report(alloc, report)?;
         self.attrs.push(attribute(report_type(report), value))?;
-        self.points.push(point_of(report))?;
+        self.points.push(report.point())?;
         self.room -= size_of(report) as u32;
         Ok(())
     }
@@ -165,16 +165,6 @@ fn earlier_left(earlier: usize, clear: bool) -> usize
     ensures left { result ≡ earlier_left earlier clear }
 {
     if clear { 0 } else { earlier }
-}
-
-/// The point that a report names.
-fn point_of(report: &Report) -> Point
-    ensures point { result ≡ point_in report.now }
-{
-    match report {
-        Report::Inventory { point, .. } => *point,
-        Report::Events { point, .. } => *point,
-    }
 }
 
 /// How far a subscription is fulfilled that a report answers.

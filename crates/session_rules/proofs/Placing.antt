@@ -21,7 +21,8 @@ use Rattle.session_talk.specs.Talk.{and_then}
 use Rattle.session_rules.specs.declared.config.ServeConfig.{ServeConfig}
 use Rattle.session_rules.specs.declared.word.CollectorWord.{CollectorWord as Word}
 use Rattle.session_rules.specs.declared.word.CollectorWord.TheVariants.{Wants, AsksStatus, Failure}
-use Rattle.session_rules.specs.Answering.{answered, earlier_left, point_in, puts_error, puts_report, puts_sized, reach_of, next_if, next_of, renewed, renews_by, speaks, taken}
+use Rattle.swima_model.specs.Reports.{point_in}
+use Rattle.session_rules.specs.Answering.{answered, earlier_left, puts_error, puts_report, puts_sized, reach_of, next_if, next_of, renewed, renews_by, speaks, taken}
 use Rattle.session_rules.specs.Messages.{attribute, report_attribute}
 use Rattle.session_rules.specs.Serving.{Draft}
 use Rattle.session_rules.specs.SubRun.{Follows, PlacesFollow, PlacesFollowReports, PlacesStay}

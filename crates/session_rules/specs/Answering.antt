@@ -5,6 +5,7 @@ use Rattle.swima_model.specs.declared.report.Point.{Point}
 use Rattle.swima_model.specs.declared.report.Report.{Report}
 use Rattle.swima_model.specs.declared.report.Report.TheVariants.{Inventory, Events}
 use Rattle.swima_model.specs.Fulfilling.{fulfilling}
+use Rattle.swima_model.specs.Reports.{point_in}
 use Rattle.swima_model.specs.Size.{report_size}
 use Rattle.swima_request.specs.declared.request.Request.{Request}
 use Rattle.swima_request.specs.RequestForm.{read_request}
@@ -78,11 +79,6 @@ puts d attr = record d { attrs = d.attrs ++ attr ∷ [] }
 -- An Error about the request with an ID (section 5.15).
 abbrev pub puts_error : Draft → PaErrorCode → ℕ → Option ℕ → Draft
 puts_error d error id most = puts d (error_attribute (swima_error (number_of_code error) id most))
-
--- The point of the collector that a report names.
-abbrev pub point_in : Report → Point
-point_in (Inventory kind fulfil id point records) = point
-point_in (Events kind fulfil id point consulted events) = point
 
 -- An attribute whose value takes that many octets of the room.
 abbrev pub puts_sized : Draft → Attr → ℕ → Draft

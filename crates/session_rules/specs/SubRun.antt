@@ -20,7 +20,8 @@ use Rattle.collector_core.specs.Legal.{IsLegal}
 use Rattle.session_talk.specs.Keeping.{Keeps}
 use Rattle.session_rules.specs.declared.config.ServeConfig.{ServeConfig}
 use Rattle.session_rules.specs.declared.word.CollectorWord.{CollectorWord as Word}
-use Rattle.session_rules.specs.Answering.{Drafting, point_in, reach_of, renews_one, speaks}
+use Rattle.swima_model.specs.Reports.{point_in}
+use Rattle.session_rules.specs.Answering.{Drafting, reach_of, renews_one, speaks}
 use Rattle.session_rules.specs.Messages.{report_attribute}
 use Rattle.session_rules.specs.Serving.{Draft}
 

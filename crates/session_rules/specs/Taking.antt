@@ -23,7 +23,7 @@ use Rattle.swima_request.specs.AttributeTypes.{SUBSCRIPTION_STATUS_RESPONSE}
 use Rattle.session_rules.specs.Messages.{error_attribute, pa_message}
 use Rattle.session_rules.specs.Saying.{Said, Says, Refused, says, swima_body}
 use Rattle.swima_request.specs.StatusForm.{read_status}
-use Rattle.session_rules.specs.Answering.{point_in}
+use Rattle.swima_model.specs.Reports.{point_in}
 use Rattle.session_rules.specs.Following.{Notes, Stand, Draft, draft}
 
 -- A validator asks nobody.

@@ -13,7 +13,7 @@ use Rattle.collector_core.specs.Desks.{state_of}
 use Rattle.collector_core.specs.Edits.{edit_refusal, entry_of}
 use Rattle.session_hear.specs.Hearing.{octets_in}
 use Rattle.session_rules.specs.declared.end.SessionEnd.{SessionEnd}
-use Rattle.session_rules.specs.Answering.{point_in}
+use Rattle.swima_model.specs.Reports.{point_in}
 use Rattle.session_rules.specs.Following.{TakenReport}
 use Rattle.session_rules.specs.Transcripts.{follow_mirror, served_places}
 use Rattle.session_world.specs.declared.telling.Telling.{Telling}

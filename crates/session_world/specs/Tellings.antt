@@ -10,7 +10,7 @@ use Rattle.session_rules.specs.declared.end.SessionEnd.{SessionEnd}
 use Rattle.session_rules.specs.declared.end.SessionEnd.TheVariants as end
 use Rattle.session_rules.specs.declared.end.Turn.{Turn}
 use Rattle.session_rules.specs.declared.end.Turn.TheVariants as turn
-use Rattle.session_rules.specs.Answering.{point_in}
+use Rattle.swima_model.specs.Reports.{point_in}
 use Rattle.validator_session.specs.declared.notes.TakenReport.{TakenReport}
 use Rattle.session_world.specs.declared.telling.Telling.{Telling}
 use Rattle.session_world.specs.declared.telling.Telling.TheVariants.{Refused, Took}

@@ -7,7 +7,6 @@ ghost use Rattle.collector_session.specs.Sizes.{MOST_ROOM};
 ghost use Rattle.session_rules.specs.declared.end.SessionEnd.TheVariants as end;
 ghost use Rattle.session_world.specs.Lines.{again, collector_rests, downs, ends, ups, validator_rests};
 ghost use Rattle.session_world.specs.Standing.{DoesOk, JoinedStands, joined_down, joined_up, joined_view};
-ghost use Rattle.session_rules.specs.Answering.{point_in};
 ghost use Rattle.session_world.specs.Tellings.{ended_by, taken_telling, TookAgain, counted};
 ghost use Rattle.swima_model.specs.Size.{report_count};
 ghost use Rattle.session_world.specs.World.{opened};
@@ -22,7 +21,7 @@ use collector_core::Book;
 use collector_session::ServeCore;
 use session_rules::{FollowConfig, ServeConfig, SessionEnd, Turn};
 use std::alloc::Global;
-use swima_model::{Point, Report};
+use swima_model::Report;
 use validator_core::{Mirror, Taken};
 use validator_session::{FollowCore, TakenReport};
 use wire_base::Memory;
@@ -210,7 +209,7 @@ impl Joined {
 fn take_once_more(report: &Report, mirror: &mut Mirror, told: &mut Tellings) -> Result<(), Memory>
     ensures took { OnOk result (TookAgain mirror.old report.now told.old mirror.new told.new) }
 {
-    let point = point_of(report);
+    let point = report.point();
     let Some(count) = count_of(report) else {
         return Ok(());
     };
@@ -230,16 +229,6 @@ fn is_memory(answer: Taken) -> bool
     ensures memory { IsTrue result ↔ (answer ≡ taken.Memory) }
 {
     answer == Taken::Memory
-}
-
-/// The point that a report names.
-fn point_of(report: &Report) -> Point
-    ensures point { result ≡ point_in report.now }
-{
-    match report {
-        Report::Inventory { point, .. } => *point,
-        Report::Events { point, .. } => *point,
-    }
 }
 
 /// How many records or events a report has; `None` exactly where a number of four octets does not

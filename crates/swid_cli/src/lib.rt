@@ -42,4 +42,4 @@ mod run;
 mod tag;
 
 pub use command::is_command_line;
-pub use run::run_plain;
+pub use run::{run_plain, status};

@@ -125,8 +125,9 @@ fn run_command<S: Source, K: Sink, F: Files>(
     }
 }
 
-/// The status of a command.
-fn status(ended: Result<Ending, Stopped>) -> u8
+/// The status of a command that ended so: 0 where all is well, 1 where something was refused or
+/// found, 3 at a fault of what is outside, and 4 where memory ran out.
+pub fn status(ended: Result<Ending, Stopped>) -> u8
     ensures status { result ≡ status_of ended }
 {
     match ended {

@@ -1,7 +1,5 @@
 //! How a command ends that prints one text at its end.
 
-ghost use Rattle.std.specs.Prelude.{◌≡◌};
-ghost use Rattle.swid_cli.specs.Run.{status_of};
 ghost use Rattle.swid_run.specs.Ends.{Prints, output_state};
 
 use command_text::Ending;
@@ -24,18 +22,5 @@ pub(crate) fn print_text<K: Sink>(
             written?;
             Ok(ending)
         }
-    }
-}
-
-/// The status of a command.
-pub(crate) fn status(ended: Result<Ending, Stopped>) -> u8
-    ensures status { result ≡ status_of ended }
-{
-    match ended {
-        Ok(Ending::Whole) => 0,
-        Ok(Ending::Refused) => 1,
-        Ok(Ending::Findings) => 1,
-        Err(Stopped::Fault) => 3,
-        Err(Stopped::Memory) => 4,
     }
 }

@@ -14,7 +14,6 @@ ghost use Rattle.swid_run.specs.Plain.{RunsPlain};
 ghost use Rattle.swid_run.specs.Words.{AreLent, IsFresh, IsLine, SaysCollect, SaysFollow, SaysNeither, Waits};
 
 use crate::collect::collect;
-use crate::ending::status;
 use crate::follow::follow;
 use crate::order::{Order, order_of};
 use session_pool::{Stand, Watch};
@@ -22,7 +21,7 @@ use source_set::{Sources, TagSource};
 use std::alloc::Global;
 use std::sync::Wait;
 use std::thread::Threads;
-use swid_cli::run_plain;
+use swid_cli::{run_plain, status};
 use wire_base::{Clock, Door, Files, Memory, Sink, Source};
 
 /// Does what the words of the command line say, over the objects of the outside that it is lent,

@@ -2,9 +2,15 @@
 use Rattle.std.specs.Prelude.{◌<◌, ◌≤◌, ◌^◌, ℕ, All}
 use Rattle.wire_base.specs.Stamp.{IsStamp}
 use Rattle.swima_model.specs.declared.event.Event.{Event}
+use Rattle.swima_model.specs.declared.report.Point.{Point}
 use Rattle.swima_model.specs.declared.report.Report.{Report}
 use Rattle.swima_model.specs.declared.report.Report.TheVariants.{Inventory, Events}
 use Rattle.swima_model.specs.Size.{report_count, report_size}
+
+-- The point that a report names (sections 5.7 to 5.10, "Last EID").
+abbrev pub point_in : Report → Point
+point_in (Inventory kind fulfil id point records) = point
+point_in (Events kind fulfil id point consulted events) = point
 
 -- The time of each of its events is reported as a stamp (section 5.8, "Timestamp").
 abbrev pub HasStamps : Report → Type 0

@@ -2,6 +2,7 @@
 
 ghost use Rattle.std.specs.Prelude.{◌≡◌};
 ghost use Rattle.swima_model.specs.Fulfilling.{fulfilling};
+ghost use Rattle.swima_model.specs.Reports.{point_in};
 
 use crate::event::Events;
 use crate::record::Records;
@@ -71,6 +72,16 @@ pub enum Report {
 }
 
 impl Report {
+    /// The point that it names (RFC 8412, sections 5.7 to 5.10).
+    pub fn point(&self) -> Point
+        ensures point { result ≡ point_in self.now }
+    {
+        match self {
+            Report::Inventory { point, .. } => *point,
+            Report::Events { point, .. } => *point,
+        }
+    }
+
     /// The same report as one that fulfils a subscription (RFC 8412, sections 5.7 to 5.10). It
     /// takes no memory.
     pub fn fulfilling(self) -> Self

@@ -33,7 +33,11 @@ pub(crate) fn stated_of(alloc: Global, name: &[u8]) -> Result<Payload, Fail> {
 }
 
 /// Files of these names and contents; the calls of these numbers fail.
-pub(crate) fn files(alloc: Global, held: &[(&str, &[u8])], failing: &[u64]) -> Result<MemFiles, Memory> {
+pub(crate) fn files(
+    alloc: Global,
+    held: &[(&str, &[u8])],
+    failing: &[u64],
+) -> Result<MemFiles, Memory> {
     let mut files = List::new(alloc);
     for (name, content) in held {
         let name = Text::new(alloc, name)?;

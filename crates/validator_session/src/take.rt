@@ -4,7 +4,6 @@
 ghost use Rattle.std.specs.Prelude.{◌≡◌, ◌<◌, ◌≤◌, ◌^◌, [], ◌↔◌, IfSome, IsTrue, OnErr, OnOk, length};
 ghost use Rattle.pa_attrs.specs.ErrorForm.{written_error};
 ghost use Rattle.pa_attrs.specs.Numbers.{MOST_OCTETS};
-ghost use Rattle.session_rules.specs.Answering.{point_in};
 ghost use Rattle.session_rules.specs.Saying.{swima_body};
 ghost use Rattle.session_rules.specs.Taking.{answers, speaks, takes, takes_message};
 ghost use Rattle.session_talk.specs.Talk.{each};
@@ -24,7 +23,7 @@ use pb_batch::{Message, Messages};
 use session_rules::{Codes, ValidatorWord};
 use session_words::{Said, error_attribute, read_words, swima_body, write_words};
 use std::alloc::Global;
-use swima_model::{Point, Report};
+use swima_model::Report;
 use validator_core::{Mirror, Taken};
 use wire_base::{List, Memory};
 
@@ -153,7 +152,7 @@ fn take_report(mirror: &mut Mirror, notes: &mut Notes, report: Report) -> Result
     ensures sent { notes.new.record.sent ≡ notes.old.record.sent }
     ensures received { notes.new.record.received ≡ notes.old.record.received }
 {
-    let point = point_of(&report);
+    let point = report.point();
     let Some(count) = count_of(&report) else {
         return Err(Memory);
     };
@@ -192,16 +191,6 @@ fn note_answer(notes: &mut Notes, taken: TakenReport) -> Result<(), Memory>
     }
     notes.record.reports = notes.record.reports.saturating_add(1);
     Ok(())
-}
-
-/// The point that a report names.
-fn point_of(report: &Report) -> Point
-    ensures point { result ≡ point_in report.now }
-{
-    match report {
-        Report::Inventory { point, .. } => *point,
-        Report::Events { point, .. } => *point,
-    }
 }
 
 /// How many records or events a report has; `None` where they are more than a number of four octets
