@@ -17,8 +17,8 @@ invariant_of-self-2 c =
           (subst (λ (key : ℕ). PutsKey key c.self.inside.index c.put_key.new.index) c.key_of-key.ensures.key c.in_ok-put_key.ensures.put)),
     )
 
-pub returns-clause-pushed : goal.returns-clause-pushed
-returns-clause-pushed c =
+pub returns-clause-appended : goal.returns-clause-appended
+returns-clause-appended c =
     let pushed = c.push_place.ensures.appended
     ∙ ap (λ (l : List Place). l ++ record { id = c.self.inside.next; held = Some (record { id = c.self.inside.next; content = c.args.content }) } ∷ []) c.reserve.ensures.items in
     ap (λ (rs : List Record). record { next = c.self.inside.next + 1; records = rs }) (ap standing pushed ∙ pushed_standing c.self.inside.places.items c.self.inside.next c.args.content)
