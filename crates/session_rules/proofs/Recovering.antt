@@ -8,7 +8,7 @@ use Rattle.validator_core.specs.Recovery.{mark_after}
 use Rattle.validator_core.specs.Want.{want_at}
 use Rattle.validator_core.proofs.Recovering.{judged_mark, mark_is_set, mark_stays}
 use Rattle.session_rules.specs.declared.config.FollowConfig.{FollowConfig}
-use Rattle.session_rules.specs.Answering.{point_in}
+use Rattle.swima_model.specs.Reports.{point_in}
 use Rattle.session_rules.specs.Following.{Notes, TakenReport, nothing_noted}
 use Rattle.session_rules.specs.FollowRules as following
 use Rattle.session_rules.specs.Recovery.{AsksWhileDue, IsDue, MarkedWhileDue, NoneAdopted, RecoversInSessions, SetSince}

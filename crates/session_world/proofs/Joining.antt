@@ -16,7 +16,7 @@ use Rattle.session_rules.specs.declared.end.SessionEnd.{SessionEnd}
 use Rattle.session_rules.specs.declared.end.SessionEnd.TheVariants as end
 use Rattle.session_rules.specs.declared.end.Turn.{Turn as Turn2}
 use Rattle.session_rules.specs.declared.end.Turn.TheVariants as turn
-use Rattle.session_rules.specs.Answering.{point_in}
+use Rattle.swima_model.specs.Reports.{point_in}
 use Rattle.session_rules.specs.Following.{Stand}
 use Rattle.session_rules.specs.Transcripts.{nobody}
 use Rattle.validator_session.specs.Core.{Stood as FollowStood, received_of, turn_of as follow_turn_of}
