@@ -1,9 +1,9 @@
 -- What is listed of pairs of tags, a tag at a time.
-use Rattle.std.proofs.Common.{◌≡◌, ℕ, suc, ◌+◌, ◌-◌, ◌<◌, ◌&&◌, not, Bool, true, false, List, [], ◌∷◌, ◌++◌, length, get_or, drop, append_assoc, refl, sym, ap, ◌∙◌, subst, arith, length-drop, get_or-drop}
-use Rattle.std.proofs.lemmas.List.{drop_more, get_or_default}
+use Rattle.std.proofs.Common.{◌≡◌, ℕ, zero, suc, ◌+◌, ◌-◌, ◌<◌, ◌&&◌, not, Bool, true, false, List, [], ◌∷◌, ◌++◌, length, get_or, drop, refl, sym, ap, ◌∙◌, subst, arith, length-drop, get_or-drop, Result, Ok, Err, OnOk}
+use Rattle.std.proofs.lemmas.List.{drop_all, drop_more, get_or_default}
 use Rattle.coswid_tag.specs.declared.tag.Tag.{Tag}
 use Rattle.coswid_links.specs.declared.finding.LinkFinding.{LinkFinding}
-use Rattle.coswid_links.specs.RivalChains.{has, rivals, rival_findings, rivals_of, span}
+use Rattle.coswid_links.specs.RivalChains.{all_rivals, has, rivals, rival_findings, rivals_of, span}
 use Rattle.coswid_links.specs.Listed.{finding, each_from, each_pair_from}
 use Rattle.coswid_links.specs.FirstEqual.{Tells}
 use Rattle.coswid_links.proofs.Numbers.{some_of}
@@ -52,21 +52,24 @@ module _ (gs : List Tag) (releases contents : List ℕ) (by_release : Tells same
       ∙ ap (λ (h : Tag). pair_findings (i + 1) h (i + 1 + j + 1) (get_or gs (i + 1 + j) d)) (get_or_default gs i d g lt ∙ sym is)
       ∙ ap (λ (h : Tag). pair_findings (i + 1) g (i + 1 + j + 1) h) (sym (get_or-drop (i + 1) gs j d)))
 
-  pairs_of : (i : ℕ) (g : Tag) (before old new : List LinkFinding) → i < length gs → g ≡ get_or gs i g
-      → old ++ each_pair_from pair_findings (i + 1) (drop i gs) ≡ before → new ≡ old ++ rivals_of releases contents i
-      → new ++ each_pair_from pair_findings (i + 1 + 1) (drop (i + 1) gs) ≡ before
-  pairs_of i g before old new lt is so_far put =
-      let rest = each_pair_from pair_findings (i + 1 + 1) (drop (i + 1) gs) in
-      let here = each_from (pair_findings (i + 1) g) (i + 1 + 1) (drop (i + 1) gs) in
-      let parts : drop i gs ≡ g ∷ drop (i + 1) gs = drop_more gs i g lt ∙ ap (λ (h : Tag). h ∷ drop (i + 1) gs) (sym is) in
-      ap (λ (ys : List LinkFinding). ys ++ rest) (put ∙ ap (λ (ys : List LinkFinding). old ++ ys) (rivals_listed i g lt is))
-      ∙ append_assoc old here rest
-      ∙ ap (λ (ys : List Tag). old ++ each_pair_from pair_findings (i + 1) ys) (sym parts) ∙ so_far
+  -- The findings of the places from one on are those of the pairs of the tags there.
+  pairs_from : (i n : ℕ) → i + n ≡ length gs → span (rivals_of releases contents) i n ≡ each_pair_from pair_findings (i + 1) (drop i gs)
+  pairs_from i zero all = ap (λ (ys : List Tag). each_pair_from pair_findings (i + 1) ys) (sym (drop_all i gs (omega (arith, all))))
+  pairs_from i (suc n) all =
+      let lt : i < length gs = omega (arith, all) in
+      let some = some_of gs (omega (arith, lt)) in
+      let g = get_or gs i some in
+      let is : g ≡ get_or gs i g = get_or_default gs i some g lt in
+      let parts : g ∷ drop (i + 1) gs ≡ drop i gs = ap (λ (h : Tag). h ∷ drop (i + 1) gs) is ∙ sym (drop_more gs i g lt) in
+      ap (λ (ys : List LinkFinding). ys ++ span (rivals_of releases contents) (i + 1) n) (rivals_listed i g lt is)
+      ∙ ap (λ (ys : List LinkFinding). each_from (pair_findings (i + 1) g) (i + 1 + 1) (drop (i + 1) gs) ++ ys) (pairs_from (i + 1) n (omega (arith, all)))
+      ∙ ap (λ (ys : List Tag). each_pair_from pair_findings (i + 1) ys) parts
 
-  -- With the pairs of a tag put after the rest, those of the tags after it are left.
-  pub pairs_more : (i : ℕ) (before old new : List LinkFinding) → i < length gs → old ++ each_pair_from pair_findings (i + 1) (drop i gs) ≡ before
-      → new ≡ old ++ rivals_of releases contents i → new ++ each_pair_from pair_findings (i + 1 + 1) (drop (i + 1) gs) ≡ before
-  pairs_more i before old new lt so_far put =
-      let some = some_of gs (omega arith) in
-      let here = get_or gs i some in
-      pairs_of i here before old new lt (get_or_default gs i some here lt) so_far put
+  -- So those of all places are those of all pairs.
+  pub all_pairs : all_rivals releases contents ≡ each_pair_from pair_findings 1 gs
+  all_pairs = pairs_from 0 (length releases) (omega (arith, by_release.one_each))
+
+-- What was put is the same in other words.
+pub put_as : {T E : Type 0} (result : Result T E) (old given wanted new : List LinkFinding) → given ≡ wanted → OnOk result (new ≡ old ++ given) → OnOk result (new ≡ old ++ wanted)
+put_as (Ok value) old given wanted new same put = put ∙ ap (λ (ys : List LinkFinding). old ++ ys) same
+put_as (Err why) old given wanted new same put = put

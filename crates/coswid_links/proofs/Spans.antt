@@ -39,9 +39,21 @@ span_first f test at to (Some m) le failed is =
     ∙ ap (λ (xs : List _). xs ++ span f (at + (m - at)) (to - m)) (span_none f at (m - at) (λ k ge lt. failed k (is.3 k ge (omega (arith, is.0)))))
     ∙ ap (λ (k : ℕ). span f k (to - m)) reach
 
+-- What is given of the first place, and of those after it.
+pub span_on : {B : Type 0} (f : ℕ → List B) (m to : ℕ) → m < to → span f m (to - m) ≡ f m ++ span f (m + 1) (to - (m + 1))
+span_on f m to lt =
+    let count : to - m ≡ suc (to - (m + 1)) = omega arith in
+    ap (λ (n : ℕ). span f m n) count
+
+-- With what is given of a place put after the rest, that of the places after it is left.
+pub put_more : {B : Type 0} (f : ℕ → List B) (m to : ℕ) (old new all : List B) → m < to → old ++ span f m (to - m) ≡ all → new ≡ old ++ f m
+    → new ++ span f (m + 1) (to - (m + 1)) ≡ all
+put_more f m to old new all lt so_far put =
+    let rest = span f (m + 1) (to - (m + 1)) in
+    ap (λ (xs : List _). xs ++ rest) put ∙ append_assoc old (f m) rest ∙ ap (λ (xs : List _). old ++ xs) (sym (span_on f m to lt)) ∙ so_far
+
 -- A step of a walk: what is given of the place, and from the next on of which something is given.
 pub walks_on : {B : Type 0} (f : ℕ → List B) (test : ℕ → Bool) (m to : ℕ) (r : Option ℕ) → m < to
     → ((k : ℕ) → test k ≡ false → f k ≡ []) → IsFirst test (m + 1) to r → span f m (to - m) ≡ f m ++ from_first f to r
 walks_on f test m to r lt failed is =
-    let count : to - m ≡ suc (to - (m + 1)) = omega arith in
-    ap (λ (n : ℕ). span f m n) count ∙ ap (λ (xs : List _). f m ++ xs) (span_first f test (m + 1) to r (omega arith) failed is)
+    span_on f m to lt ∙ ap (λ (xs : List _). f m ++ xs) (span_first f test (m + 1) to r (omega arith) failed is)

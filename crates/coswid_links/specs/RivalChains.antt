@@ -51,6 +51,10 @@ rival_findings releases contents at k = finding 4 (rivals releases contents at k
 abbrev pub rivals_of : List ℕ → List ℕ → ℕ → List LinkFinding
 rivals_of releases contents at = span (rival_findings releases contents at) (at + 1) (length releases - (at + 1))
 
+-- the findings on all pairs of rivals, in order of the first and then of the second
+abbrev pub all_rivals : List ℕ → List ℕ → List LinkFinding
+all_rivals releases contents = span (rivals_of releases contents) 0 (length releases)
+
 -- Each number is below the length of the list, as a place is.
 abbrev pub AreBelow : List ℕ → Type 0
 AreBelow numbers = (k : ℕ) → k < length numbers → slice_index numbers k < length numbers

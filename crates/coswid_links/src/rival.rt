@@ -33,10 +33,7 @@ pub(crate) fn put_rivals(
     }
     let contents = first_places(alloc, contents(alloc, tags)?)?;
     let places = RivalChains::new(alloc, releases, contents)?;
-    for first in 0..tags.len() {
-        places.put_rivals_of(found, first)?;
-    }
-    Ok(())
+    places.put_all(found)
 }
 
 /// The releases that the tags are.

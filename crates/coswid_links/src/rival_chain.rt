@@ -1,7 +1,7 @@
 //! Chains of rivals: the later tags of a release whose content differs.
 
 ghost use Rattle.std.specs.Prelude.{◌≡◌, ◌<◌, ◌+◌, ◌++◌, ℕ, List, IfOk, IfSome, OnOk, length, slice_index, slice_index_or};
-ghost use Rattle.coswid_links.specs.RivalChains.{AreFollowing, AreBelow, ArePlaces, IsFollowing, IsFirst, of_release, rivals, rivals_of};
+ghost use Rattle.coswid_links.specs.RivalChains.{AreFollowing, AreBelow, ArePlaces, IsFollowing, IsFirst, all_rivals, of_release, rivals, rivals_of};
 ghost use Rattle.coswid_links.specs.declared.rival_chain.Following as declared;
 
 use crate::finding::{LinkFinding, LinkFindings};
@@ -45,9 +45,20 @@ impl RivalChains {
         })
     }
 
+    /// Puts all pairs, by the place of the first tag and then by that of the second.
+    pub(crate) fn put_all(&self, found: &mut LinkFindings) -> Result<(), Memory>
+        requires following { ArePlaces self.now }
+        ensures appended { OnOk result (found.new ≡ found.old ++ all_rivals self.now.releases.items self.now.contents.items) }
+    {
+        for first in 0..self.releases.len() {
+            self.put_rivals_of(found, first)?;
+        }
+        Ok(())
+    }
+
     /// Puts the pairs whose first tag is at this place, in at most two steps for each pair and one
     /// more.
-    pub(crate) fn put_rivals_of(&self, found: &mut LinkFindings, first: usize) -> Result<(), Memory>
+    fn put_rivals_of(&self, found: &mut LinkFindings, first: usize) -> Result<(), Memory>
         requires following { ArePlaces self.now }
         requires first { first < length self.now.releases.items }
         ensures appended { OnOk result (found.new ≡ found.old ++ rivals_of self.now.releases.items self.now.contents.items first) }

@@ -1,10 +1,10 @@
-use Rattle.std.proofs.Common.{ℕ, List, length, ◌<◌, sym, subst, arith}
+use Rattle.std.proofs.Common.{ℕ, List, sym, subst}
 use Rattle.coswid_links.specs.FirstEqual.{AreOwnPlaces, Tells}
 use Rattle.coswid_links.specs.Releases.{claim, claim_of, content, content_of, same_claim, same_content}
 use Rattle.coswid_links.specs.Rivals.{same_release}
 use Rattle.coswid_links.proofs.Apart.{nothing_put}
 use Rattle.coswid_links.proofs.Equal.{claims_equal, contents_equal}
-use Rattle.coswid_links.proofs.Left.{one_content, pairs_more, same_lengths}
+use Rattle.coswid_links.proofs.Left.{all_pairs, one_content, put_as, same_lengths}
 use Rattle.coswid_links.proofs.Numbers.{all_below, keys_equal, tells_through}
 use Rattle.coswid_links.proofs.Ordered.{contents_agree, releases_agree}
 use Rattle.coswid_links.proofs.rival.put_rivals.Goals as goal
@@ -33,8 +33,8 @@ pub new-requires-clause-below : goal.new-requires-clause-below
 new-requires-clause-below c =
     all_below _ (keys_equal _ same_claim claim_of claim claims_equal releases_agree) c.in_ok-releases.field-0.items c.in_ok-releases-2.releases.items c.in_ok-releases-2.ensures.places
 
-pub loop-first-preserved : goal.loop-first-preserved
-loop-first-preserved c =
+pub returns : goal.returns
+returns c =
     let tags = c.args.tags.now in
     let by_release : Tells same_release tags c.in_ok-releases-2.releases.items =
     tells_through _ same_claim claim_of claim claims_equal releases_agree c.in_ok-releases.field-0.items tags c.in_ok-releases-2.releases.items
@@ -44,6 +44,5 @@ loop-first-preserved c =
     c.in_ok-contents.ensures.contents c.in_ok-contents-2.ensures.places in
     let told_release = subst (λ (ns : List ℕ). Tells same_release tags ns) (sym c.in_ok-places.ensures.releases) by_release in
     let told_content = subst (λ (ns : List ℕ). Tells one_content tags ns) (sym c.in_ok-places.ensures.contents) by_content in
-    let lt : c.loop-first.first < length tags = omega arith in
-    pairs_more tags c.in_ok-places.places.releases.items c.in_ok-places.places.contents.items told_release told_content c.loop-first.first _ c.loop-first.found c.put_rivals_of.new.found lt
-    c.loop-first.invariant c.in_ok-put_rivals_of.ensures.appended
+    let all = all_pairs tags c.in_ok-places.places.releases.items c.in_ok-places.places.contents.items told_release told_content in
+    record { appended = put_as c.put_all.result c.args.found.now _ _ c.put_all.new.found all c.put_all.ensures.appended }
