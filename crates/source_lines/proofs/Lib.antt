@@ -5,3 +5,4 @@ pub mod LinesOf
 pub mod Fronts
 pub mod Holding
 pub mod NoItem
+pub mod Refusals

@@ -27,6 +27,17 @@ abbrev pub KeyFault : List ℕ → LineFault → Type 0
 KeyFault key faults.Key = HasNone (IsNumber key)
 KeyFault key other = ⊥
 
+-- What is wrong with the word of a text of at most that number of octets.
+abbrev pub TextFault : ℕ → List ℕ → LineFault → Type 0
+TextFault limit word faults.Text = HasNone (IsText limit word)
+TextFault limit word other = ⊥
+
+-- What is wrong with the digits of a body.
+abbrev pub DigitsFault : List ℕ → LineFault → Type 0
+DigitsFault digits faults.Digits = HasNone (IsHex digits)
+DigitsFault digits faults.Octets = (octets : List ℕ) × IsHex digits octets × HasNone (IsWithin 1048576 octets)
+DigitsFault digits other = ⊥
+
 -- What is wrong with the words of a key, of a locator and of a tag's octets: the first that is.
 abbrev pub TagFault : List ℕ → List ℕ → List ℕ → LineFault → Type 0
 TagFault key locator digits faults.Key = HasNone (IsNumber key)

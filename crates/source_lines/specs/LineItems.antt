@@ -20,6 +20,12 @@ pub record AreTagged (key locator digits : List ℕ) (keyed : Keyed) : Type 0 wh
   pub model : keyed.content.model ≡ record { pen = 0; kind = 2 }
   pub source : keyed.content.source ≡ 0
 
+-- The digits are those of octets within the limit of a body.
+pub record IsBody (digits body : List ℕ) : Type 0 where
+  pub octets : List ℕ
+  pub hex : IsHex digits octets
+  pub within : IsWithin 1048576 octets body
+
 -- A key, a software identifier, a locator and a body.
 pub record AreDescribed (key ident locator digits : List ℕ) (keyed : Keyed) : Type 0 where
   pub number : IsNumber key keyed.key

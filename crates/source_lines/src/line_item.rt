@@ -1,16 +1,16 @@
 //! The item that a line is.
 
 ghost use Rattle.std.specs.Prelude.{◌≡◌};
-ghost use Rattle.line_words.specs.Reading.{FindsExactly};
-ghost use Rattle.source_lines.specs.LineFaults.{BodyFault, BodyFaultIn, GivesOr, HasFault, KeyFaultIn, TagFault, TagFaultIn};
-ghost use Rattle.source_lines.specs.LineItems.{AreTagged, AreDescribed, IsAlone, IsDescribed, IsGone, IsTagged, Says, added, changed};
+ghost use Rattle.line_words.specs.Reading.{FindsExactly, IsText};
+ghost use Rattle.source_lines.specs.LineFaults.{BodyFault, BodyFaultIn, DigitsFault, GivesOr, HasFault, KeyFaultIn, TagFault, TagFaultIn, TextFault};
+ghost use Rattle.source_lines.specs.LineItems.{AreTagged, AreDescribed, IsAlone, IsBody, IsDescribed, IsGone, IsTagged, Says, added, changed};
 
 use crate::line_fault::{LineFault, LineRefused};
 use crate::package::read_package;
 use line_words::{Words, bounded, read_number, read_octets, read_text};
 use source_set::Told;
 use std::alloc::Global;
-use swima_model::{Content, Model};
+use swima_model::{Body, Bounded, Content, Limit, Model};
 
 /// A key, and what the record of its software says.
 #[derive(Debug, Drop)]
@@ -135,18 +135,9 @@ fn described(
     let Some(key) = read_number(key) else {
         return Err(LineRefused::Fault(LineFault::Key));
     };
-    let Some(ident) = read_text(alloc, ident)? else {
-        return Err(LineRefused::Fault(LineFault::Text));
-    };
-    let Some(locator) = read_text(alloc, locator)? else {
-        return Err(LineRefused::Fault(LineFault::Text));
-    };
-    let Some(octets) = read_octets(alloc, digits)? else {
-        return Err(LineRefused::Fault(LineFault::Digits));
-    };
-    let Some(body) = bounded(alloc, octets.as_slice())? else {
-        return Err(LineRefused::Fault(LineFault::Octets));
-    };
+    let ident = text_of(alloc, ident)?;
+    let locator = text_of(alloc, locator)?;
+    let body = body_of(alloc, digits)?;
     Ok(Keyed {
         key,
         content: Content {
@@ -157,6 +148,29 @@ fn described(
             body,
         },
     })
+}
+
+/// The octets of a printable text.
+fn text_of<L: Limit>(alloc: Global, word: &[u8]) -> Result<Bounded<L>, LineRefused>
+    ensures text { GivesOr (IsText L.OCTETS word.now) (TextFault L.OCTETS word.now) result }
+{
+    match read_text(alloc, word)? {
+        Some(octets) => Ok(octets),
+        None => Err(LineRefused::Fault(LineFault::Text)),
+    }
+}
+
+/// The body of a record, from its digits.
+fn body_of(alloc: Global, digits: &[u8]) -> Result<Body, LineRefused>
+    ensures body { GivesOr (IsBody digits.now) (DigitsFault digits.now) result }
+{
+    let Some(octets) = read_octets(alloc, digits)? else {
+        return Err(LineRefused::Fault(LineFault::Digits));
+    };
+    match bounded(alloc, octets.as_slice())? {
+        Some(body) => Ok(body),
+        None => Err(LineRefused::Fault(LineFault::Octets)),
+    }
 }
 
 /// That the software of a key is gone. It takes no memory.

@@ -2,6 +2,7 @@
 
 ghost use Rattle.std.specs.Prelude.{◌≤◌};
 ghost use Rattle.cbor_det.specs.Term.{depth};
+ghost use Rattle.coswid_codec.specs.Answers.{BeginsTag};
 ghost use Rattle.coswid_codec.specs.Items.{tag_item};
 ghost use Rattle.coswid_codec.specs.SizesFit.{SizesFit};
 ghost use Rattle.coswid_tag.specs.Identifier.{identifier_of};
@@ -29,14 +30,27 @@ pub(crate) fn read_package(alloc: Global, octets: &[u8]) -> Result<Option<Packag
     ensures whole { Finds (IsPackage octets.now) result }
 {
     match read_tag(alloc, octets) {
-        Ok((tag, used)) => {
-            if used < octets.len() {
-                return Ok(None);
-            }
-            package_of(alloc, &tag)
-        }
+        Ok((tag, used)) => package_of_all(alloc, octets, &tag, used),
         Err(refused) => no_tag(&refused),
     }
+}
+
+/// The package of a tag that octets begin with, where they end with it too.
+fn package_of_all(
+    alloc: Global,
+    octets: &[u8],
+    tag: &Tag,
+    used: usize,
+) -> Result<Option<Package>, Memory>
+    requires begins { BeginsTag octets.now tag.now used }
+    requires depth { depth (tag_item tag.now) ≤ 64 }
+    requires sizes { SizesFit tag.now }
+    ensures whole { Finds (IsPackage octets.now) result }
+{
+    if used < octets.len() {
+        return Ok(None);
+    }
+    package_of(alloc, tag)
 }
 
 /// That octets are no tag, unless memory ran out.
