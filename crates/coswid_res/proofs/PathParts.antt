@@ -4,10 +4,9 @@ use Rattle.std.specs.List.{flat_map}
 use Rattle.coswid_res.specs.declared.resources.directory.DirEntry.{DirEntry}
 use Rattle.coswid_res.specs.declared.resources.directory.PathElements.{PathElements, out-PathElements}
 use Rattle.coswid_res.specs.declared.resources.file.FileEntry.{FileEntry}
-use Rattle.coswid_res.specs.declared.resources.payload.Payload.{Payload}
 use Rattle.coswid_res.specs.declared.verification.verdict.Verdict.{Verdict}
 use Rattle.coswid_res.specs.declared.verification.verify.VerifyRefused.{VerifyRefused}
-use Rattle.coswid_res.specs.Listing.{ListedFile, directories_listing, directory_listing, files_listing, listed, path_listing}
+use Rattle.coswid_res.specs.Listing.{ListedFile, directories_listing, directory_listing, files_listing, path_listing}
 use Rattle.coswid_res.specs.Verify.{AddsVerdicts, Reads}
 use Rattle.coswid_res.proofs.FileReads.{all_read, stopped_before, then_read}
 use Rattle.coswid_res.proofs.FileVerdicts.{both_added}
@@ -45,16 +44,3 @@ module _ (p : PathElements) (around : List ℕ) where
         → Reads (path_listing p around) result before after
     path_read A before now after value was result reads = subst (λ (fs : List ListedFile). Reads fs result before after) (sym (path_listed p around))
         (parts_read (out-PathElements p).file (out-PathElements p).directory around ds some before now after value was result reads)
-
--- A payload, round whose directories stands no part of a path.
-module _ (p : Payload) (around : List ℕ) (none : around ≡ []) where
-  module _ (ds : List DirEntry) (some : p.directory ≡ Some ds) where
-    pub payload_added : (told here : Option (List NamedFile)) (before now after : List (List ℕ × Verdict)) → here ≡ told → AddsVerdicts told (files_listing p.file around) before now → AddsVerdicts here (flat_map (λ (d : DirEntry). directory_listing d around) ds) now after
-        → AddsVerdicts told (listed p) before after
-    payload_added told here before now after same was adds = subst (λ (a : List ℕ). AddsVerdicts told (files_listing p.file a ++ directories_listing p.directory a) before after) none
-        (parts_added p.file p.directory around ds some told here before now after same was adds)
-
-    pub payload_read : (A : Type 0) (before now after : Option (List Read)) (value : A) → Reads (files_listing p.file around) (Ok value) before now → (result : Result A VerifyRefused) → Reads (flat_map (λ (d : DirEntry). directory_listing d around) ds) result now after
-        → Reads (listed p) result before after
-    payload_read A before now after value was result reads = subst (λ (a : List ℕ). Reads (files_listing p.file a ++ directories_listing p.directory a) result before after) none
-        (parts_read p.file p.directory around ds some before now after value was result reads)

@@ -71,5 +71,9 @@ path_listing = fold-PathElements Listing Listing directory_step path_step
 abbrev pub directories_listing : Option (List DirEntry) → Listing
 directories_listing directories around = flat_map (λ d. directory_listing d around) (unwrap_or directories [])
 
+-- The files of a payload that stands in directories of this path; of one that stands in none.
+abbrev pub listed_in : List ℕ → Payload → List ListedFile
+listed_in around p = files_listing p.file around ++ directories_listing p.directory around
+
 abbrev pub listed : Payload → List ListedFile
-listed p = files_listing p.file [] ++ directories_listing p.directory []
+listed = listed_in []

@@ -20,26 +20,30 @@ pub type Findings = List<u8>;
 pub fn constraints(alloc: Global, tag: &Tag) -> Result<Findings, Memory>
     ensures findings { IfOk result (λ found. found ≡ findings tag.now) }
 {
+    let mut found = List::new(alloc);
+    note_all(&mut found, tag)?;
+    Ok(found)
+}
+
+/// Notes all that is wrong with the tag by itself.
+fn note_all(found: &mut Findings, tag: &Tag) -> Result<(), Memory>
+    ensures appended { OnOk result (found.new ≡ found.old ++ findings tag.now) }
+{
     let corpus = is_true(tag.corpus);
     let patch = is_true(tag.patch);
     let supplemental = is_true(tag.supplemental);
+    let primary = !(corpus || patch || supplemental);
     let versioned = tag.software_version.is_some();
-    let mut found = List::new(alloc);
-    note(&mut found, 1, patch && supplemental)?;
+    note(found, 1, patch && supplemental)?;
+    note(found, 2, primary && !versioned)?;
+    note(found, 3, corpus && !versioned)?;
+    note(found, 4, patch && !any_link(&tag.link, Rel::Patches))?;
     note(
-        &mut found,
-        2,
-        !(corpus || patch || supplemental) && !versioned,
-    )?;
-    note(&mut found, 3, corpus && !versioned)?;
-    note(&mut found, 4, patch && !any_link(&tag.link, Rel::Patches))?;
-    note(
-        &mut found,
+        found,
         5,
         supplemental && !any_link(&tag.link, Rel::Supplemental),
     )?;
-    note(&mut found, 6, !has_creator(tag.entity.as_slice()))?;
-    Ok(found)
+    note(found, 6, !has_creator(tag.entity.as_slice()))
 }
 
 /// Notes the finding where it shows.

@@ -2,7 +2,7 @@
 
 ghost use Rattle.std.specs.Prelude.{◌≡◌, ◌∷◌, [], IfOk, OnOk};
 ghost use Rattle.std.specs.List.{flat_map};
-ghost use Rattle.coswid_res.specs.Listing.{directory_listing, files_listing, listed, listed_file, path_listing, stated_file};
+ghost use Rattle.coswid_res.specs.Listing.{directory_listing, files_listing, listed, listed_file, listed_in, path_listing, stated_file};
 ghost use Rattle.coswid_res.specs.Verify.{AddsVerdicts, IsLine, IsVerdicts, Reads, is_fault};
 ghost use Rattle.coswid_res.specs.declared.verification.verify.VerifyRefused.TheVariants as refused;
 ghost use Rattle.wire_base.specs.Outside.{HasCause};
@@ -72,10 +72,25 @@ fn check_payload<F: Files>(
     ensures reads { Reads (listed payload.now) result (F.reads files.old) (F.reads files.new) }
 {
     let mut around = DirectoryPath::new(verdicts.allocator());
-    check_files(files, &around, &payload.file, verdicts)?;
+    check_held(files, &mut around, payload, verdicts)
+}
+
+/// Puts the verdicts on all files of a payload at the end, which stand in the directory `around`.
+fn check_held<F: Files>(
+    files: &mut F,
+    around: &mut DirectoryPath,
+    payload: &Payload,
+    verdicts: &mut Verdicts,
+) -> Result<(), VerifyRefused>
+    ensures appended { OnOk result (AddsVerdicts (F.contents files.old) (listed_in around.old payload.now) verdicts.old verdicts.new) }
+    ensures contents { F.contents files.new ≡ F.contents files.old }
+    ensures cause { HasCause (F.faults files.old) (F.faults files.new) (is_fault result) }
+    ensures reads { Reads (listed_in around.old payload.now) result (F.reads files.old) (F.reads files.new) }
+{
+    check_files(files, around, &payload.file, verdicts)?;
     match &payload.directory {
         None => Ok(()),
-        Some(directories) => check_directories(files, &mut around, directories, verdicts),
+        Some(directories) => check_directories(files, around, directories, verdicts),
     }
 }
 
