@@ -20,5 +20,5 @@ no_body key ident locator digits number name place faults.Digits has = (number, 
 no_body key ident locator digits number name place faults.Octets has = (number, name, place, has.0, has.1, has.2)
 no_body key ident locator digits number name place faults.Long has = has
 no_body key ident locator digits number name place faults.Words has = has
-no_body key ident locator digits number name place faults.Key has = has
-no_body key ident locator digits number name place faults.Text has = has
+no_body key ident locator digits number name place faults.Key has = absurd has
+no_body key ident locator digits number name place faults.Text has = absurd has
