@@ -1,5 +1,8 @@
 //! Batches as values.
 
+ghost use Rattle.std.specs.Prelude.{◌≡◌, IfOk};
+ghost use Rattle.pb_batch.specs.declared.batch.Message.TheVariants as messages;
+
 use crate::kind::BatchKind;
 use wire_base::{List, Memory, Octets, TryCopy};
 
@@ -89,12 +92,7 @@ impl TryCopy for Message {
                 vendor,
                 code,
                 info,
-            } => Ok(Message::Error {
-                fatal: *fatal,
-                vendor: *vendor,
-                code: *code,
-                info: info.copy()?,
-            }),
+            } => error(*fatal, *vendor, *code, info),
             Message::Frame {
                 noskip,
                 vendor,
@@ -108,4 +106,16 @@ impl TryCopy for Message {
             }),
         }
     }
+}
+
+/// A PB-Error with a copy of these octets.
+fn error(fatal: bool, vendor: u32, code: u16, info: &Octets) -> Result<Message, Memory>
+    ensures error { IfOk result (λ message. message ≡ messages.Error fatal vendor code info.now) }
+{
+    Ok(Message::Error {
+        fatal,
+        vendor,
+        code,
+        info: info.copy()?,
+    })
 }
