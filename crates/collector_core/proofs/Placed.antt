@@ -18,7 +18,7 @@ use Rattle.swima_model.proofs.Rises.{AllFrom, does_not_fall}
 use Rattle.swima_model.proofs.Living.{strict_rises}
 use Rattle.swima_model.proofs.Places.{Climbs, climbs, climbed, climbs_left, climbs_right, climbs_push, from_right, none_above}
 use Rattle.collector_core.specs.declared.live.Place.{Place}
-use Rattle.collector_core.specs.Places.{AreOwn, ArePlaces, IsOwn, IsSlot, Puts, Takes, place_ids, standing}
+use Rattle.collector_core.specs.Places.{AreFewEmpty, AreOwn, ArePlaces, IsOwn, IsSlot, Puts, Takes, place_ids, standing}
 
 -- ---- what stands at places one after another
 
@@ -221,6 +221,9 @@ pushed_places next empty ps content is =
         length-append ps (record { id = next; held = Some (record { id = next; content = content }) } ∷ []),
       );
     }
+
+pub pushed_few : (empty : ℕ) (ps : List Place) (new : Place) → AreFewEmpty empty ps → AreFewEmpty empty (ps ++ new ∷ [])
+pushed_few empty ps new few = omega (arith, few, length-append ps (new ∷ []))
 
 -- ---- the places that are not empty
 

@@ -1,5 +1,5 @@
 -- The record of an identifier at its place: what is found there, and what a change of it gives.
-use Rattle.std.proofs.Common.{◌≡◌, ℕ, ◌+◌, ◌<◌, true, Option, Some, None, List, [], ◌∷◌, ◌++◌, length, get_or, take, refl, sym, ap, ◌∙◌, subst, arith}
+use Rattle.std.proofs.Common.{◌≡◌, ℕ, suc, ◌+◌, ◌<◌, true, Option, Some, None, List, [], ◌∷◌, ◌++◌, length, get_or, take, refl, sym, ap, ◌∙◌, subst, arith}
 use Rattle.std.specs.Prelude.{is_some, option_to_list}
 use Rattle.std.proofs.lemmas.List.{length-append, take_more}
 use Rattle.std.proofs.lemmas.List.Elements.{filter-append}
@@ -9,7 +9,7 @@ use Rattle.swima_model.specs.Live.{record_of}
 use Rattle.swima_model.proofs.Places.{climbs}
 use Rattle.collector_core.specs.declared.live.Place.{Place}
 use Rattle.collector_core.specs.Answering.{is_wanted, wanted_records}
-use Rattle.collector_core.specs.Places.{ArePlaces, Exchanges, IsSlot, Puts, Takes, place_ids, standing}
+use Rattle.collector_core.specs.Places.{AreFewEmpty, ArePlaces, Exchanges, IsSlot, Puts, Takes, place_ids, standing}
 use Rattle.collector_core.proofs.Placed.{changed_places, item_is, looked_up, places_rise, put, standing_append, taken}
 
 one_here : (o : Option Record) → is_some o ≡ true → length (option_to_list o) ≡ 1
@@ -74,6 +74,14 @@ module _ (next empty : ℕ) (ps : List Place) (id slot : ℕ) (is : ArePlaces ne
         let zero : length (option_to_list at.1.held) ≡ 0 = ap (λ (o : Option Record). length (option_to_list o)) (held_here ∙ none) in
         let counts : 0 + empty ≡ length (option_to_list at.1.held) + empty = omega (arith, zero) in
         subst (ArePlaces next empty) (sym (exchanged at.0 at.1 at.2 at.3 at.4)) (changed_places at.0 at.1 at.2 None next empty empty places tt counts)
+
+-- As many places are there after another content, where as many are empty.
+pub put_few : (next empty id : ℕ) (content : Content) (ps now : List Place) → ArePlaces next empty ps → ArePlaces next empty now → Puts id content (standing ps) (standing now)
+    → AreFewEmpty empty ps → AreFewEmpty empty now
+put_few next empty id content ps now is will puts few =
+    let before : length (standing ps) ≡ length puts.0 + suc (length puts.2) = ap length puts.3 ∙ length-append puts.0 (puts.1 ∷ puts.2) in
+    let after : length (standing now) ≡ length puts.0 + suc (length puts.2) = ap length puts.5 ∙ length-append puts.0 (record { id = puts.1.id; content = content } ∷ puts.2) in
+    omega (arith, is.counted, will.counted, before, after, few)
 
 -- ---- the records that are asked for
 

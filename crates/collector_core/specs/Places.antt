@@ -1,5 +1,6 @@
 -- Places of records, of which some are empty: what was there is removed, and no other record moves.
-use Rattle.std.specs.Prelude.{◌≡◌, ◌+◌, ℕ, List, [], ◌∷◌, ◌++◌, Option, Some, None, length, map}
+-- In a book's records at most a quarter of the places is empty.
+use Rattle.std.specs.Prelude.{◌≡◌, ◌≤◌, ◌+◌, ◌*◌, ℕ, List, [], ◌∷◌, ◌++◌, Option, Some, None, length, map}
 use Rattle.std.specs.Option.{option_to_list}
 use Rattle.std.specs.List.Sorted.{IsStrictlyIncreasing}
 use Rattle.swima_model.specs.declared.record.Content.{Content}
@@ -36,6 +37,10 @@ pub record ArePlaces (next empty : ℕ) (places : List Place) : Type 0 where
   pub rising : IsStrictlyIncreasing (place_ids places ++ next ∷ [])
   pub own : AreOwn places
   pub counted : length (standing places) + empty ≡ length places
+
+-- That many empty places are at most a quarter of all.
+abbrev pub AreFewEmpty : ℕ → List Place → Type 0
+AreFewEmpty empty places = empty * 4 ≤ length places
 
 -- The place of an identifier, or `None` where no record has it.
 abbrev pub IsSlot : List Place → ℕ → Option ℕ → Type 0

@@ -12,7 +12,7 @@ ghost use Rattle.swima_model.specs.InOrder.{ids};
 ghost use Rattle.swima_model.specs.Live.{record_of};
 ghost use Rattle.collector_core.specs.declared.live.Place.{Place};
 ghost use Rattle.collector_core.specs.Index.{IsIndex};
-ghost use Rattle.collector_core.specs.Places.{AreOwn, ArePlaces, Exchanges, IsSlot, LiveView, Puts, Takes, place_ids, standing};
+ghost use Rattle.collector_core.specs.Places.{AreFewEmpty, AreOwn, ArePlaces, Exchanges, IsSlot, LiveView, Puts, Takes, place_ids, standing};
 
 use crate::index::{drop_key, exchange_key, key_of, put_key};
 use std::alloc::Global;
@@ -39,13 +39,14 @@ pub(crate) struct Live {
 
 impl Model for Live {
     ghost use Rattle.collector_core.specs.Index.{IsIndex};
-    ghost use Rattle.collector_core.specs.Places.{ArePlaces, LiveView, standing};
+    ghost use Rattle.collector_core.specs.Places.{AreFewEmpty, ArePlaces, LiveView, standing};
 
     ghost Value = { LiveView };
 
     ghost view = { λ live. record { next = live.next; records = standing live.places.items } };
 
-    ghost invariant = { λ live. ArePlaces live.next live.empty live.places.items × IsIndex live.index (standing live.places.items) };
+    ghost invariant = { λ live. ArePlaces live.next live.empty live.places.items × IsIndex live.index (standing live.places.items)
+        × AreFewEmpty live.empty live.places.items };
 }
 
 impl Live {
@@ -177,20 +178,8 @@ impl Live {
         let slot = slot_of(self.places.as_slice(), id)?;
         let taken = exchange(&mut self.places, slot, None)?;
         drop_key(&mut self.index, key_of(&taken.content.ident, id));
-        self.empty += 1;
-        self.close_up();
+        self.empty = close_up(&mut self.places, self.empty + 1);
         Some(taken)
-    }
-
-    /// Where more than a quarter of the places is empty, leaves only the others.
-    fn close_up(&mut self)
-        ensures same { self.new ≡ self.old }
-    {
-        if self.empty <= self.places.len() / 4 {
-            return;
-        }
-        drop_empty(&mut self.places);
-        self.empty = 0;
     }
 }
 
@@ -237,6 +226,21 @@ fn exchange(places: &mut Vec<Place>, slot: usize, held: Option<Record>) -> Optio
         → slot ≡ length before → result ≡ place.held }
 {
     std::mem::replace(&mut places[slot].held, held)
+}
+
+/// Leaves only the places that are not empty, where more than a quarter is empty, and gives how
+/// many are left empty. It takes no memory.
+fn close_up(places: &mut Vec<Place>, empty: usize) -> usize
+    ensures records { standing places.new.items ≡ standing places.old.items }
+    ensures places { (next : ℕ) → ArePlaces next empty places.old.items → ArePlaces next result places.new.items }
+    ensures few { AreFewEmpty result places.new.items }
+    ensures kept { AreFewEmpty empty places.old.items → places.new.items ≡ places.old.items }
+{
+    if empty <= places.len() / 4 {
+        return empty;
+    }
+    drop_empty(places);
+    0
 }
 
 /// Leaves the places that are not empty.

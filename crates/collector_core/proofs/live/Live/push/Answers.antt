@@ -2,9 +2,9 @@ use Rattle.std.proofs.Common.{◌+◌, ◌++◌, ◌∷◌, [], ◌∙◌, ℕ, 
 use Rattle.swima_model.specs.declared.record.Record.{Record}
 use Rattle.collector_core.specs.declared.live.Place.{Place}
 use Rattle.collector_core.specs.Index.{IsIndex, PutsKey}
-use Rattle.collector_core.specs.Places.{ArePlaces, LiveView, standing}
+use Rattle.collector_core.specs.Places.{AreFewEmpty, ArePlaces, LiveView, standing}
 use Rattle.collector_core.proofs.Keyed.{index_more}
-use Rattle.collector_core.proofs.Placed.{pushed_places, pushed_standing}
+use Rattle.collector_core.proofs.Placed.{pushed_few, pushed_places, pushed_standing}
 use Rattle.collector_core.proofs.live.Live.push.Goals as goal
 
 pub invariant_of-self-2 : goal.invariant_of-self-2
@@ -15,6 +15,7 @@ invariant_of-self-2 c =
       subst (IsIndex c.put_key.new.index) (sym (ap standing pushed ∙ pushed_standing c.self.inside.places.items c.self.inside.next c.args.content))
           (index_more (standing c.self.inside.places.items) c.self.inside.next c.args.content c.self.inside.index c.put_key.new.index c.self.invariant.1
           (subst (λ (key : ℕ). PutsKey key c.self.inside.index c.put_key.new.index) c.key_of-key.ensures.key c.in_ok-put_key.ensures.put)),
+      subst (AreFewEmpty c.self.inside.empty) (sym pushed) (pushed_few c.self.inside.empty c.self.inside.places.items (record { id = c.self.inside.next; held = Some (record { id = c.self.inside.next; content = c.args.content }) }) c.self.invariant.2),
     )
 
 pub returns-clause-appended : goal.returns-clause-appended

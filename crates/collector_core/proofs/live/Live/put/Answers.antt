@@ -7,6 +7,7 @@ use Rattle.collector_core.specs.Index.{ExchangesKey, key_of}
 use Rattle.collector_core.specs.Places.{LiveView, Puts, standing}
 use Rattle.collector_core.proofs.Keyed.{put_index}
 use Rattle.collector_core.proofs.Placed.{places_rise}
+use Rattle.collector_core.proofs.Slots.{put_few}
 use Rattle.collector_core.proofs.live.Live.put.Goals as goal
 
 found_is : (found : Option Record) (got : Option (Bor Record)) (held : Bor Record) → option_copied got ≡ found → got ≡ Some held → found ≡ Some held.now
@@ -25,6 +26,7 @@ invariant_of-self-2 c =
       both.0,
       put_index c.self.inside.next c.self.inside.empty c.self.inside.places.items c.self.invariant.0 (search rules) c.self.inside.index c.exchange_key.new.index c.self.invariant.1 c.args.id _ c.args.content
           c.unwrap-held.result.now found both.1 exchanges,
+      put_few c.self.inside.next c.self.inside.empty c.args.id c.args.content c.self.inside.places.items c.put_content.new.places.items c.self.invariant.0 both.0 both.1 c.self.invariant.2,
     )
 
 pub returns-clause-put : goal.returns-clause-put

@@ -1,7 +1,7 @@
 use Rattle.std.proofs.Common.{rules, ◌∙◌, ℕ, List, Some, None, ap, sym, subst}
 use Rattle.swima_model.specs.Live.{record_of}
 use Rattle.collector_core.specs.declared.live.Place.{Place}
-use Rattle.collector_core.specs.Index.{DropsKey}
+use Rattle.collector_core.specs.Index.{DropsKey, IsIndex}
 use Rattle.collector_core.specs.Places.{IsSlot, LiveView, Takes, standing}
 use Rattle.collector_core.proofs.Keyed.{take_index}
 use Rattle.collector_core.proofs.Slots.{stood_is, taken_places, takes}
@@ -18,10 +18,13 @@ pub invariant_of-self-2 : goal.invariant_of-self-2
 invariant_of-self-2 c =
     let at = subst (λ (l : List Place). IsSlot l c.args.id (Some c.in_ok-slot.slot)) c.as_slice.ensures.value c.in_ok-slot.ensures.slot in
     let here = stood_is c.self.inside.next c.self.inside.empty c.self.inside.places.items c.args.id c.in_ok-slot.slot c.self.invariant.0 at (Some c.in_ok-taken.taken) c.in_ok-taken.ensures.stood in (
-      taken_places c.self.inside.next c.self.inside.empty c.self.inside.places.items c.args.id c.in_ok-slot.slot c.self.invariant.0 at c.exchange.new.places.items c.exchange.ensures.exchanged c.in_ok-taken.taken (sym here),
-      take_index c.self.inside.next c.self.inside.empty c.self.inside.places.items c.self.invariant.0 (search rules) c.self.inside.index c.drop_key.new.index c.self.invariant.1 c.args.id _ c.in_ok-taken.taken
+      c.close_up-self-inside.ensures.places c.self.inside.next
+          (taken_places c.self.inside.next c.self.inside.empty c.self.inside.places.items c.args.id c.in_ok-slot.slot c.self.invariant.0 at c.exchange.new.places.items c.exchange.ensures.exchanged c.in_ok-taken.taken (sym here)),
+      subst (IsIndex c.drop_key.new.index) (sym c.close_up-self-inside.ensures.records)
+          (take_index c.self.inside.next c.self.inside.empty c.self.inside.places.items c.self.invariant.0 (search rules) c.self.inside.index c.drop_key.new.index c.self.invariant.1 c.args.id _ c.in_ok-taken.taken
           (takes c.self.inside.next c.self.inside.empty c.self.inside.places.items c.args.id c.in_ok-slot.slot c.self.invariant.0 at c.exchange.new.places.items c.exchange.ensures.exchanged (Some c.in_ok-taken.taken) here)
-          (subst (λ (key : ℕ). DropsKey key c.self.inside.index c.drop_key.new.index) c.key_of.ensures.key c.drop_key.ensures.dropped),
+          (subst (λ (key : ℕ). DropsKey key c.self.inside.index c.drop_key.new.index) c.key_of.ensures.key c.drop_key.ensures.dropped)),
+      c.close_up-self-inside.ensures.few,
     )
 
 pub returns-clause-taken : goal.returns-clause-taken
@@ -35,5 +38,5 @@ returns-clause-others c =
     let at = subst (λ (l : List Place). IsSlot l c.args.id (Some c.in_ok-slot.slot)) c.as_slice.ensures.value c.in_ok-slot.ensures.slot in
     let here = stood_is c.self.inside.next c.self.inside.empty c.self.inside.places.items c.args.id c.in_ok-slot.slot c.self.invariant.0 at (Some c.in_ok-taken.taken) c.in_ok-taken.ensures.stood in
     let inside = takes c.self.inside.next c.self.inside.empty c.self.inside.places.items c.args.id c.in_ok-slot.slot c.self.invariant.0 at c.exchange.new.places.items c.exchange.ensures.exchanged (Some c.in_ok-taken.taken) here in
-    let seen = subst (λ (live : LiveView). Takes c.args.id live.records (Some c.in_ok-taken.taken) (standing c.exchange.new.places.items)) c.self.view_is inside in
-    subst (λ (live : LiveView). Takes c.args.id c.args.self.now.records (Some c.in_ok-taken.taken) live.records) (sym c.close_up.ensures.same) seen
+    let closed = subst (Takes c.args.id (standing c.self.inside.places.items) (Some c.in_ok-taken.taken)) (sym c.close_up-self-inside.ensures.records) inside in
+    subst (λ (live : LiveView). Takes c.args.id live.records (Some c.in_ok-taken.taken) (standing c.close_up-self-inside.new.places.items)) c.self.view_is closed
