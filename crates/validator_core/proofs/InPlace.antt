@@ -13,7 +13,7 @@ use Rattle.swima_model.specs.Places.{IsPlaceOf}
 use Rattle.swima_model.proofs.Living.{same_records, strict_from, strict_rest}
 use Rattle.swima_model.proofs.Places.{Climbs, climbed, climbs, from_right, none_above}
 use Rattle.swima_model.proofs.Rises.{AllFrom}
-use Rattle.validator_core.specs.Further.{AreBelow, IsFurther, OthersAreHeld, from}
+use Rattle.validator_core.specs.Further.{AreBelow, FallAmong, IsFurther, OthersAreHeld, from}
 use Rattle.validator_core.specs.Merged.{merged, merged_from}
 use Rattle.validator_core.proofs.Merging.{merged_of, merged_rises}
 
@@ -51,6 +51,17 @@ below_last [] up last found = tt
 below_last (r ∷ rs) up last found =
     let end : length (r ∷ rs) - 1 ≡ length rs = omega arith in
     below_end (r ∷ rs) (length rs) last (climbs (ids (r ∷ rs)) up) refl (subst (λ (i : ℕ). slice_get (r ∷ rs) i ≡ Some last) end found)
+
+-- No number up to the last is.
+below_at : (rs : List Record) (i : ℕ) (r : Record) → slice_get rs i ≡ Some r → (bound : ℕ) → AreBelow bound rs → r.id < bound
+below_at [] i r found bound h = absurd (true≢false (sym (ap is_some found)))
+below_at (s ∷ rs) zero r found bound h =
+    let same : s ≡ r = cc in
+    subst (λ (x : Record). x.id < bound) same h.0
+below_at (s ∷ rs) (suc i) r found bound h = below_at rs i r found bound h.1
+
+pub above_last : (rs : List Record) (last : Record) → slice_get rs (length rs - 1) ≡ Some last → (bound : ℕ) → AreBelow bound rs → last.id + 1 ≤ bound
+above_last rs last found bound h = omega (arith, below_at rs (length rs - 1) last found bound h)
 
 -- ---- one record put in
 
@@ -175,6 +186,17 @@ pub place_some : (rs : List Record) (id : ℕ) (found : Option ℕ) → IsPlaceO
 place_some rs id None is some = absurd (true≢false (sym some))
 place_some rs id (Some place) (before, held, after, is, at, same) some =
     subst (λ (l : List Record). IsSome (record_of id l)) (sym is) (subst (λ (k : ℕ). IsSome (record_of k (before ++ held ∷ after))) same (some_there held before after))
+
+pub place_none : (rs : List Record) (id : ℕ) (found : Option ℕ) → IsPlaceOf rs id found → is_some found ≡ false → record_of id rs ≡ None
+place_none rs id None is none = is
+place_none rs id (Some place) is none = absurd (true≢false none)
+
+-- A given record that is not held and is below one that is.
+pub among_at : (held given : List Record) (i : ℕ) (r : Record) → i < length given → r ≡ get_or given i r → record_of r.id held ≡ None → ¬ AreBelow r.id held → FallAmong held given
+among_at held [] i r within is new before = absurd (omega (arith, within))
+among_at held (g ∷ given) zero r within is new before =
+    inl (subst (λ (x : Record). (record_of x.id held ≡ None) × ¬ AreBelow x.id held) is (new, before))
+among_at held (g ∷ given) (suc i) r within is new before = inr (among_at held given i r (omega (arith, within)) is new before)
 
 module _ (held given : List Record) (n i : ℕ) (r : Record) (within : i < length given) (is : r ≡ get_or given i r) where
   pub others_on : OthersAreHeld held n (take i given) → IsSome (record_of r.id held) ⊎ (n ≤ r.id) → OthersAreHeld held n (take (i + 1) given)

@@ -1,5 +1,5 @@
 -- Records of which each takes the place of one that is held, or comes after all of these.
-use Rattle.std.specs.Prelude.{◌≡◌, ◌<◌, ◌≤◌, ◌⊎◌, ℕ, List, [], ◌∷◌, IsSome, filter, length, nat_le}
+use Rattle.std.specs.Prelude.{◌≡◌, ◌<◌, ◌≤◌, ◌⊎◌, ℕ, List, [], ◌∷◌, None, IsSome, filter, length, nat_le}
 use Rattle.swima_model.specs.declared.record.Record.{Record}
 use Rattle.swima_model.specs.Live.{record_of}
 
@@ -16,6 +16,11 @@ from next records = filter (λ (r : Record). nat_le next r.id) records
 abbrev pub OthersAreHeld : List Record → ℕ → List Record → Type 0
 OthersAreHeld held next [] = Unit {0}
 OthersAreHeld held next (r ∷ rs) = (IsSome (record_of r.id held) ⊎ (next ≤ r.id)) × OthersAreHeld held next rs
+
+-- Some given record is not held, and comes before one that is.
+abbrev pub FallAmong : List Record → List Record → Type 0
+FallAmong held [] = ⊥
+FallAmong held (g ∷ given) = ((record_of g.id held ≡ None) × ¬ AreBelow g.id held) ⊎ FallAmong held given
 
 -- Of the given records that many come after all that are held, and each other takes the place of
 -- one.

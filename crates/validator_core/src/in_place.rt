@@ -1,11 +1,11 @@
 //! Records put in place: each is of a record that is held, or comes after all others. A collector
 //! numbers its records so.
 
-ghost use Rattle.std.specs.Prelude.{◌≡◌, ◌≤◌, ◌<◌, ◌+◌, ◌⊎◌, ◌∷◌, [], ℕ, IfSome, IsSome, vec_capacity, vec_len};
+ghost use Rattle.std.specs.Prelude.{◌≡◌, ◌≤◌, ◌<◌, ◌+◌, ◌⊎◌, ◌∷◌, [], ℕ, IfNone, IfSome, IsSome, vec_capacity, vec_len};
 ghost use Rattle.std.specs.List.Sorted.{IsStrictlyIncreasing};
 ghost use Rattle.swima_model.specs.InOrder.{ids};
 ghost use Rattle.swima_model.specs.Live.{record_of};
-ghost use Rattle.validator_core.specs.Further.{AreBelow, IsFurther};
+ghost use Rattle.validator_core.specs.Further.{AreBelow, FallAmong, IsFurther};
 ghost use Rattle.validator_core.specs.Merged.{merged};
 
 use swima_model::{Record, place_of};
@@ -15,6 +15,7 @@ use swima_model::{Record, place_of};
 pub(crate) fn further(records: &[Record], given: &[Record]) -> Option<usize>
     requires rising { IsStrictlyIncreasing (ids records.now) }
     ensures further { IfSome result (λ count. IsFurther records.now given.now count) }
+    ensures among { IfNone result (FallAmong records.now given.now) }
 {
     let next = next(records);
     let mut count = 0;
@@ -28,10 +29,11 @@ pub(crate) fn further(records: &[Record], given: &[Record]) -> Option<usize>
     Some(count)
 }
 
-/// The number above the identifier of each record.
+/// The least number above the identifier of each record.
 fn next(records: &[Record]) -> u64
     requires rising { IsStrictlyIncreasing (ids records.now) }
     ensures below { AreBelow result records.now }
+    ensures least { (bound : ℕ) → AreBelow bound records.now → result ≤ bound }
 {
     match records.last() {
         None => 0,

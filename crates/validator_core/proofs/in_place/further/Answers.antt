@@ -2,7 +2,7 @@
 use Rattle.std.proofs.Common.{◌≡◌, ◌<◌, ◌≤◌, inl, inr, true, false, rules, arith}
 use Rattle.std.specs.Prelude.{is_some}
 use Rattle.std.proofs.lemmas.Bool.{le-leb, lt-leb}
-use Rattle.validator_core.proofs.InPlace.{counted_on, others_on, place_some}
+use Rattle.validator_core.proofs.InPlace.{among_at, counted_on, others_on, place_none, place_some}
 use Rattle.validator_core.proofs.in_place.further.Goals.{then-record-next, else-record-next+else-is_none}
 use Rattle.validator_core.proofs.in_place.further.Goals as goal
 
@@ -33,3 +33,11 @@ loop-record-preserved c =
             few = omega (arith, w.count-is, before.few);
           }
     ]
+
+pub returns-then-is_none-clause-among : goal.returns-then-is_none-clause-among
+returns-then-is_none-clause-among c =
+    let item = c.record-item.result in
+    let none : is_some c.place_of.result ≡ false = search rules in
+    among_at c.args.records.now c.args.given.now c.loop-record.record-index item c.loop-record-test.true c.record-item.is
+    (place_none c.args.records.now item.id c.place_of.result c.place_of.ensures.place none)
+    (λ below. omega (arith, c.next-next.ensures.least item.id below, c.if-record-next.false))
