@@ -40,9 +40,21 @@ fn session(alloc: Global, serving: Serving, turns: &str, size: usize) -> Option<
     requires some { 0 < size }
 {
     let mut book = book_of(alloc, serving)?;
+    session_over(alloc, &mut book, serving, turns, size)
+}
+
+/// The same over the book.
+fn session_over(
+    alloc: Global,
+    book: &mut Book,
+    serving: Serving,
+    turns: &str,
+    size: usize,
+) -> Option<(String, u64)>
+    requires some { 0 < size }
+{
     let mut core = core_of(alloc, serving)?;
-    let text = played(alloc, &mut book, &mut core, turns, size)?;
-    Some((text, core.record().received))
+    played(alloc, book, &mut core, turns, size)
 }
 
 /// An empty book.
@@ -63,14 +75,14 @@ fn core_of(alloc: Global, serving: Serving) -> Option<ServeCore> {
     ServeCore::new(alloc, &config).ok()
 }
 
-/// Takes all turns. Gives what comes of them.
+/// Takes all turns. Gives what comes of them, and how many octets were taken.
 fn played(
     alloc: Global,
     book: &mut Book,
     core: &mut ServeCore,
     turns: &str,
     size: usize,
-) -> Option<String>
+) -> Option<(String, u64)>
     requires some { 0 < size }
 {
     let mut out = String::new(alloc);
@@ -83,7 +95,7 @@ fn played(
     out.push_str("; ").ok()?;
     push_turn(alloc, &mut out, core.hear(alloc, book, &[]))?;
     push_noted(alloc, &mut out, core.record())?;
-    Some(out)
+    Some((out, core.record().received))
 }
 
 /// Takes one turn.
@@ -169,8 +181,13 @@ pub fn cut(alloc: Global, words: &str) -> Option<String> {
 /// How the session ends where the link ends after the octets.
 fn cut_after(alloc: Global, serving: Serving, octets: &[u8]) -> Option<Cut> {
     let mut book = book_of(alloc, serving)?;
+    cut_after_over(alloc, &mut book, serving, octets)
+}
+
+/// The same over the book.
+fn cut_after_over(alloc: Global, book: &mut Book, serving: Serving, octets: &[u8]) -> Option<Cut> {
     let mut core = core_of(alloc, serving)?;
-    core.hear(alloc, &mut book, octets);
+    core.hear(alloc, book, octets);
     let end = core.link_ended();
     Some(Cut {
         end,

@@ -39,10 +39,21 @@ fn session(alloc: Global, following: Following, turns: &str, size: usize) -> Opt
     requires some { 0 < size }
 {
     let mut mirror = mirror_of(alloc, following);
+    session_with(alloc, &mut mirror, following, turns, size)
+}
+
+/// The same with the mirror.
+fn session_with(
+    alloc: Global,
+    mirror: &mut Mirror,
+    following: Following,
+    turns: &str,
+    size: usize,
+) -> Option<(String, u64)>
+    requires some { 0 < size }
+{
     let mut core = core_of(alloc, following)?;
-    let mut text = played(alloc, &mut mirror, &mut core, turns, size)?;
-    push_mirror(alloc, &mut text, &mirror)?;
-    Some((text, core.record().received))
+    played(alloc, mirror, &mut core, turns, size)
 }
 
 /// A new mirror.
@@ -64,14 +75,14 @@ fn core_of(alloc: Global, following: Following) -> Option<FollowCore> {
     Some(FollowCore::new(alloc, &config))
 }
 
-/// Takes all turns. Gives what comes of them.
+/// Takes all turns. Gives what comes of them, and how many octets were taken.
 fn played(
     alloc: Global,
     mirror: &mut Mirror,
     core: &mut FollowCore,
     turns: &str,
     size: usize,
-) -> Option<String>
+) -> Option<(String, u64)>
     requires some { 0 < size }
 {
     let mut out = String::new(alloc);
@@ -84,7 +95,8 @@ fn played(
     out.push_str("; ").ok()?;
     push_turn(alloc, &mut out, core.hear(alloc, mirror, &[]))?;
     push_noted(alloc, &mut out, core.record())?;
-    Some(out)
+    push_mirror(alloc, &mut out, mirror)?;
+    Some((out, core.record().received))
 }
 
 /// Takes one turn.
@@ -178,8 +190,18 @@ pub fn cut(alloc: Global, words: &str) -> Option<String> {
 /// How the session ends where the link ends after the octets.
 fn cut_after(alloc: Global, following: Following, octets: &[u8]) -> Option<Cut> {
     let mut mirror = mirror_of(alloc, following);
+    cut_after_with(alloc, &mut mirror, following, octets)
+}
+
+/// The same with the mirror.
+fn cut_after_with(
+    alloc: Global,
+    mirror: &mut Mirror,
+    following: Following,
+    octets: &[u8],
+) -> Option<Cut> {
     let mut core = core_of(alloc, following)?;
-    core.hear(alloc, &mut mirror, octets);
+    core.hear(alloc, mirror, octets);
     let end = core.link_ended();
     Some(Cut {
         end,
