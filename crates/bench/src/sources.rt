@@ -64,6 +64,9 @@ fn content(alloc: Global) -> Option<Content> {
 /// Sweeps that add that many items and change that many, and then that many quiet ones. It gives the
 /// number of items that were done.
 pub(crate) fn swept(alloc: Global, adds: u32, changes: u32, quiet: u32) -> Result<u64, Trouble> {
+    let sweeps = (adds / 1024)
+        .saturating_add(changes / 1024)
+        .saturating_add(2);
     let source = Counted {
         alloc,
         adds,
@@ -73,11 +76,13 @@ pub(crate) fn swept(alloc: Global, adds: u32, changes: u32, quiet: u32) -> Resul
     let mut boxes: Vec<Box<dyn TagSource + Send>> = Vec::new(alloc);
     boxes.push(Box::new(alloc, source)?)?;
     let mut set = SourceSet::new(alloc, boxes)?;
+    swept_from(alloc, &mut set, sweeps.saturating_add(quiet))
+}
+
+/// That many sweeps of the sources over an empty book. It gives the number of items that were done.
+fn swept_from(alloc: Global, set: &mut SourceSet, times: u32) -> Result<u64, Trouble> {
     let mut book = Book::new(alloc, 1, KEPT, &[])?;
-    let sweeps = (adds / 1024)
-        .saturating_add(changes / 1024)
-        .saturating_add(2);
-    sweep(&mut set, &mut book, sweeps.saturating_add(quiet))
+    sweep(set, &mut book, times)
 }
 
 /// That many sweeps. It gives the number of items that were done.

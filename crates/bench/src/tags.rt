@@ -47,11 +47,20 @@ fn octets_written(alloc: Global, octets: &[u8]) -> Result<u64, Trouble> {
     let mut rest = octets;
     let mut written: u64 = 0;
     while !rest.is_empty() {
-        let (tag, used) = first(alloc, rest)?;
-        written = written.saturating_add(octets_of(alloc, &tag)?);
+        let (count, used) = first_written(alloc, rest)?;
+        written = written.saturating_add(count);
         rest = &rest[used..];
     }
     Ok(written)
+}
+
+/// How many octets the canonical spelling of the first tag has, and how many spell it here.
+fn first_written(alloc: Global, octets: &[u8]) -> Result<(u64, usize), Trouble>
+    ensures some { IfOk result (λ written. 0 < written.1) }
+    ensures within { IfOk result (λ written. written.1 ≤ length octets.now) }
+{
+    let (tag, used) = first(alloc, octets)?;
+    Ok((octets_of(alloc, &tag)?, used))
 }
 
 /// The tag that the octets begin with, and how many of them spell it.
