@@ -6,7 +6,7 @@ ghost use Rattle.wire_base.specs.Stamp.{IsStamp};
 use crate::trouble::Trouble;
 use collector_core::{Answer, Book};
 use std::alloc::Global;
-use swima_model::{Body, Content, Ident, Kind, Locator, Model, Report};
+use swima_model::{Body, Content, Ident, Kind, Locator, Model};
 use swima_request::{Idents, Request};
 use wire_base::{List, is_stamp};
 
@@ -302,8 +302,7 @@ pub(crate) fn latest(alloc: Global, earliest: u32) -> Request {
 /// How many records or events the answer has.
 pub(crate) fn count_of(answer: Answer) -> Result<u64, Trouble> {
     match &answer {
-        Answer::Report(Report::Inventory { records, .. }) => Ok(records.len() as u64),
-        Answer::Report(Report::Events { events, .. }) => Ok(events.len() as u64),
+        Answer::Report(report) => Ok(report.count() as u64),
         Answer::TooLarge { .. } => Err(Trouble::Book),
         Answer::Memory => Err(Trouble::Memory),
     }

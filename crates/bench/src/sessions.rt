@@ -126,10 +126,7 @@ fn is_writable(report: &Report) -> bool
 fn is_countable(report: &Report) -> bool
     ensures few { OnTrue result (report_count report.now < 2 ^ 32) }
 {
-    match report {
-        Report::Inventory { records, .. } => records.len() <= u32::MAX as usize,
-        Report::Events { events, .. } => events.len() <= u32::MAX as usize,
-    }
+    report.count() <= u32::MAX as usize
 }
 
 /// After a first session over a book of that many records, that many further sessions, each after

@@ -5,13 +5,14 @@ use Rattle.std.specs.Fmt.{decimal}
 use Rattle.hex.specs.Hex.{encode_lower}
 use Rattle.sha2.specs.Sha256.{sha256}
 use Rattle.swima_model.specs.DataModel.{DataModel}
+use Rattle.swima_model.specs.Reports.{point_in}
+use Rattle.swima_model.specs.Size.{report_count}
 use Rattle.swima_model.specs.declared.record.Content.{Content}
 use Rattle.swima_model.specs.declared.record.Record.{Record}
 use Rattle.swima_model.specs.declared.report.Kind.{Kind}
 use Rattle.swima_model.specs.declared.report.Kind.TheVariants.{Ids, Full}
 use Rattle.swima_model.specs.declared.report.Point.{Point}
 use Rattle.swima_model.specs.declared.report.Report.{Report}
-use Rattle.swima_model.specs.declared.report.Report.TheVariants.{Inventory, Events}
 use Rattle.validator_core.specs.declared.mirror.Taken.{Taken}
 use Rattle.validator_core.specs.declared.mirror.Taken.TheVariants as taken
 use Rattle.validator_core.specs.Held.{Held}
@@ -43,8 +44,7 @@ took point count taken.Memory = []
 
 -- What a mirror answered to a report.
 abbrev pub took_line : Report → Taken → List ℕ
-took_line (Inventory kind fulfil id point records) answer = took point (length records) answer
-took_line (Events kind fulfil id point consulted events) answer = took point (length events) answer
+took_line report answer = took (point_in report) (report_count report) answer
 
 -- The data model of a record.
 abbrev pub model_text : DataModel → List ℕ

@@ -25,6 +25,6 @@ pub use answer::{Answer, beyond_limit, ending_of, refused};
 pub use end_lines::end_line;
 pub use ending::Ending;
 pub use mirror_lines::{
-    listed_count, mirror_head, mirror_text, point_and_count, put_records, skipped_line, took_line,
+    listed_count, mirror_head, mirror_text, put_records, skipped_line, took_line,
 };
 pub use refusal_lines::{fault_line, from_string, refusal};

@@ -3,30 +3,19 @@
 ghost use Rattle.std.specs.Prelude.{◌≡◌, ◌≢◌, ◌≤◌, ◌∷◌, ◌++◌, [], IfOk, OnOk, length, string_bytes};
 ghost use Rattle.std.specs.Fmt.{decimal};
 ghost use Rattle.swima_model.specs.declared.report.Kind.TheVariants as kinds;
-ghost use Rattle.validator_core.specs.declared.mirror.Taken.{Taken as TakenValue};
-ghost use Rattle.command_text.specs.Text.{body_text, content_words, line, lines_between, listed, mirror_head, mirror_text, model_text, record_line, skipped_line, took, took_line};
+ghost use Rattle.command_text.specs.Text.{body_text, content_words, line, lines_between, listed, mirror_head, mirror_text, model_text, record_line, skipped_line, took};
 
 use crate::numbered_lines::{one_number, three_numbers, two_numbers, words};
 use crate::refusal_lines::from_string;
 use itoa::Buffer;
 use sha2::{Digest, Sha256};
 use std::alloc::Global;
-use swima_model::{Content, Kind, Model, Point, Record, Report};
+use swima_model::{Content, Kind, Model, Point, Record};
 use validator_core::{Mirror, Taken};
 use wire_base::{Memory, Octets, put_escaped};
 
 /// The word with which an answer to a report begins.
 const TOOK: &str = "took";
-
-/// The point of a report, and how many records or events it has.
-pub fn point_and_count(report: &Report) -> (Point, usize)
-    ensures told { (answer : TakenValue) → took result.0 result.1 answer ≡ took_line report.now answer }
-{
-    match report {
-        Report::Inventory { point, records, .. } => (*point, records.len()),
-        Report::Events { point, events, .. } => (*point, events.len()),
-    }
-}
 
 /// The line that says what a mirror answered to a report of that many records or events at a point;
 /// `Memory` has none.

@@ -1,5 +1,5 @@
 -- What calls within the crate report.
-use Rattle.std.specs.Prelude.{◌≡◌, ◌≢◌, ◌++◌, ◌^◌, ℕ, Bool, true, false, List, [], ◌∷◌, Option, Some, None, Result, Ok, Err, nat_lt, if◌then◌else◌}
+use Rattle.std.specs.Prelude.{◌≡◌, ◌≢◌, ◌++◌, ◌^◌, ℕ, Bool, true, false, List, [], ◌∷◌, Option, Some, None, Result, Ok, Err, nat_lt}
 use Rattle.swima_model.specs.declared.report.Report.{Report}
 use Rattle.swima_model.specs.Size.{report_count}
 use Rattle.validator_core.specs.Held.{Held}
@@ -23,10 +23,6 @@ taken_telling taken = Took taken.point taken.count taken.answer
 abbrev pub ended_by : Turn → Option SessionEnd → Type 0
 ended_by turn.Goes over = over ≡ None
 ended_by (turn.Over by) over = (over ≡ Some by) × (by ≡ end.Memory → ⊥)
-
--- A number that four octets hold.
-abbrev pub counted : ℕ → Option ℕ
-counted number = if nat_lt number (2 ^ 32) then Some number else None
 
 -- What is reported where a mirror takes a report once more, and what it holds then. Nothing is of
 -- a report with too many records.

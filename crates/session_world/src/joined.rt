@@ -7,8 +7,7 @@ ghost use Rattle.collector_session.specs.Sizes.{MOST_ROOM};
 ghost use Rattle.session_rules.specs.declared.end.SessionEnd.TheVariants as end;
 ghost use Rattle.session_world.specs.Lines.{again, collector_rests, downs, ends, ups, validator_rests};
 ghost use Rattle.session_world.specs.Standing.{DoesOk, JoinedStands, joined_down, joined_up, joined_view};
-ghost use Rattle.session_world.specs.Tellings.{ended_by, taken_telling, TookAgain, counted};
-ghost use Rattle.swima_model.specs.Size.{report_count};
+ghost use Rattle.session_world.specs.Tellings.{ended_by, taken_telling, TookAgain};
 ghost use Rattle.session_world.specs.World.{opened};
 ghost use Rattle.session_world.specs.declared.telling.Telling.TheVariants as telling;
 ghost use Rattle.session_world.specs.declared.terms.Terms.{Terms as TermsValue};
@@ -210,7 +209,7 @@ fn take_once_more(report: &Report, mirror: &mut Mirror, told: &mut Tellings) -> 
     ensures took { OnOk result (TookAgain mirror.old report.now told.old mirror.new told.new) }
 {
     let point = report.point();
-    let Some(count) = count_of(report) else {
+    let Ok(count) = u32::try_from(report.count()) else {
         return Ok(());
     };
     let answer = mirror.take(report);
@@ -229,28 +228,6 @@ fn is_memory(answer: Taken) -> bool
     ensures memory { IsTrue result ↔ (answer ≡ taken.Memory) }
 {
     answer == Taken::Memory
-}
-
-/// How many records or events a report has; `None` exactly where a number of four octets does not
-/// count them.
-fn count_of(report: &Report) -> Option<u32>
-    ensures count { result ≡ counted (report_count report.now) }
-{
-    match report {
-        Report::Inventory { records, .. } => as_count(records.len()),
-        Report::Events { events, .. } => as_count(events.len()),
-    }
-}
-
-/// A length, where a number of four octets counts it.
-fn as_count(len: usize) -> Option<u32>
-    ensures count { result ≡ counted len }
-{
-    if len <= u32::MAX as usize {
-        Some(len as u32)
-    } else {
-        None
-    }
 }
 
 /// How an end is over after a turn, if it is.

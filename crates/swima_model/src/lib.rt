@@ -8,6 +8,7 @@
 //! - `equal` of each `copy`, and the order of `Bounded`, which is that of its octets.
 //! - `size` of `size_of` and `size_of_all`: the octets of a report, and of records or events.
 //! - `place` of `place_of` and `found` of `record_of`: a record, by its identifier.
+//! - `point` of `Report::point` and `count` of `Report::count`.
 //! - `carries` of `Content::carries`: which content the event of a deletion may carry.
 //!
 //! | file | what it holds |

@@ -3,6 +3,7 @@
 ghost use Rattle.std.specs.Prelude.{◌≡◌};
 ghost use Rattle.swima_model.specs.Fulfilling.{fulfilling};
 ghost use Rattle.swima_model.specs.Reports.{point_in};
+ghost use Rattle.swima_model.specs.Size.{report_count};
 
 use crate::event::Events;
 use crate::record::Records;
@@ -79,6 +80,16 @@ impl Report {
         match self {
             Report::Inventory { point, .. } => *point,
             Report::Events { point, .. } => *point,
+        }
+    }
+
+    /// How many records or events it has.
+    pub fn count(&self) -> usize
+        ensures count { result ≡ report_count self.now }
+    {
+        match self {
+            Report::Inventory { records, .. } => records.len(),
+            Report::Events { events, .. } => events.len(),
         }
     }
 

@@ -7,7 +7,6 @@ ghost use Rattle.pa_attrs.specs.Numbers.{MOST_OCTETS};
 ghost use Rattle.session_rules.specs.Saying.{swima_body};
 ghost use Rattle.session_rules.specs.Taking.{answers, speaks, takes, takes_message};
 ghost use Rattle.session_talk.specs.Talk.{each};
-ghost use Rattle.swima_model.specs.Size.{report_count};
 ghost use Rattle.validator_core.specs.Held.{Held};
 ghost use Rattle.validator_session.specs.Drafting.{Drafted, draft_of};
 ghost use Rattle.validator_core.specs.declared.mirror.Taken.TheVariants as taken;
@@ -153,7 +152,7 @@ fn take_report(mirror: &mut Mirror, notes: &mut Notes, report: Report) -> Result
     ensures received { notes.new.record.received ≡ notes.old.record.received }
 {
     let point = report.point();
-    let Some(count) = count_of(&report) else {
+    let Ok(count) = u32::try_from(report.count()) else {
         return Err(Memory);
     };
     let answer = mirror.take(&report);
@@ -191,26 +190,4 @@ fn note_answer(notes: &mut Notes, taken: TakenReport) -> Result<(), Memory>
     }
     notes.record.reports = notes.record.reports.saturating_add(1);
     Ok(())
-}
-
-/// How many records or events a report has; `None` where they are more than a number of four octets
-/// counts, as no report has that was read.
-fn count_of(report: &Report) -> Option<u32>
-    ensures count { IfSome result (λ count. count ≡ report_count report.now) }
-{
-    match report {
-        Report::Inventory { records, .. } => as_count(records.len()),
-        Report::Events { events, .. } => as_count(events.len()),
-    }
-}
-
-/// A length, where a number of four octets counts it.
-fn as_count(len: usize) -> Option<u32>
-    ensures count { IfSome result (λ count. count ≡ len) }
-{
-    if len <= u32::MAX as usize {
-        Some(len as u32)
-    } else {
-        None
-    }
 }

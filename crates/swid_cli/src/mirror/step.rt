@@ -13,7 +13,7 @@ ghost use Rattle.wire_base.specs.Passing.{is_fault};
 
 use crate::mirror::first_attribute::{Front, take_front};
 use crate::mirror::supported::carries_report;
-use command_text::{fault_line, point_and_count, refusal, skipped_line, took_line};
+use command_text::{fault_line, refusal, skipped_line, took_line};
 use pa_attrs::{Attr, HEADER_OCTETS, INVALID_PARAMETER};
 use std::alloc::Global;
 use swima_reports::read_report;
@@ -114,8 +114,12 @@ fn take_report(
         Err(FieldRefused::Memory) => Err(Memory),
         Err(FieldRefused::Fault { offset }) => fault_at(alloc, INVALID_PARAMETER, offset),
         Ok(report) => {
-            let (point, count) = point_and_count(&report);
-            let line = took_line(alloc, point, count, mirror.take_owned(report))?;
+            let line = took_line(
+                alloc,
+                report.point(),
+                report.count(),
+                mirror.take_owned(report),
+            )?;
             Ok(Step::Goes(line, len))
         }
     }
