@@ -16,6 +16,8 @@
 //! - `right`: the mirror that is printed at the end is right over each honest history from which
 //!   the reports answer.
 //!
+//! `swid_run` rests on `status` of `status` too: which status comes of how a command ended.
+//!
 //! | file | what it holds | its words in `specs/` |
 //! |---|---|---|
 //! | `run.rt` | the top call, and the status | `Run`, `Running`, `Printing`, `Answering` |

@@ -15,7 +15,15 @@ use std::alloc::Global;
 use wire_base::{List, Source, Stopped, fill};
 
 /// How many octets of a value one call of the input is asked for at most.
-const PIECE: usize = 4096;
+const PIECE: usize = 65536;
+
+/// Octets of a value that one call of the input gives.
+pub(crate) type Piece = [u8; PIECE];
+
+/// A piece with no octets of the input yet.
+pub(crate) fn new_piece() -> Piece {
+    [0; PIECE]
+}
 
 /// What stands first in what is left of the input.
 #[derive(Debug, Drop)]
@@ -34,10 +42,11 @@ pub(crate) enum Front {
 }
 
 /// Takes the first attribute of what is left of the input, of which `room` octets may be looked at.
-/// It reads no octet after what it has to look at, and holds no more than that attribute.
+/// It reads no octet after what it has to look at, and holds no more than that attribute and `buf`.
 pub(crate) fn take_front<S: Source>(
     alloc: Global,
     input: &mut S,
+    buf: &mut Piece,
     room: usize,
 ) -> Result<Front, Stopped>
     requires { room ≤ INPUT_OCTETS }
@@ -60,7 +69,7 @@ pub(crate) fn take_front<S: Source>(
     }
     let mut feed = AttrFeed::new(alloc);
     match feed.feed(start.as_slice()) {
-        AttrFed::More => take_value(input, &mut feed, header.length, room),
+        AttrFed::More => take_value(input, buf, &mut feed, header.length, room),
         AttrFed::Done(attr, _) => Ok(Front::Whole(attr, header.length)),
         AttrFed::Fault(fault) => Ok(Front::Faulty(fault)),
         AttrFed::Memory => Err(Stopped::Memory),
@@ -71,6 +80,7 @@ pub(crate) fn take_front<S: Source>(
 /// may be looked at.
 fn take_value<S: Source>(
     input: &mut S,
+    buf: &mut Piece,
     feed: &mut AttrFeed,
     len: u32,
     room: usize,
@@ -82,7 +92,6 @@ fn take_value<S: Source>(
     ensures within { IfOk result (λ first. IsWithin room first) }
     ensures cause { HasCause (S.faults input.old) (S.faults input.new) (is_fault result) }
 {
-    let mut buf = [0u8; PIECE];
     loop {
         let have = feed.have() as usize;
         let wanting = (len as usize).min(room + 1) - have;

@@ -11,7 +11,7 @@ ghost use Rattle.wire_base.specs.Reading.{whole};
 ghost use Rattle.wire_base.specs.Outside.{HasCause};
 ghost use Rattle.wire_base.specs.Passing.{is_fault};
 
-use crate::mirror::first_attribute::{Front, take_front};
+use crate::mirror::first_attribute::{Front, Piece, take_front};
 use crate::mirror::supported::carries_report;
 use command_text::{fault_line, refusal, skipped_line, took_line};
 use pa_attrs::{Attr, HEADER_OCTETS, INVALID_PARAMETER};
@@ -38,6 +38,7 @@ pub(crate) enum Step {
 pub(crate) fn next_step<S: Source>(
     alloc: Global,
     input: &mut S,
+    buf: &mut Piece,
     at: u32,
     mirror: &mut Mirror,
 ) -> Result<Step, Stopped>
@@ -47,7 +48,7 @@ pub(crate) fn next_step<S: Source>(
     ensures advances { IfOk result (λ taken. Advances at taken) }
     ensures cause { HasCause (S.faults input.old) (S.faults input.new) (is_fault result) }
 {
-    let first = take_front(alloc, input, (MOST_INPUT_OCTETS - at) as usize)?;
+    let first = take_front(alloc, input, buf, (MOST_INPUT_OCTETS - at) as usize)?;
     match first {
         Front::End => Ok(Step::End),
         Front::Torn(have) => Ok(refuse(alloc, "torn", have)?),

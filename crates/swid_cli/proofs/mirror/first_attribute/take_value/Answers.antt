@@ -15,7 +15,7 @@ pub read-requires : goal.read-requires
 read-requires g c =
     let begun = c.loop-count.invariant.begun in
     let w = wanting c.args.room c.args.len c.loop-count.feed begun in
-    omega (arith, c.have-have.ensures.have, c.min.ensures, c.min-in-loop-count.ensures, c.min-in-loop-count.array_long, length-take c.min-in-loop-count.result c.loop-count.buf, begun.within, w.3)
+    omega (arith, c.have-have.ensures.have, c.min.ensures, c.min-in-loop-count.ensures, length-take c.min-in-loop-count.result c.loop-count.buf, begun.within, w.3)
 
 pub returns-then-count-eq0-clause-front : goal.returns-then-count-eq0-clause-front
 returns-then-count-eq0-clause-front g c = λ octets told.
