@@ -34,6 +34,8 @@ const USAGE: &[u8; 6] = b"usage\n";
 /// | 3 | exactly where a count of faults rose |
 /// | 1 | exactly where the input was refused, or something is wrong with what it holds |
 /// | 0 | else, and then a command that reads the input read it to its end |
+///
+/// The program ends after it, so `mirror` does not give back the memory of its records.
 pub fn run_plain<S: Source, K: Sink, F: Files>(
     alloc: Global,
     words: &[&str],
