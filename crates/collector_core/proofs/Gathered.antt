@@ -1,7 +1,6 @@
 -- Keys of a set: one more, one fewer, and those between two bounds.
-use Rattle.std.proofs.Common.{◌≡◌, inl, inr, ℕ, suc, ◌+◌, ◌*◌, ◌%◌, ◌^◌, ◌<◌, ◌≤◌, ◌||◌, ◌&&◌, not, eqb, cond, Bool, true, false, List, [], ◌∷◌, length, get_or, take, refl, sym, ap, ◌∙◌, subst, arith, eq-eqb, eqb-true, ne_eqb}
+use Rattle.std.proofs.Common.{◌≡◌, inl, inr, ℕ, ◌+◌, ◌*◌, ◌%◌, ◌^◌, ◌<◌, ◌||◌, ◌&&◌, not, eqb, cond, Bool, true, false, List, [], ◌∷◌, length, get_or, take, refl, sym, ap, ◌∙◌, subst, arith, eq-eqb, eqb-true, ne_eqb}
 use Rattle.std.specs.Prelude.{◌⊎◌, filter}
-use Rattle.std.specs.BTreeMap.{is_at}
 use Rattle.std.specs.BTreeMap.Range.{range_contains}
 use Rattle.std.specs.BTreeSet.{BTreeSet, Updates, contains, keys_between}
 use Rattle.std.specs.Cmp.{ranks}
@@ -17,7 +16,7 @@ use Rattle.std.proofs.lemmas.Nat.{mod-mul-add}
 use Rattle.std.specs.Cmp.Lexicographic.{bytes_decides}
 use denote.Ref.{Bor}
 use Rattle.collector_core.specs.Borrowed.{values}
-use Rattle.collector_core.specs.Index.{DropsKey, ExchangesKey, Finds, HasAll, PutsKey, digest, key_of}
+use Rattle.collector_core.specs.Index.{DropsKey, ExchangesKey, Finds, HasAll, PutsKey, digest}
 
 -- ---- equal numbers
 

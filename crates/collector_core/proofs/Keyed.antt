@@ -2,11 +2,12 @@
 use Rattle.std.proofs.Common.{◌≡◌, ℕ, suc, ◌+◌, ◌*◌, ◌^◌, ◌<◌, ◌≤◌, ◌||◌, ◌&&◌, not, eqb, cond, Bool, true, false, Option, Some, None, List, [], ◌∷◌, ◌++◌, refl, sym, ap, ◌∙◌, subst, arith, eq-eqb, eqb-true, ne_eqb}
 use Rattle.std.specs.Prelude.{option_to_list}
 use Rattle.std.specs.BTreeMap.{is_at}
-use Rattle.std.specs.BTreeSet.{BTreeSet, contains}
+use Rattle.std.specs.BTreeSet.{BTreeSet}
 use Rattle.std.specs.List.{list_any}
+use Rattle.std.specs.Map.{keys_of}
 use Rattle.std.specs.Option.{option_or}
 use Rattle.std.specs.Ordering.{nat_cmp}
-use Rattle.std.proofs.lemmas.Bool.{false≢true, cond-true, cond-false}
+use Rattle.std.proofs.lemmas.Bool.{false≢true, cond-true}
 use Rattle.std.proofs.lemmas.List.{map-append}
 use Rattle.swima_model.specs.declared.record.Content.{Content}
 use Rattle.swima_model.specs.declared.record.Record.{Record}
@@ -14,9 +15,8 @@ use Rattle.swima_model.specs.InOrder.{ids}
 use Rattle.swima_model.specs.Live.{record_of}
 use Rattle.swima_model.proofs.Rises.{AllFrom}
 use Rattle.swima_model.proofs.Places.{Climbs, climbs, climbs_left, climbs_right, from_right, none_above, none_before, record_append}
-use Rattle.collector_core.specs.declared.live.Place.{Place}
 use Rattle.collector_core.specs.Index.{DropsKey, ExchangesKey, IsIndex, PutsKey, digest, has_key, key_of}
-use Rattle.collector_core.specs.Places.{AreOwn, ArePlaces, IsOwn, Puts, Takes, place_ids, standing}
+use Rattle.collector_core.specs.Places.{AreOwn, ArePlaces, IsOwn, Place, Puts, Takes, standing}
 
 -- ---- either of some tests
 
@@ -155,23 +155,23 @@ above_step : (n id next : ℕ) (held : Option Record) (rest : List Record) → n
 above_step n id next None rest le own h = h
 above_step n id next (Some r) rest le own h = (omega (arith, le, own), h)
 
-above : (n next : ℕ) (ps : List Place) → AllFrom n (place_ids ps ++ next ∷ []) → AreOwn ps → AllFrom n (ids (standing ps) ++ next ∷ [])
+above : (n next : ℕ) (ps : List Place) → AllFrom n (keys_of ps ++ next ∷ []) → AreOwn ps → AllFrom n (ids (standing ps) ++ next ∷ [])
 above n next [] h own = h
-above n next (p ∷ ps) h own = above_step n p.id next p.held (standing ps) h.0 own.0 (above n next ps h.1 own.1)
+above n next (p ∷ ps) h own = above_step n p.0 next p.1 (standing ps) h.0 own.0 (above n next ps h.1 own.1)
 
 climbs_step : (id next : ℕ) (held : Option Record) (rest : List Record) → IsOwn id held → AllFrom (suc id) (ids rest ++ next ∷ []) → Climbs (ids rest ++ next ∷ [])
     → Climbs (ids (option_to_list held ++ rest) ++ next ∷ [])
 climbs_step id next None rest own over h = h
 climbs_step id next (Some r) rest own over h = (subst (λ (n : ℕ). AllFrom (suc n) (ids rest ++ next ∷ [])) (sym own) over, h)
 
-standing_climbs : (next : ℕ) (ps : List Place) → Climbs (place_ids ps ++ next ∷ []) → AreOwn ps → Climbs (ids (standing ps) ++ next ∷ [])
+standing_climbs : (next : ℕ) (ps : List Place) → Climbs (keys_of ps ++ next ∷ []) → AreOwn ps → Climbs (ids (standing ps) ++ next ∷ [])
 standing_climbs next [] h own = h
 standing_climbs next (p ∷ ps) h own =
-    climbs_step p.id next p.held (standing ps) own.0 (above (suc p.id) next ps h.0 own.1) (standing_climbs next ps h.1 own.1)
+    climbs_step p.0 next p.1 (standing ps) own.0 (above (suc p.0) next ps h.0 own.1) (standing_climbs next ps h.1 own.1)
 
 module _ (next empty : ℕ) (ps : List Place) (is : ArePlaces next empty ps) where
   pub all_climb : Climbs (ids (standing ps) ++ next ∷ [])
-  all_climb = standing_climbs next ps (climbs (place_ids ps ++ next ∷ []) is.rising) is.own
+  all_climb = standing_climbs next ps (climbs (keys_of ps ++ next ∷ []) is.rising) is.own
 
   module _ (small : next < 2 ^ 32) (index new : BTreeSet ℕ) (indexed : IsIndex index (standing ps)) (id : ℕ) (now : List Record) where
     up : Climbs (ids (standing ps))

@@ -1,24 +1,24 @@
 -- Records that are looked up by rising identifiers: what is asked for of them is what is asked for
 -- of all.
-use Rattle.std.proofs.Common.{◌≡◌, ℕ, suc, ◌+◌, ◌^◌, ◌<◌, ◌≤◌, ◌||◌, eqb, cond, Bool, true, false, Option, Some, None, List, [], ◌∷◌, ◌++◌, length, refl, sym, ap, ◌∙◌, subst, arith, eq-eqb, eqb-true, ne_eqb}
+use Rattle.std.proofs.Common.{◌≡◌, ℕ, suc, ◌^◌, ◌<◌, ◌≤◌, ◌||◌, eqb, cond, Bool, true, false, Option, Some, None, List, [], ◌∷◌, ◌++◌, length, refl, sym, ap, ◌∙◌, subst, arith, eq-eqb, eqb-true, ne_eqb}
 use Rattle.std.specs.Prelude.{filter, option_to_list}
-use Rattle.std.specs.BTreeSet.{BTreeSet, IsOrdered, contains}
+use Rattle.std.specs.BTreeSet.{BTreeSet, IsOrdered}
 use Rattle.std.specs.Cmp.{ranks}
 use Rattle.std.specs.List.{AllByRecursion, list_any}
 use Rattle.std.specs.List.Sorted.{IsStrictlyIncreasing, IsStrictlySortedBy}
 use Rattle.std.specs.Ordering.{MatchOrdering, is_eq, nat_cmp}
 use Rattle.std.specs.declared.cmp.Ordering.{Ordering}
-use Rattle.std.specs.declared.cmp.Ordering.TheVariants.{Less, Equal, Greater}
+use Rattle.std.specs.declared.cmp.Ordering.TheVariants.{Less}
 use Rattle.std.proofs.lemmas.Bool.{false≢true, cond-true, cond-false}
 use Rattle.std.proofs.lemmas.Map.Keys.{sorted_head, sorted_tail}
 use Rattle.swima_model.specs.declared.record.Record.{Record}
 use Rattle.swima_model.specs.InOrder.{ids}
 use Rattle.swima_model.specs.Live.{record_of}
-use Rattle.swima_model.proofs.Rises.{AllFrom, from_lower}
+use Rattle.swima_model.proofs.Rises.{AllFrom}
 use Rattle.swima_model.proofs.Living.{same_records}
 use Rattle.swima_model.proofs.Places.{Climbs, climbs, climbed, climbs_left, none_above}
 use Rattle.collector_core.specs.Answering.{is_wanted, wanted_records}
-use Rattle.collector_core.specs.Index.{Finds, IsIndex, has_key, key_of, picked}
+use Rattle.collector_core.specs.Index.{Finds, IsIndex, key_of, picked}
 use Rattle.collector_core.specs.Places.{IsOwn}
 use Rattle.collector_core.proofs.Gathered.{apart_of, same_of}
 use Rattle.collector_core.proofs.Keyed.{Under, has_there, under_next}

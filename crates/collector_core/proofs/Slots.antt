@@ -1,79 +1,70 @@
--- The record of an identifier at its place: what is found there, and what a change of it gives.
-use Rattle.std.proofs.Common.{◌≡◌, ℕ, suc, ◌+◌, ◌<◌, true, Option, Some, None, List, [], ◌∷◌, ◌++◌, length, get_or, take, refl, sym, ap, ◌∙◌, subst, arith}
+-- The record of an identifier at its place: what a change of it gives.
+use Rattle.std.proofs.Common.{◌≡◌, ℕ, suc, ◌+◌, ◌<◌, eqb, true, Option, Some, None, List, [], ◌∷◌, ◌++◌, length, get_or, take, refl, sym, ap, ◌∙◌, subst, append_assoc, arith}
 use Rattle.std.specs.Prelude.{is_some, option_to_list}
+use Rattle.std.specs.Map.{lookup, set_value}
+use Rattle.std.specs.Option.{unwrap_or}
 use Rattle.std.proofs.lemmas.List.{length-append, take_more}
 use Rattle.std.proofs.lemmas.List.Elements.{filter-append}
 use Rattle.swima_model.specs.declared.record.Content.{Content}
 use Rattle.swima_model.specs.declared.record.Record.{Record}
 use Rattle.swima_model.specs.Live.{record_of}
-use Rattle.swima_model.proofs.Places.{climbs}
-use Rattle.collector_core.specs.declared.live.Place.{Place}
 use Rattle.collector_core.specs.Answering.{is_wanted, wanted_records}
-use Rattle.collector_core.specs.Places.{AreFewEmpty, ArePlaces, Exchanges, IsSlot, Puts, Takes, place_ids, standing}
-use Rattle.collector_core.proofs.Placed.{changed_places, item_is, looked_up, places_rise, put, standing_append, taken}
+use Rattle.collector_core.specs.Places.{AreFewEmpty, ArePlaces, Place, Puts, Takes, held_at, present, standing}
+use Rattle.collector_core.proofs.Placed.{changed_places, exchanges, put, stands_at, taken}
 
-one_here : (o : Option Record) → is_some o ≡ true → length (option_to_list o) ≡ 1
-one_here None some = absurd cc
-one_here (Some r) some = refl
+one_there : (o : Option (Option Record)) (old : Record) → unwrap_or o None ≡ Some old → o ≡ Some (Some old)
+one_there None old is = absurd cc
+one_there (Some held) old is = ap Some is
 
-module _ (next empty : ℕ) (ps : List Place) (id slot : ℕ) (is : ArePlaces next empty ps) (at : IsSlot ps id (Some slot)) where
-  pub within : slot < length ps
-  within = omega (arith, at.4, ap length at.3, length-append at.0 (at.1 ∷ at.2))
-
-  places : ArePlaces next empty (at.0 ++ at.1 ∷ at.2)
-  places = subst (ArePlaces next empty) at.3 is
-
-  pub held_here : at.1.held ≡ record_of id (standing ps)
-  held_here =
-      sym (looked_up at.0 at.1 at.2 (climbs (place_ids (at.0 ++ at.1 ∷ at.2)) (places_rise next empty (at.0 ++ at.1 ∷ at.2) places)) places.own)
-      ∙ ap (λ (n : ℕ). record_of n (standing (at.0 ++ at.1 ∷ at.2))) at.5
-      ∙ ap (λ (l : List Place). record_of id (standing l)) (sym at.3)
-
-  pub held_item : (item : Place) → item ≡ get_or ps slot item → item.held ≡ record_of id (standing ps)
-  held_item item got = ap (λ (p : Place). p.held) (item_is ps slot item at.0 at.1 at.2 at.3 at.4 got) ∙ held_here
-
-  pub stood_is : (held : Option Record) → ((before : List Place) (place : Place) (after : List Place) → ps ≡ before ++ place ∷ after → slot ≡ length before → held ≡ place.held)
-      → held ≡ record_of id (standing ps)
-  stood_is held stood = stood at.0 at.1 at.2 at.3 at.4 ∙ held_here
+module _ (next empty id : ℕ) (ps : List Place) (old : Record) (is : ArePlaces next empty ps) (stood : held_at id ps ≡ Some old) where
+  there : lookup (eqb id) ps ≡ Some (Some old)
+  there = one_there (lookup (eqb id) ps) old stood
 
   -- Another content there.
-  module _ (now : List Place) (content : Content) (some : is_some (record_of id (standing ps)) ≡ true) (exchanged : Exchanges ps slot (Some (record { id = id; content = content })) now) where
-    pub put_places : ArePlaces next empty now
-    put_places =
-        let one : length (option_to_list at.1.held) ≡ 1 = one_here at.1.held (ap is_some held_here ∙ some) in
-        let counts : 1 + empty ≡ length (option_to_list at.1.held) + empty = omega (arith, one) in
-        subst (ArePlaces next empty) (sym (exchanged at.0 at.1 at.2 at.3 at.4)) (changed_places at.0 at.1 at.2 (Some (record { id = id; content = content })) next empty empty places (sym at.5) counts)
+  put_places : (content : Content) → ArePlaces next empty (set_value (eqb id) ps (Some (record { id = id; content = content })))
+  put_places content =
+      let at = exchanges id ps (Some old) (Some (record { id = id; content = content })) there in
+      subst (ArePlaces next empty) (sym at.3)
+      (changed_places at.0 (id, Some old) at.1 (Some (record { id = id; content = content })) next empty empty (subst (ArePlaces next empty) at.2 is) refl refl)
 
-    pub puts : Puts id content (standing ps) (standing now)
-    puts = by_held at.1.held refl (ap is_some held_here ∙ some)
-      where
-        by_held : (o : Option Record) → at.1.held ≡ o → is_some o ≡ true → Puts id content (standing ps) (standing now)
-        by_held None stood there = absurd cc
-        by_held (Some old) stood there =
-            subst (λ (l : List Place). Puts id content (standing l) (standing now)) (sym at.3)
-            (subst (λ (l : List Place). Puts id content (standing (at.0 ++ at.1 ∷ at.2)) (standing l)) (sym (exchanged at.0 at.1 at.2 at.3 at.4))
-            (put at.0 at.1 at.2 (Some (record { id = id; content = content })) id content old at.5 places.own stood refl))
+  puts : (content : Content) → Puts id content (standing ps) (standing (set_value (eqb id) ps (Some (record { id = id; content = content }))))
+  puts content =
+      let held = Some (record { id = id; content = content }) in
+      let at = exchanges id ps (Some old) held there in
+      let own = (subst (ArePlaces next empty) at.2 is).own in
+      subst (λ (l : List Place). Puts id content (standing l) (standing (set_value (eqb id) ps held))) (sym at.2)
+      (subst (λ (l : List Place). Puts id content (standing (at.0 ++ (id, Some old) ∷ at.1)) (standing l)) (sym at.3)
+      (put at.0 (id, Some old) at.1 held id content old refl own refl refl))
 
   -- Nothing there.
-  module _ (now : List Place) (exchanged : Exchanges ps slot None now) where
-    pub takes : (held : Option Record) → held ≡ record_of id (standing ps) → Takes id (standing ps) held (standing now)
-    takes held same =
-        subst (λ (o : Option Record). Takes id (standing ps) o (standing now)) (held_here ∙ sym same)
-        (subst (λ (l : List Place). Takes id (standing l) at.1.held (standing now)) (sym at.3)
-        (subst (λ (l : List Place). Takes id (standing (at.0 ++ at.1 ∷ at.2)) at.1.held (standing l)) (sym (exchanged at.0 at.1 at.2 at.3 at.4))
-        (taken at.0 at.1 at.2 None id at.5 places.own refl)))
+  taken_places : ArePlaces next (empty + 1) (set_value (eqb id) ps None)
+  taken_places =
+      let at = exchanges id ps (Some old) None there in
+      subst (ArePlaces next (empty + 1)) (sym at.3)
+      (changed_places at.0 (id, Some old) at.1 None next empty (empty + 1) (subst (ArePlaces next empty) at.2 is) tt (omega arith))
 
-    pub taken_places : (old : Record) → record_of id (standing ps) ≡ Some old → ArePlaces next (empty + 1) now
-    taken_places old found =
-        let one : length (option_to_list at.1.held) ≡ 1 = ap (λ (o : Option Record). length (option_to_list o)) (held_here ∙ found) in
-        let counts : 0 + (empty + 1) ≡ length (option_to_list at.1.held) + empty = omega (arith, one) in
-        subst (ArePlaces next (empty + 1)) (sym (exchanged at.0 at.1 at.2 at.3 at.4)) (changed_places at.0 at.1 at.2 None next empty (empty + 1) places tt counts)
+  takes : Takes id (standing ps) (Some old) (standing (set_value (eqb id) ps None))
+  takes =
+      let at = exchanges id ps (Some old) None there in
+      let own = (subst (ArePlaces next empty) at.2 is).own in
+      subst (λ (l : List Place). Takes id (standing l) (Some old) (standing (set_value (eqb id) ps None))) (sym at.2)
+      (subst (λ (l : List Place). Takes id (standing (at.0 ++ (id, Some old) ∷ at.1)) (Some old) (standing l)) (sym at.3)
+      (taken at.0 (id, Some old) at.1 None id refl own refl))
 
-    pub left_places : record_of id (standing ps) ≡ None → ArePlaces next empty now
-    left_places none =
-        let zero : length (option_to_list at.1.held) ≡ 0 = ap (λ (o : Option Record). length (option_to_list o)) (held_here ∙ none) in
-        let counts : 0 + empty ≡ length (option_to_list at.1.held) + empty = omega (arith, zero) in
-        subst (ArePlaces next empty) (sym (exchanged at.0 at.1 at.2 at.3 at.4)) (changed_places at.0 at.1 at.2 None next empty empty places tt counts)
+  pub take_at : (now : List Place) → now ≡ set_value (eqb id) ps None → ArePlaces next (empty + 1) now × Takes id (standing ps) (Some old) (standing now)
+  take_at now exchanged =
+      subst (λ (l : List Place). ArePlaces next (empty + 1) l × Takes id (standing ps) (Some old) (standing l)) (sym exchanged) (taken_places, takes)
+
+pub put_at : (next empty id : ℕ) (ps now : List Place) (content : Content) → ArePlaces next empty ps → is_some (record_of id (standing ps)) ≡ true
+    → now ≡ set_value (eqb id) ps (Some (record { id = id; content = content })) → ArePlaces next empty now × Puts id content (standing ps) (standing now)
+put_at next empty id ps now content is some exchanged = by_held (record_of id (standing ps)) refl some
+  where
+    by_held : (o : Option Record) → record_of id (standing ps) ≡ o → is_some o ≡ true → ArePlaces next empty now × Puts id content (standing ps) (standing now)
+    by_held None stood some = absurd cc
+    by_held (Some old) stood some =
+        let there : held_at id ps ≡ Some old = sym (stands_at next empty ps is id) ∙ stood in
+        subst (λ (l : List Place). ArePlaces next empty l × Puts id content (standing ps) (standing l)) (sym exchanged)
+        (put_places next empty id ps old is there content, puts next empty id ps old is there content)
 
 -- As many places are there after another content, where as many are empty.
 pub put_few : (next empty id : ℕ) (content : Content) (ps now : List Place) → ArePlaces next empty ps → ArePlaces next empty now → Puts id content (standing ps) (standing now)
@@ -89,15 +80,20 @@ alone : (o : Option Record) → option_to_list o ++ [] ≡ option_to_list o
 alone None = refl
 alone (Some r) = refl
 
-pub standing_more : (ps : List Place) (k : ℕ) (item : Place) → k < length ps → item ≡ get_or ps k item → standing (take (k + 1) ps) ≡ standing (take k ps) ++ option_to_list item.held
-standing_more ps k item lt is =
-    ap standing (take_more ps k item lt)
-    ∙ standing_append (take k ps) (get_or ps k item ∷ [])
-    ∙ ap (λ (l : List Record). standing (take k ps) ++ l) (alone (get_or ps k item).held ∙ ap (λ (p : Place). option_to_list p.held) (sym is))
+present_append : (xs ys : List (Option Record)) → present (xs ++ ys) ≡ present xs ++ present ys
+present_append [] ys = refl
+present_append (held ∷ xs) ys =
+    ap (λ (l : List Record). option_to_list held ++ l) (present_append xs ys) ∙ sym (append_assoc (option_to_list held) (present xs) (present ys))
 
-pub wanted_more : (targets : List (List ℕ)) (ps : List Place) (k : ℕ) (item : Place) (so_far : List Record) → k < length ps → item ≡ get_or ps k item
-    → so_far ≡ wanted_records targets (standing (take k ps)) → so_far ++ wanted_records targets (option_to_list item.held) ≡ wanted_records targets (standing (take (k + 1) ps))
-wanted_more targets ps k item so_far lt is before =
-    ap (λ (l : List Record). l ++ wanted_records targets (option_to_list item.held)) before
-    ∙ sym (filter-append (λ (r : Record). is_wanted targets r.content.ident) (standing (take k ps)) (option_to_list item.held))
-    ∙ ap (wanted_records targets) (sym (standing_more ps k item lt is))
+present_more : (hs : List (Option Record)) (k : ℕ) (item : Option Record) → k < length hs → item ≡ get_or hs k item → present (take (k + 1) hs) ≡ present (take k hs) ++ option_to_list item
+present_more hs k item lt is =
+    ap present (take_more hs k item lt)
+    ∙ present_append (take k hs) (get_or hs k item ∷ [])
+    ∙ ap (λ (l : List Record). present (take k hs) ++ l) (alone (get_or hs k item) ∙ ap option_to_list (sym is))
+
+pub wanted_more : (targets : List (List ℕ)) (hs : List (Option Record)) (k : ℕ) (item : Option Record) (so_far : List Record) → k < length hs → item ≡ get_or hs k item
+    → so_far ≡ wanted_records targets (present (take k hs)) → so_far ++ wanted_records targets (option_to_list item) ≡ wanted_records targets (present (take (k + 1) hs))
+wanted_more targets hs k item so_far lt is before =
+    ap (λ (l : List Record). l ++ wanted_records targets (option_to_list item)) before
+    ∙ sym (filter-append (λ (r : Record). is_wanted targets r.content.ident) (present (take k hs)) (option_to_list item))
+    ∙ ap (wanted_records targets) (sym (present_more hs k item lt is))

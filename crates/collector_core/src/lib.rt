@@ -2,7 +2,7 @@
 //!
 //! It stands on `event_log`, `swima_request`, `swima_model` and `wire_base`. It stands on
 //! `swima_reports` for the law that answers are read back, on `arrayvec` for lists that take no
-//! memory, and on `thiserror` for the texts of errors.
+//! memory, on `indexmap` for the records, and on `thiserror` for the texts of errors.
 //!
 //! The crates above rest on `stands` of each call of `Book`, and on `edits` and `reads` of each
 //! call of `Desk`. Their proofs cite the lemmas of these files of `proofs/`:

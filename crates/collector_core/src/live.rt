@@ -1,39 +1,37 @@
 //! The live records, in order of their identifiers.
 //!
-//! A search by halves finds a record. One that is removed leaves its place empty, so that no other
-//! record moves. Where more than a quarter of the places is empty, the records close up. An index
-//! says which records have a software identifier.
+//! A hash map that keeps order has a place for each identifier. A record that is removed leaves its
+//! place empty, so that no other record moves. Where more than a quarter of the places is empty,
+//! the records close up. An index says which records have a software identifier.
 
-ghost use Rattle.std.specs.Prelude.{◌≡◌, ◌<◌, ◌≤◌, ◌+◌, ◌-◌, ◌^◌, ◌++◌, ◌∷◌, [], IfOk, IsSome, List, None, OnErr, Some, ℕ, OnOk, length, vec_capacity, vec_len};
+ghost use Rattle.std.specs.Prelude.{◌≡◌, ◌<◌, ◌≤◌, ◌+◌, ◌-◌, ◌^◌, ◌++◌, ◌∷◌, [], IfOk, IsSome, List, None, OnErr, Some, ℕ, OnOk, length, nat_eq};
 ghost use Rattle.std.specs.List.Sorted.{IsStrictlyIncreasing};
+ghost use Rattle.std.specs.Map.{set_value};
 ghost use Rattle.std.specs.Option.{option_copied};
+ghost use Rattle.indexmap.specs.IndexMap.{get, spare};
 ghost use Rattle.swima_model.specs.declared.record.Record.{Record};
 ghost use Rattle.swima_model.specs.InOrder.{ids};
 ghost use Rattle.swima_model.specs.Live.{record_of};
-ghost use Rattle.collector_core.specs.declared.live.Place.{Place};
 ghost use Rattle.collector_core.specs.Index.{IsIndex};
-ghost use Rattle.collector_core.specs.Places.{AreFewEmpty, AreOwn, ArePlaces, Exchanges, IsSlot, LiveView, Puts, Takes, place_ids, standing};
+ghost use Rattle.collector_core.specs.Places.{AreFewEmpty, ArePlaces, LiveView, Puts, Takes, held_at, present, standing};
 
 use crate::index::{drop_key, exchange_key, key_of, put_key};
+use indexmap::IndexMap;
 use std::alloc::Global;
 use std::collections::BTreeSet;
 use std::marker::Model;
 use swima_model::{Content, Record};
 use wire_base::{Memory, TryCopy};
 
-/// The place of an identifier, and the record there; `None` where it was removed.
-#[derive(Debug, Drop)]
-pub(crate) struct Place {
-    pub(crate) id: u32,
-    pub(crate) held: Option<Record>,
-}
+/// The place of each identifier, and the record there; `None` where it was removed.
+type Places = IndexMap<u32, Option<Record>>;
 
 /// The live records, and the identifier of the next.
 #[derive(Debug, Drop)]
 pub(crate) struct Live {
     next: u32,
     empty: usize,
-    places: Vec<Place>,
+    places: Places,
     index: BTreeSet<u64>,
 }
 
@@ -43,10 +41,10 @@ impl Model for Live {
 
     ghost Value = { LiveView };
 
-    ghost view = { λ live. record { next = live.next; records = standing live.places.items } };
+    ghost view = { λ live. record { next = live.next; records = standing live.places.entries } };
 
-    ghost invariant = { λ live. ArePlaces live.next live.empty live.places.items × IsIndex live.index (standing live.places.items)
-        × AreFewEmpty live.empty live.places.items };
+    ghost invariant = { λ live. ArePlaces live.next live.empty live.places.entries × IsIndex live.index (standing live.places.entries)
+        × AreFewEmpty live.empty live.places.entries };
 }
 
 impl Live {
@@ -57,7 +55,7 @@ impl Live {
         Ok(Live {
             next: 1,
             empty: 0,
-            places: Vec::with_capacity(alloc, capacity)?,
+            places: IndexMap::with_capacity(alloc, capacity)?,
             index: BTreeSet::new(alloc),
         })
     }
@@ -85,15 +83,14 @@ impl Live {
     pub(crate) fn get(&self, id: u32) -> Option<&Record>
         ensures held { option_copied result ≡ record_of id self.now.records }
     {
-        let slot = slot_of(self.places.as_slice(), id)?;
-        self.places[slot].held.as_ref()
+        self.places.get(&id)?.as_ref()
     }
 
-    /// The places, with the empty ones.
-    pub(crate) fn places(&self) -> &[Place]
-        ensures places { standing result.now ≡ self.now.records }
+    /// What stands at each place; `None` where a record was removed.
+    pub(crate) fn places(&self) -> &[Option<Record>]
+        ensures places { present result.now ≡ self.now.records }
     {
-        self.places.as_slice()
+        self.places.values().as_slice()
     }
 
     /// The index of the records.
@@ -175,78 +172,60 @@ impl Live {
         ensures others { Takes id self.old.records result self.new.records }
         ensures next { self.new.next ≡ self.old.next }
     {
-        let slot = slot_of(self.places.as_slice(), id)?;
-        let taken = exchange(&mut self.places, slot, None)?;
+        let taken = exchange(&mut self.places, id, None)?;
         drop_key(&mut self.index, key_of(&taken.content.ident, id));
-        self.empty = close_up(&mut self.places, self.empty + 1);
+        self.empty = close_up(&mut self.places, self.empty);
         Some(taken)
     }
 }
 
-/// Where the place of an identifier is.
-fn slot_of(places: &[Place], id: u32) -> Option<usize>
-    requires rising { IsStrictlyIncreasing (place_ids places.now) }
-    requires own { AreOwn places.now }
-    ensures slot { IsSlot places.now id result }
-{
-    places.binary_search_by_key(&id, |place| place.id).ok()
-}
-
 /// Puts a place with a record at the end, where there is room for it. It takes no memory.
-fn push_place(places: &mut Vec<Place>, id: u32, content: Content)
-    requires room { vec_len places.old < vec_capacity places.old }
-    ensures appended { places.new.items ≡ places.old.items
-        ++ record { id = id; held = Some (record { id = id; content = content }) } ∷ [] }
+fn push_place(places: &mut Places, id: u32, content: Content)
+    requires room { 0 < spare places.old }
+    requires new { get nat_eq places.old id ≡ None }
+    ensures appended { places.new.entries ≡ places.old.entries ++ (id, Some (record { id = id; content = content })) ∷ [] }
 {
-    let place = Place {
-        id,
-        held: Some(Record { id, content }),
-    };
-    places.push(place).unwrap();
+    places.insert(id, Some(Record { id, content })).unwrap();
 }
 
 /// Replaces the content of a record at its place. It takes no memory.
-fn put_content(places: &mut Vec<Place>, id: u32, content: Content)
-    requires rising { IsStrictlyIncreasing (place_ids places.old.items) }
-    requires own { AreOwn places.old.items }
-    requires held { IsSome (record_of id (standing places.old.items)) }
-    ensures put { (next empty : ℕ) → ArePlaces next empty places.old.items
-        → ArePlaces next empty places.new.items × Puts id content (standing places.old.items) (standing places.new.items) }
+fn put_content(places: &mut Places, id: u32, content: Content)
+    requires held { IsSome (record_of id (standing places.old.entries)) }
+    ensures put { (next empty : ℕ) → ArePlaces next empty places.old.entries
+        → ArePlaces next empty places.new.entries × Puts id content (standing places.old.entries) (standing places.new.entries) }
 {
-    if let Some(slot) = slot_of(places.as_slice(), id) {
-        exchange(places, slot, Some(Record { id, content }));
-    }
+    exchange(places, id, Some(Record { id, content }));
 }
 
-/// Puts this at a place, and gives what stood there.
-fn exchange(places: &mut Vec<Place>, slot: usize, held: Option<Record>) -> Option<Record>
-    requires slot { slot < length places.old.items }
-    ensures exchanged { Exchanges places.old.items slot held places.new.items }
-    ensures stood { (before : List Place) (place : Place) (after : List Place) → places.old.items ≡ before ++ place ∷ after
-        → slot ≡ length before → result ≡ place.held }
+/// Puts this at the place of an identifier, where it has one, and gives what stood there. It takes
+/// no memory.
+fn exchange(places: &mut Places, id: u32, held: Option<Record>) -> Option<Record>
+    ensures stood { result ≡ held_at id places.old.entries }
+    ensures exchanged { places.new.entries ≡ set_value (nat_eq id) places.old.entries held }
 {
-    std::mem::replace(&mut places[slot].held, held)
+    let place = places.get_mut(&id)?;
+    std::mem::replace(place, held)
 }
 
-/// Leaves only the places that are not empty, where more than a quarter is empty, and gives how
-/// many are left empty. It takes no memory.
-fn close_up(places: &mut Vec<Place>, empty: usize) -> usize
-    ensures records { standing places.new.items ≡ standing places.old.items }
-    ensures places { (next : ℕ) → ArePlaces next empty places.old.items → ArePlaces next result places.new.items }
-    ensures few { AreFewEmpty result places.new.items }
-    ensures kept { AreFewEmpty empty places.old.items → places.new.items ≡ places.old.items }
+/// Counts one more empty place. Where more than a quarter is empty then, it leaves only the places
+/// that are not. It gives how many are left empty, and takes no memory.
+fn close_up(places: &mut Places, empty: usize) -> usize
+    ensures records { standing places.new.entries ≡ standing places.old.entries }
+    ensures places { (next : ℕ) → ArePlaces next (empty + 1) places.old.entries → ArePlaces next result places.new.entries }
+    ensures few { AreFewEmpty result places.new.entries }
+    ensures kept { AreFewEmpty (empty + 1) places.old.entries → places.new.entries ≡ places.old.entries }
 {
-    if empty <= places.len() / 4 {
-        return empty;
+    if empty < places.len() / 4 {
+        return empty + 1;
     }
     drop_empty(places);
     0
 }
 
 /// Leaves the places that are not empty.
-fn drop_empty(places: &mut Vec<Place>)
-    ensures records { standing places.new.items ≡ standing places.old.items }
-    ensures places { (next empty : ℕ) → ArePlaces next empty places.old.items → ArePlaces next 0 places.new.items }
+fn drop_empty(places: &mut Places)
+    ensures records { standing places.new.entries ≡ standing places.old.entries }
+    ensures places { (next empty : ℕ) → ArePlaces next empty places.old.entries → ArePlaces next 0 places.new.entries }
 {
-    places.retain(|place| place.held.is_some());
+    places.retain(|_, held| held.is_some());
 }

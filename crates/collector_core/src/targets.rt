@@ -103,8 +103,8 @@ fn walked<'a>(
     ensures wanted { IfOk result (λ made. values made.items ≡ wanted_records targets.now records.now.records) }
 {
     let mut chosen = Vec::new(alloc);
-    for place in records.places() {
-        choose_record(&mut chosen, targets, place.held.as_ref())?;
+    for held in records.places() {
+        choose_record(&mut chosen, targets, held.as_ref())?;
     }
     Ok(chosen)
 }

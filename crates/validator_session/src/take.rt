@@ -153,6 +153,7 @@ fn take_report(mirror: &mut Mirror, notes: &mut Notes, report: Report) -> Result
 {
     let point = report.point();
     let Ok(count) = u32::try_from(report.count()) else {
+        // No report that was read has that many: they come in one attribute.
         return Err(Memory);
     };
     let answer = mirror.take(&report);

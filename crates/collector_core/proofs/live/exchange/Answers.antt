@@ -1,15 +1,17 @@
-use Rattle.std.proofs.Common.{◌∙◌, ap, ℕ, set, Option}
+use Rattle.std.proofs.Common.{◌∙◌, ℕ, Option, None, ap, sym}
+use Rattle.std.specs.Map.{set_value}
+use Rattle.std.specs.Option.{unwrap_or}
+use Rattle.std.specs.Prelude.{nat_eq}
+use Rattle.indexmap.specs.IndexMap.{IndexMap}
 use Rattle.swima_model.specs.declared.record.Record.{Record}
-use Rattle.collector_core.specs.declared.live.Place.{Place}
-use Rattle.collector_core.proofs.Placed.{item_is, set_is}
+use Rattle.collector_core.proofs.Placed.{absent_put}
 use Rattle.collector_core.proofs.live.exchange.Goals as goal
 
 pub returns : goal.returns
 returns c = record {
-  exchanged = λ before place after is at.
-      ap (λ (held : Option Record). set c.args.places.now.items c.args.slot (record { id = c.index_mut.result.now.id; held = held })) c.replace.ensures.after
-      ∙ ap (λ (id : ℕ). set c.args.places.now.items c.args.slot (record { id = id; held = c.args.held })) (ap (λ (p : Place). p.id) (item_is _ c.args.slot c.index_mut.result.now before place after is at c.index_mut.ensures.value))
-      ∙ set_is c.args.places.now.items c.args.slot (record { id = place.id; held = c.args.held }) before place after is at;
-  stood = λ before place after is at.
-      c.replace.ensures.value ∙ ap (λ (p : Place). p.held) (item_is _ c.args.slot c.index_mut.result.now before place after is at c.index_mut.ensures.value);
+  stood = c.replace.ensures.value ∙ ap (λ (place : Option (Option Record)). unwrap_or place None) c.in_ok-place.ensures.value;
+  exchanged = (c.get_mut.follows.holds c.replace.new.dest).0 ∙ ap (set_value (nat_eq c.args.id) c.args.places.now.entries) c.replace.ensures.after;
 }
+
+pub returns-in_err-place-clause-exchanged : goal.returns-in_err-place-clause-exchanged
+returns-in_err-place-clause-exchanged c = ap (λ (map : IndexMap ℕ (Option Record) _). map.entries) c.get_mut.follows.holds-at-none ∙ sym (absent_put c.args.id c.args.places.now.entries c.args.held (sym c.in_err-place.ensures.value))

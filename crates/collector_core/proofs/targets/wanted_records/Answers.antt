@@ -1,11 +1,10 @@
-use Rattle.std.proofs.Common.{◌≡◌, ◌≤◌, ◌∙◌, List, length, ℕ, ap, sym, subst, arith}
+use Rattle.std.proofs.Common.{◌≡◌, ◌∙◌, List, length, ℕ, ap, sym, subst, arith}
 use Rattle.std.proofs.lemmas.Bool.{eqb-false}
 use Rattle.std.proofs.lemmas.List.{length-map}
 use Rattle.std.proofs.lemmas.Result.{IfOk-weaker}
-use Rattle.swima_model.specs.declared.record.Record.{Record}
-use Rattle.collector_core.specs.Answering.{is_wanted, wanted_records}
+use Rattle.collector_core.specs.Answering.{is_wanted}
 use Rattle.collector_core.specs.Borrowed.{values}
-use Rattle.collector_core.specs.Index.{Finds, picked}
+use Rattle.collector_core.specs.Index.{Finds}
 use Rattle.collector_core.proofs.Picked.{some_found}
 use Rattle.collector_core.proofs.Wanting.{few_chosen}
 use Rattle.collector_core.proofs.targets.wanted_records.Goals as goal

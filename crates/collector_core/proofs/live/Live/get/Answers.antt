@@ -1,13 +1,21 @@
-use Rattle.std.proofs.Common.{List, Some, ap, subst}
+use Rattle.std.proofs.Common.{◌∙◌, Option, None, ap, sym}
+use Rattle.std.specs.Option.{option_copied, unwrap_or}
+use Rattle.swima_model.specs.declared.record.Record.{Record}
 use Rattle.swima_model.specs.Live.{record_of}
-use Rattle.collector_core.specs.declared.live.Place.{Place}
-use Rattle.collector_core.specs.Places.{IsSlot, LiveView}
-use Rattle.collector_core.proofs.Slots.{held_item}
+use Rattle.collector_core.specs.Places.{LiveView}
+use Rattle.collector_core.proofs.Placed.{stands_at}
 use Rattle.collector_core.proofs.live.Live.get.Goals as goal
 
 pub returns : goal.returns
-returns c =
-    let at = subst (λ (l : List Place). IsSlot l c.args.id (Some c.in_ok-slot.slot)) c.as_slice.ensures.value c.in_ok-slot.ensures.slot in
-    let here = held_item c.self.inside.next c.self.inside.empty c.self.inside.places.items c.args.id c.in_ok-slot.slot c.self.invariant.0 at c.index.result.now c.index.ensures in
-    let seen = ap (λ (live : LiveView). record_of c.args.id live.records) c.self.view_is in
-    record { held = cc (here, seen, c.as_ref.ensures.value) }
+returns c = record {
+  held = c.as_ref.ensures.value ∙ ap (λ (place : Option (Option Record)). unwrap_or place None) c.in_ok-get.ensures.value
+      ∙ sym (stands_at c.self.inside.next c.self.inside.empty c.self.inside.places.entries c.self.invariant.0 c.args.id)
+      ∙ ap (λ (live : LiveView). record_of c.args.id live.records) c.self.view_is;
+}
+
+pub returns-in_err-get : goal.returns-in_err-get
+returns-in_err-get c = record {
+  held = ap option_copied c.from_residual.ensures ∙ ap (λ (place : Option (Option Record)). unwrap_or place None) c.in_err-get.ensures.value
+      ∙ sym (stands_at c.self.inside.next c.self.inside.empty c.self.inside.places.entries c.self.invariant.0 c.args.id)
+      ∙ ap (λ (live : LiveView). record_of c.args.id live.records) c.self.view_is;
+}
