@@ -61,8 +61,8 @@ fn content(alloc: Global) -> Option<Content> {
     })
 }
 
-/// Sweeps that add that many items and change that many, and then that many quiet ones. It gives the
-/// number of items that were done.
+/// Sweeps that add that many items and change that many, and then that many quiet ones. It gives
+/// the number of items that were done.
 pub(crate) fn swept(alloc: Global, adds: u32, changes: u32, quiet: u32) -> Result<u64, Trouble> {
     let sweeps = (adds / 1024)
         .saturating_add(changes / 1024)

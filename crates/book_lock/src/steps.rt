@@ -60,8 +60,8 @@ pub(crate) fn reach<R: Wait>(wait: &R, board: &Board, seat: &mut Place) -> Book
     take(board, seat)
 }
 
-/// Waits until nobody has the book or a ticket, for that many looks at most. So one whose calls come
-/// one after another does several, while the book lies in the memory of its processor.
+/// Waits until nobody has the book or a ticket, for that many looks at most. So one whose calls
+/// come one after another does several, while the book lies in the memory of its processor.
 fn await_rest<R: Wait>(wait: &R, board: &Board)
     requires words { board.now.shared.table_id.words ≡ 3 }
 {

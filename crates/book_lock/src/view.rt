@@ -17,25 +17,25 @@ pub(crate) type Place = Seat<Option<Book>, View>;
 /// What a pass knows.
 pub(crate) struct View {
     /// The book that was opened.
-    pub start: Book,
+    pub(crate) start: Book,
     /// The entries that it has seen, with its own marked.
-    pub seen: LinkedList<Mark>,
+    pub(crate) seen: LinkedList<Mark>,
     /// What it had seen before the latest `meet`, until that is settled.
-    pub left: LinkedList<Mark>,
+    pub(crate) left: LinkedList<Mark>,
     /// What the other pass had seen.
-    pub right: LinkedList<Mark>,
+    pub(crate) right: LinkedList<Mark>,
     /// Whether it was sole.
-    pub left_sole: bool,
+    pub(crate) left_sole: bool,
     /// Whether the other was.
-    pub right_sole: bool,
+    pub(crate) right_sole: bool,
     /// Whether it may change.
-    pub may_change: bool,
+    pub(crate) may_change: bool,
     /// Whether no other pass may change.
-    pub sole: bool,
+    pub(crate) sole: bool,
     /// Whether another pass took it in.
-    pub spent: bool,
+    pub(crate) spent: bool,
     /// How far it is: 0 at rest, 1 with a ticket, 2 at its turn, 3 with the book, 4 committed.
-    pub stage: u64,
+    pub(crate) stage: u64,
     /// Its ticket, while it has one.
-    pub ticket: u64,
+    pub(crate) ticket: u64,
 }

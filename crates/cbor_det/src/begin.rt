@@ -198,8 +198,8 @@ fn read_break(alloc: Global, taken: u64, stack: &mut Vec<Frame>) -> Result<StepO
     }
 }
 
-/// Ends `frame`, inside of what is open. A break ends what has no count; of a map, between two pairs
-/// only.
+/// Ends `frame`, inside of what is open. A break ends what has no count; of a map, between two
+/// pairs only.
 #[tactic(auto, unfolding(crate::specs::Machine::broken))]
 fn end_frame(
     alloc: Global,

@@ -2,9 +2,9 @@
 //! say, read with `clap`.
 //!
 //! It stands on `clap` for the words, on `swima_model` for the kinds of reports, on `wire_base` for
-//! texts, and on `thiserror` for the texts of errors. The crates above rest on the clauses `options`
-//! and `within` of `collect_options` and `follow_options`: the options are exactly what `clap` states
-//! for the command.
+//! texts, and on `thiserror` for the texts of errors. The crates above rest on the clauses
+//! `options` and `within` of `collect_options` and `follow_options`: the options are exactly what
+//! `clap` states for the command.
 //!
 //! | file | what it holds | its words in `specs/` |
 //! |---|---|---|

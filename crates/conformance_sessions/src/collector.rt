@@ -14,8 +14,8 @@ use std::alloc::Global;
 /// The most octets of a piece.
 const MOST: usize = 1 << 16;
 
-/// `collector SETTINGS TURN TURN ..`: what a collector writes before the first turn and at each, how
-/// its session stands then, and what is noted of it.
+/// `collector SETTINGS TURN TURN ..`: what a collector writes before the first turn and at each,
+/// how its session stands then, and what is noted of it.
 ///
 /// A turn is octets, `idle`, or `end`, at which the link ends; or a change of the inventory, which
 /// is empty before: `create:IDENTIFIER:OCTETS`, `delete:ID`, `epoch:EPOCH` or `trim:EVENT`. Octets
@@ -155,9 +155,9 @@ fn push_noted(alloc: Global, out: &mut String, record: &SessionRecord) -> Option
     push_counts(alloc, out, record)
 }
 
-/// `collector_cut SETTINGS HEX`: how the session ends, and how many octets it has written, where the
-/// link ends after none of the octets, after one, and so on up to all. Consecutive ends within one
-/// batch are one entry.
+/// `collector_cut SETTINGS HEX`: how the session ends, and how many octets it has written, where
+/// the link ends after none of the octets, after one, and so on up to all. Consecutive ends within
+/// one batch are one entry.
 pub fn cut(alloc: Global, words: &str) -> Option<String> {
     let (settings, digits) = words.split_once(' ')?;
     let serving = serving_of(settings)?;

@@ -15,8 +15,8 @@ use validator_session::FollowCore;
 /// The most octets of a piece.
 const MOST: usize = 1 << 16;
 
-/// `validator SETTINGS TURN TURN ..`: what a validator writes before the first turn and at each, how
-/// its session stands then, what is noted of it, and its mirror then.
+/// `validator SETTINGS TURN TURN ..`: what a validator writes before the first turn and at each,
+/// how its session stands then, what is noted of it, and its mirror then.
 ///
 /// A turn is octets, `idle`, or `end`, at which the link ends. Octets in pieces of 1, 2 and 3 have
 /// to give the same, except that octets after the last batch of a session are not taken then.
@@ -164,9 +164,9 @@ fn push_mirror(alloc: Global, out: &mut String, mirror: &Mirror) -> Option<()> {
     push_text(out, state_text(alloc, mirror))
 }
 
-/// `validator_cut SETTINGS HEX`: how the session ends, and how many octets it has written, where the
-/// link ends after none of the octets, after one, and so on up to all. Consecutive ends within one
-/// batch are one entry.
+/// `validator_cut SETTINGS HEX`: how the session ends, and how many octets it has written, where
+/// the link ends after none of the octets, after one, and so on up to all. Consecutive ends within
+/// one batch are one entry.
 pub fn cut(alloc: Global, words: &str) -> Option<String> {
     let (settings, digits) = words.split_once(' ')?;
     let following = following_of(settings)?;

@@ -1,5 +1,5 @@
--- Values taken out of pairs: what stands under the other keys, and the first fault of lines that are
--- read one after another, each from what those before it left.
+-- Values taken out of pairs: what stands under the other keys, and the first fault of lines that
+-- are read one after another, each from what those before it left.
 use Rattle.std.proofs.Common.{◌≡◌, ℕ, pos, ◌==◌, not, true, false, List, [], ◌∷◌, Option, None, refl, sym, ap, ◌∙◌, subst}
 use Rattle.std.proofs.lemmas.Bool.{and_parts, not-true}
 use Rattle.cbor_det.specs.Lookup.{is_one_of, value_under, other_than}

@@ -97,7 +97,8 @@ fn keeps(alloc: Global, book: &Book, first: u32, last: u32) -> bool {
     (has_each(&answer, first, last) == Some(true)) & is_at(book, last, first, 1)
 }
 
-/// Whether an answer has the events from `first` up to `last` and no others, each with its own body.
+/// Whether an answer has the events from `first` up to `last` and no others, each with its own
+/// body.
 fn has_each(answer: &Answer, first: u32, last: u32) -> Option<bool> {
     let (events, consulted) = events_of(answer)?;
     let mut next = first;

@@ -1,5 +1,6 @@
--- The lines that `collect` and `follow` print. Numbers are decimal, and those of workers, sessions and
--- endpoints begin with 1. A worker has the number of its door, and an endpoint that of its address.
+-- The lines that `collect` and `follow` print. Numbers are decimal, and those of workers, sessions
+-- and endpoints begin with 1. A worker has the number of its door, and an endpoint that of its
+-- address.
 use Rattle.std.specs.Prelude.{ℕ, ◌+◌, Bool, true, false, List, [], ◌∷◌, ◌++◌, Option, Some, None, codes}
 use Rattle.std.specs.Fmt.{decimal}
 use Rattle.std.specs.List.{zip}

@@ -1,5 +1,5 @@
-//! The lines that `collect` and `follow` print of their doors, the sweeps beside them, the inventory
-//! and the mirrors, and how these commands end.
+//! The lines that `collect` and `follow` print of their doors, the sweeps beside them, the
+//! inventory and the mirrors, and how these commands end.
 //!
 //! It stands on `command_text` for the lines of mirrors and of ends of sessions. What is noted of
 //! sessions is of `session_core` and `session_rules`, and what sweeps did of `source_set` and

@@ -33,8 +33,8 @@ pub(crate) struct Ran {
 }
 
 /// Runs a command line over an empty input, and doors of one link each, on which these octets come.
-/// The calls of the output whose numbers are in `failing` fail, of each door those in `no_link`, and
-/// of each source those in `no_octet`. The clock gives these moments first. `watch` is told of
+/// The calls of the output whose numbers are in `failing` fail, of each door those in `no_link`,
+/// and of each source those in `no_octet`. The clock gives these moments first. `watch` is told of
 /// sessions and sweeps.
 pub(crate) fn try_run<W: Watch + Sync, R: Threads + Wait + Sync>(
     alloc: Global,

@@ -36,11 +36,11 @@ const CHANGES: u32 = 40;
 #[derive(Debug, Drop)]
 pub(crate) struct Day {
     /// The inventory, the mirror of it, and the session between them.
-    pub world: World,
+    pub(crate) world: World,
     /// What was reported, in order.
-    pub told: Tellings,
+    pub(crate) told: Tellings,
     /// The octets that were carried to the validator before the changes.
-    pub carried: Octets,
+    pub(crate) carried: Octets,
 }
 
 /// The day before its first session; `Memory` where there is no room.

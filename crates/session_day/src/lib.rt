@@ -1,5 +1,5 @@
-//! The day of an endpoint that `make` plays: packages and their tags, a first session, forty changes,
-//! a session that is cut half way, and a last one; and what is printed of it.
+//! The day of an endpoint that `make` plays: packages and their tags, a first session, forty
+//! changes, a session that is cut half way, and a last one; and what is printed of it.
 //!
 //! It stands on `session_world` for the world, on `session_script` for what a change is, on
 //! `coswid_codec`, `coswid_tag` and `cbor_det` for the tags of packages, on `collector_core`,

@@ -43,9 +43,9 @@ module _ {L : Type 0} (taken : L → Option (List Turn)) (given : L → Option (
   EachOver chronicle c low high [] = low ≤ high
   EachOver chronicle c low high (visit ∷ later) = (middle : ℕ) × ServedOver chronicle c low middle visit × EachOver chronicle c middle high later
 
-  -- From a pass to what it was later, entries of others came. Over each chronicle that it stood for,
-  -- with these and any further entries after it, the sessions are those of this chronicle, at places
-  -- among the entries that the pass saw.
+  -- From a pass to what it was later, entries of others came. Over each chronicle that it stood
+  -- for, with these and any further entries after it, the sessions are those of this chronicle, at
+  -- places among the entries that the pass saw.
   pub record SessionsOver (c : ServeConfig) (before after : PassView) (visits : List (Visit L)) : Type 0 where
     pub others : List Mark
     pub theirs : AreOthers others

@@ -3,8 +3,8 @@
 //!
 //! It stands on `session_core` for sessions, on `book_lock` for passes over a shared inventory, on
 //! `validator_core` for mirrors, and on `wire_base` for doors and links. The crates above rest on
-//! the clauses `served` of `serve_door` and `followed` of `follow_door`. They say what the door gave
-//! and took back, and what came of each link. The first says that the sessions are over one
+//! the clauses `served` of `serve_door` and `followed` of `follow_door`. They say what the door
+//! gave and took back, and what came of each link. The first says that the sessions are over one
 //! chronicle, the second that a mirror stays right.
 //!
 //! | file | what it holds |

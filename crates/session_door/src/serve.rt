@@ -30,8 +30,8 @@ impl<K: Desk, L: Link> Session<K, L> for ServeConfig {
 }
 
 /// Serves the links of a door, one after another, over a clerk of the pass, until that many
-/// sessions were held, or the door has ended or failed. Gives the pass back, which has seen what its
-/// sessions saw, with what is noted of them. Workers are numbered from 1.
+/// sessions were held, or the door has ended or failed. Gives the pass back, which has seen what
+/// its sessions saw, with what is noted of them. Workers are numbered from 1.
 pub fn serve_door<D: Door, G: Gate, R: Wait>(
     alloc: Global,
     wait: &R,

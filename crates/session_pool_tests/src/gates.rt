@@ -8,8 +8,8 @@ use wire_base::Clock;
 /// After how many turns a gate waits no longer.
 const TURNS: u64 = 10_000_000;
 
-/// What the threads of a test share: how often the clock rested, how many sessions came to the gate,
-/// whether that of the second worker is over, and whether somebody waited in vain.
+/// What the threads of a test share: how often the clock rested, how many sessions came to the
+/// gate, whether that of the second worker is over, and whether somebody waited in vain.
 #[derive(Drop)]
 pub(crate) struct Shared {
     rests: AtomicU64,

@@ -26,7 +26,7 @@
 //! | `SubRuns` | these runs in a whole session, by what is written in it |
 //! | `AnySession` | a mirror that follows an honest collector stays right |
 //! | `Wanted` | each request of a validator asks for what its mirror wants |
-//! | `Recovery` | after a report that does not fit it asks for the inventory, until one is adopted |
+//! | `Recovery` | after a report that does not fit it asks for the inventory until one is adopted |
 //! | `Vectors`, `Worked`, `WorkedFaults`, `WorkedSubscriptions`, `WorkedEnds` | worked sessions |
 //!
 //! Each worked session is an exchange of octets that was written by hand, and computes to what the

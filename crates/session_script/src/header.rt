@@ -13,15 +13,15 @@ use wire_base::Memory;
 #[derive(Clone, Copy, Debug, PartialEq, Eq)]
 pub(crate) struct Header {
     /// The epoch, at least 1.
-    pub epoch: u32,
+    pub(crate) epoch: u32,
     /// How many events are kept, 1 to 4096.
-    pub cap: u32,
+    pub(crate) cap: u32,
     /// The most octets, 64 to 16000000.
-    pub max: u32,
+    pub(crate) max: u32,
     /// The kind.
-    pub kind: Kind,
+    pub(crate) kind: Kind,
     /// Whether the validator subscribes.
-    pub subscribe: bool,
+    pub(crate) subscribe: bool,
 }
 
 /// The first line of a script, if it is one.

@@ -1,18 +1,19 @@
 //! Scripts of both ends of sessions, over an inventory that changes: what is printed when one is
 //! played.
 //!
-//! It stands on `session_world` for the world that a script changes, on `collector_core` for what is
-//! printed of refusals, on `command_text` for the lines of mirrors and of ends of sessions, on
-//! `line_words` for the values of words, on `jiff_core` in the proof that a second has
-//! one stamp, and on `validator_core`, `swima_model`, `wire_base` and `hex`. The command `replay`
-//! rests on this clause of `replay_answer`:
+//! It stands on `session_world` for the world that a script changes, on `collector_core` for what
+//! is printed of refusals, on `command_text` for the lines of mirrors and of ends of sessions, on
+//! `line_words` for the values of words, on `jiff_core` in the proof that a second has one stamp,
+//! and on `validator_core`, `swima_model`, `wire_base` and `hex`. The command `replay` rests on
+//! this clause of `replay_answer`:
 //!
-//! - `told`: what is printed, and how it ends, is what `ReplayTells` says of all octets of the input.
+//! - `told`: what is printed, and how it ends, is what `ReplayTells` says of all octets of the
+//!   input.
 //!
 //! | file | what it holds | its words in `specs/` |
 //! |---|---|---|
 //! | `script.rt` | a script, line by line | `Replay` |
-//! | `words.rt`, `header.rt`, `line.rt` | lines and words, the first line, and those after it | `Script` |
+//! | `words.rt`, `header.rt`, `line.rt` | words, the first line, and those after it | `Script` |
 //! | `inventory.rt` | the inventory that a world begins with, and the stamps of its changes | |
 //! | `playing.rt` | a script that is being played | `Played` |
 //! | `texts.rt` | the lines that are printed | `Replay` |

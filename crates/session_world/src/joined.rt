@@ -37,8 +37,8 @@ pub(crate) struct Joined {
     validator: Option<SessionEnd>,
 }
 
-/// Written out, so that what drops a session is proved by one call. A derived drop is proved part by
-/// part, again at each place where a session is dropped.
+/// Written out, so that what drops a session is proved by one call. A derived drop is proved part
+/// by part, again at each place where a session is dropped.
 impl Drop for Joined {
     fn drop(self) {
         let Self {

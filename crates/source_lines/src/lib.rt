@@ -2,8 +2,8 @@
 //!
 //! It stands on `source_set` for sources, on `coswid_codec` and `coswid_tag` for tags, on
 //! `cbor_det` for the words of their clauses, on `line_words` for words and their values, on
-//! `swima_model` for contents, and on `wire_base`, `memchr` and `thiserror`. The crates above rest on
-//! the clauses of `LineSource::next` and `LineSource::last_fault`.
+//! `swima_model` for contents, and on `wire_base`, `memchr` and `thiserror`. The crates above rest
+//! on the clauses of `LineSource::next` and `LineSource::last_fault`.
 //!
 //! | file | what it holds |
 //! |---|---|

@@ -16,9 +16,9 @@ use swima_model::{Body, Bounded, Content, Limit, Model};
 #[derive(Debug, Drop)]
 pub(crate) struct Keyed {
     /// The key.
-    pub key: u32,
+    pub(crate) key: u32,
     /// The content, with source number 0.
-    pub content: Content,
+    pub(crate) content: Content,
 }
 
 /// The item that the line is, or why it is none.

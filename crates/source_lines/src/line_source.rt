@@ -102,8 +102,8 @@ impl<S: Source + Drop> TagSource for LineSource<S> {
     ghost faults = { λ source. S.faults source.input };
 
     /// The item of the next line. Where the input exposes what is left, an item of a line that is
-    /// whole comes once, whatever the pieces of the input. After `Failed` and `Memory` all items are
-    /// left that were left before. After `Bad`, `last_fault` gives the reason of this line.
+    /// whole comes once, whatever the pieces of the input. After `Failed` and `Memory` all items
+    /// are left that were left before. After `Bad`, `last_fault` gives the reason of this line.
     fn next(&mut self) -> Told
         ensures reported { Reported (WillReport S.left) self.old result self.new }
         ensures cause { HasCause (S.faults self.old.input) (S.faults self.new.input) (is_failed result) }

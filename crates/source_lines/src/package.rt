@@ -20,9 +20,9 @@ use wire_base::Memory;
 #[derive(Debug, Drop)]
 pub(crate) struct Package {
     /// The software identifier.
-    pub ident: Ident,
+    pub(crate) ident: Ident,
     /// The canonical octets.
-    pub body: Body,
+    pub(crate) body: Body,
 }
 
 /// The package whose tag the octets are, all of them.

@@ -33,8 +33,8 @@ module _ {S : Type 0} (reports : S → List Told → Type 0) where
   Reported before told.Memory after = Unit {0}
   Reported before item after = Gave before item after
 
-  -- What is said of a source of lines beside this: after a failed call, and out of memory, all items
-  -- are left that were left before.
+  -- What is said of a source of lines beside this: after a failed call, and out of memory, all
+  -- items are left that were left before.
   abbrev pub LeavesAll : S → Told → S → Type 0
   LeavesAll before told.Failed after = (items : List Told) → reports before items → reports after items
   LeavesAll before told.Memory after = (items : List Told) → reports before items → reports after items

@@ -58,8 +58,8 @@ abbrev pub stopped_failed : ℕ → Result Unit Stopped → Bool
 stopped_failed number (Ok done) = false
 stopped_failed number (Err stopped) = is_failure number stopped.stop.error
 
--- The two halves of a fault's cause, of each source: its count rose where it is the one that failed,
--- and is as it was where it is not.
+-- The two halves of a fault's cause, of each source: its count rose where it is the one that
+-- failed, and is as it was where it is not.
 abbrev pub HaveCauses : {B : Type 0} → (B → ℕ) → List (Seat B) → List (Seat B) → (ℕ → Bool) → Type 0
 HaveCauses {B} faults before after failed = (length after ≡ length before)
     × ((number : ℕ) (seat : Seat B) → number < length before → HasCauseAt faults (get_or before number seat).source (get_or after number seat).source (failed number))
@@ -117,8 +117,8 @@ module _ {B D : Type 0} (reports : B → List Told → Type 0) (stands : D → C
       ((middle : Row B D) × DoesKept kept before middle (Ok tt) × AsksAll 0 middle.seats middle.desk middle.swept after.seats after.desk after.swept result)
       ⊎ ((stopped : Stopped) × (result ≡ Err stopped) × DoesKept kept before after result)
 
-  -- At Ok each item was done and none is kept; at a refusal each item before its cause was done, and
-  -- the refused one is kept where it is to be done first next time.
+  -- At Ok each item was done and none is kept; at a refusal each item before its cause was done,
+  -- and the refused one is kept where it is to be done first next time.
   abbrev pub Sweeps : SetView B → SetView B → D → D → Swept → Result Unit SweepError → Type 0
   Sweeps before after desk left swept (Ok done) = SweepsSeats before.kept (row before.seats desk nothing) (row after.seats left swept) (Ok tt) × (after.kept ≡ None)
   Sweeps before after desk left swept (Err why) = (stopped : Stopped) × SweepsSeats before.kept (row before.seats desk nothing) (row after.seats left swept) (Err stopped)

@@ -21,18 +21,18 @@ const MOST_ITEMS: u32 = 1024;
 #[derive(Drop)]
 pub(crate) struct Seat<S: Drop> {
     /// The source.
-    pub source: Option<S>,
+    pub(crate) source: Option<S>,
     /// The keys that it holds.
-    pub keys: Keys,
+    pub(crate) keys: Keys,
 }
 
 /// Why a source was asked no further, and its item where that is to be done first next time.
 #[derive(Debug, Drop)]
 pub(crate) struct Stop {
     /// The error.
-    pub error: SweepError,
+    pub(crate) error: SweepError,
     /// The item.
-    pub item: Option<Told>,
+    pub(crate) item: Option<Told>,
 }
 
 /// Asks a source until it is quiet, has ended or has reported 1024 items.

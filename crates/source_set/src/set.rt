@@ -21,9 +21,9 @@ pub type SourceSet = Sources<Box<dyn TagSource + Send>>;
 #[derive(Debug, Drop)]
 pub(crate) struct Kept {
     /// The number of the source.
-    pub source: u8,
+    pub(crate) source: u8,
     /// The item.
-    pub item: Told,
+    pub(crate) item: Told,
 }
 
 /// The number of the source that a sweep stopped at, and why it stopped.

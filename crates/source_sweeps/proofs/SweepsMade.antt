@@ -72,8 +72,8 @@ calm_still before now next stopped none same cause = (subst (λ (s : Option Swee
 -- ---- sweeps in a row
 
 module _ {B D : Type 0} (reports : B → List Told → Type 0) (faults : B → ℕ) (stands : D → Chronicle → Type 0) (went : D → List Mark → D → Type 0) where
-  -- That many sweeps were made, and none stopped the sweeping: whatever follows, they and it are sweeps
-  -- in a row.
+  -- That many sweeps were made, and none stopped the sweeping: whatever follows, they and it are
+  -- sweeps in a row.
   abbrev pub Made : ℕ → SweepState B D → Swept → SweepState B D → Swept → Type 0
   Made count start done now total = (more : ℕ) (after : SweepState B D) (all : Swept) (stopped : Option SweepStop) → SweepsOn reports faults stands went more now total after all stopped
       → SweepsOn reports faults stands went (count + more) start done after all stopped

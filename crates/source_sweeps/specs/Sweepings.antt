@@ -1,5 +1,5 @@
--- Sweeps over the sources of an inventory, one after another, each with the stamp of a moment that a
--- clock gives.
+-- Sweeps over the sources of an inventory, one after another, each with the stamp of a moment that
+-- a clock gives.
 use Rattle.std.specs.Prelude.{◌≡◌, ◌<◌, ◌+◌, ◌-◌, ◌^◌, ◌⊎◌, ℕ, zero, suc, Bool, false, List, Option, Some, None, Result, Ok, Err, IfSome, min}
 use Rattle.std.specs.Option.{option_map}
 use Rattle.wire_base.specs.Clocks.{Moments, later_moments, this_moment}
@@ -14,7 +14,8 @@ use Rattle.source_set.specs.Sweeping.{HaveCauses, SetView, Sweeps, WorksInAll, i
 use Rattle.source_sweeps.specs.declared.sweeps.SweepStop.{SweepStop}
 use Rattle.source_sweeps.specs.declared.sweeps.SweepStop.TheVariants as stop
 
--- Sources, the desk that they change, and the moments that a clock will give, where it exposes them.
+-- Sources, the desk that they change, and the moments that a clock will give, where it exposes
+-- them.
 pub record SweepState (B D : Type 0) : Type 0 where
   pub sources : SetView B
   pub desk : D
@@ -53,8 +54,8 @@ added one other = record {
 
 -- Of any sources, which report items, and any desk.
 module _ {B D : Type 0} (reports : B → List Told → Type 0) (faults : B → ℕ) (stands : D → Chronicle → Type 0) (went : D → List Mark → D → Type 0) where
-  -- A sweep with the stamp of a moment came to this. All that it did was done one after another, and
-  -- counted.
+  -- A sweep with the stamp of a moment came to this. All that it did was done one after another,
+  -- and counted.
   pub record SweepsAs (secs : ℕ) (before after : SweepState B D) (swept : Swept) (done : Result Unit SweepError) : Type 0 where
     pub stamp : List ℕ
     pub is : IsStampAt secs (Ok stamp)

@@ -1,5 +1,5 @@
-//! Lines of an input that comes in pieces, and calls that fail. Rows of `conformance` have what each
-//! line says.
+//! Lines of an input that comes in pieces, and calls that fail. Rows of `conformance` have what
+//! each line says.
 
 use crate::values::lines;
 use source_lines::{LineFault, LineSource};

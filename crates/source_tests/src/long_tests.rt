@@ -55,8 +55,8 @@ const AFTER_ID: &[u8] = b"01616202a2181f61631821010c00\n";
 const AFTER_NAME: &[u8] = b"02a2181f61631821010c00\n";
 
 /// Lines of tags in two parts, with that many letters `a` between them, and whether they are items.
-/// The identifier of the first is `invalid.unavailable__` and these letters. The canonical octets of
-/// the last two are those of the line and five before them.
+/// The identifier of the first is `invalid.unavailable__` and these letters. The canonical octets
+/// of the last two are those of the line and five before them.
 const LONG_TAGS: &[(bool, &[u8], usize, &[u8])] = &[
     (true, b"add 1 \\e a40079ffea", 65_514, AFTER_ID),
     (false, b"add 1 \\e a40079ffeb", 65_515, AFTER_ID),

@@ -8,7 +8,7 @@
 //! |---|---|
 //! | `outside.rt` | the doors and sources that a command line names |
 //! | `reporting_net.rt` | the network, which says where it listens and what it refuses |
-//! | `reporting_listener.rt`, `reporting_stream.rt` | listeners and connections, which say what failed |
+//! | `reporting_listener.rt`, `reporting_stream.rt` | listeners and links, which say what failed |
 //! | `reporting_lines.rt` | the lines of files, which say what is no item |
 //! | `reporting_gate.rt` | sessions and sweeps, which say why they ended |
 #![tactic(auto)]

@@ -23,7 +23,8 @@ fn write_seconds() -> NonZeroU32 {
     NonZeroU32::new(IDLE_TURNS).unwrap()
 }
 
-/// Says on standard error that a text is no address, where it is none: the network is not asked then.
+/// Says on standard error that a text is no address, where it is none: the network is not asked
+/// then.
 pub(crate) fn say_no_address<R: Net + Eprint>(rt: &R, address: &str) {
     if let Err(error) = address.to_socket_addrs(rt) {
         if error.kind() == ErrorKind::InvalidInput {

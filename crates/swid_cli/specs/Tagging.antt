@@ -38,7 +38,8 @@ path_text (step ∷ steps) = signed_decimal step ++ flat_map step_behind steps
 abbrev pub form_line : FormFault → List ℕ
 form_line fault = line (codes "form" ∷ decimal fault.kind ∷ path_text fault.path ∷ [])
 
--- The answer to octets that begin with no tag: why none was read. There is none where memory ran out.
+-- The answer to octets that begin with no tag: why none was read. There is none where memory ran
+-- out.
 abbrev pub AnswersRefused : TagRefused → Answer → Type 0
 AnswersRefused (why.Cbor fault) made = made ≡ refusal_answer (fault_line fault.kind fault.at)
 AnswersRefused (why.Form fault) made = made ≡ refusal_answer (form_line fault)

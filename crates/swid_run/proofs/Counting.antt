@@ -121,7 +121,8 @@ module _ {D : Type 0} (count : D → ℕ) where
 
 -- ---- a command
 
--- What came of the pool shows a fault exactly where a worker has one, or the sweeping stopped at one.
+-- What came of the pool shows a fault exactly where a worker has one, or the sweeping stopped at
+-- one.
 pub pool_calm : (works : List Work) (ends : List (List Noted)) (failed : List Bool) (why : Option SweepStop) (ending : Ending) → ends ≡ ends_of works → failed ≡ failed_of works
     → collect_ending ends failed why ≡ Ok ending → (one_has_fault works ≡ false) × (stopped_failed why ≡ false)
 pool_calm works ends failed why ending same also is =

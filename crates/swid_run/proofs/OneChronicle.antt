@@ -68,7 +68,8 @@ over_later taken given chronicle c (visit ∷ later) low high top more over = (o
 
 -- Of any doors, of which `state` is what they expose.
 module _ {D L : Type 0} (taken : L → Option (List Turn)) (given : L → Option (List ℕ)) (faults : L → ℕ) (state : D → DoorState L) (c : CollectOptions) where
-  -- A worker served over what `first` has seen. What it saw then is a prefix of what `done` has seen.
+  -- A worker served over what `first` has seen. What it saw then is a prefix of what `done` has
+  -- seen.
   module _ (first done : PassView) (stood : Stands first.start (beginning c)) (lawful : LegalWith first.start (entries first.seen)) where
     -- The pass that it was given stood for the chronicle.
     reader_stands : PassStands (split_from first false) (chronicle_of c first)

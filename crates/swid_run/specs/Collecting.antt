@@ -35,8 +35,8 @@ use Rattle.swid_run.specs.Limits.{idle_turns, most_octets}
 abbrev pub start_of : CollectOptions → Start
 start_of options = record { epoch = options.epoch; cap = options.cap; contents = [] }
 
--- The first pass of a shelf with the inventory of that start. It is the only one that may change, and
--- has seen no entry.
+-- The first pass of a shelf with the inventory of that start. It is the only one that may change,
+-- and has seen no entry.
 abbrev pub opening : CollectOptions → TableId → PassView
 opening options shelf = record { shelf = shelf; start = book_of (start_of options); seen = []; may_change = true; sole = true }
 

@@ -20,8 +20,8 @@ use std::thread::Threads;
 use validator_core::Mirror;
 use wire_base::{Door, Memory, Sink, Stopped};
 
-/// Follows the collector at each door with a mirror of its own, and prints what came of it. Meanwhile
-/// `gate` is told of sessions.
+/// Follows the collector at each door with a mirror of its own, and prints what came of it.
+/// Meanwhile `gate` is told of sessions.
 pub(crate) fn follow<K: Sink, D: Door + Send, G: Gate + Sync, R: Threads + Sync>(
     alloc: Global,
     rt: &R,

@@ -1,8 +1,8 @@
 //! All commands of the program, over any objects of the outside: those that wait for nobody, and
 //! `collect` and `follow`, which hold sessions in threads.
 //!
-//! It stands on `swid_cli` for the commands that wait for nobody, on `command_options` for the words
-//! after `collect` and `follow`, on `session_pool` for their sessions, on `book_lock` and
+//! It stands on `swid_cli` for the commands that wait for nobody, on `command_options` for the
+//! words after `collect` and `follow`, on `session_pool` for their sessions, on `book_lock` and
 //! `collector_core` for the inventory, on `source_set` for its sources, on `validator_core` for
 //! mirrors, on `pool_text` and `command_text` for what is printed, and on `wire_base`. The program
 //! rests on these clauses of `run`:

@@ -9,8 +9,8 @@ use std::alloc::Global;
 use swid_cli::is_command_line;
 use wire_base::Memory;
 
-/// What is to be made before these words are run, which is what `run` is lent for them. Every answer
-/// but `Memory` comes exactly where the words say so.
+/// What is to be made before these words are run, which is what `run` is lent for them. Every
+/// answer but `Memory` comes exactly where the words say so.
 pub fn plan(alloc: Global, words: &[&str]) -> Plan
     ensures plan { Plans (map (λ word. word.now) words.now) result }
     ensures lent { Lends (map (λ word. word.now) words.now) result }

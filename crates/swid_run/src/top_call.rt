@@ -31,9 +31,13 @@ use wire_base::{Clock, Door, Files, Memory, Sink, Source};
 /// |---|---|
 /// | 2 | exactly where the words are no command line, unless memory ran out while they were read |
 /// | 4 | memory ran out, for the command, for a session or for a sweep |
-/// | 3 | exactly where a count of faults rose, of the input, the output, the files, a door or the sources |
-/// | 1 | exactly where one of these holds: the input was refused or has a finding; a session ended by `Refused`, `PeerError` or `Torn`; a bad line, an unknown key, the book or the clock stopped the sweeping |
+/// | 3 | exactly where a count of faults rose: of input, output, files, a door or the sources |
+/// | 1 | exactly where something was refused or found, as below |
 /// | 0 | else, and then a command that reads the input read it to its end |
+///
+/// Status 1 comes where the input was refused or has a finding; where a session ended by `Refused`,
+/// `PeerError` or `Torn`; or where a bad line, an unknown key, the book or the clock stopped the
+/// sweeping.
 ///
 /// For `collect` it is lent as many doors as there are workers, and a source for each file; for
 /// `follow` a door for each address; for other words neither. No other words than these two wait.

@@ -16,9 +16,9 @@ pub fn judged_again_changes_nothing()
     ensures law { JudgedAgainChangesNothing }
 {}
 
-/// The answers `Gap`, `OtherEpoch`, `Contradiction`, `Doubled` and `Large` set the mark, and `Adopted`
-/// clears it; every other leaves it as it was. So after one of the five the mirror wants an inventory
-/// until it adopts one.
+/// The answers `Gap`, `OtherEpoch`, `Contradiction`, `Doubled` and `Large` set the mark, and
+/// `Adopted` clears it; every other leaves it as it was. So after one of the five the mirror wants
+/// an inventory until it adopts one.
 pub fn mark_stays_until_adopted()
     ensures law { MarkStaysUntilAdopted }
 {}

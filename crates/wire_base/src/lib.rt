@@ -22,7 +22,7 @@
 //! | `source.rt`, `sink.rt` | where octets come from, and where they go |
 //! | `link.rt`, `door.rt` | a connection between two ends, and where connections come from |
 //! | `files.rt`, `clock.rt` | files by their names, and the time of day |
-//! | `fill.rt`, `write_all.rt` | octets from a source and into a sink, in as many calls as it takes |
+//! | `fill.rt`, `write_all.rt` | octets from a source and into a sink, in as many calls as needed |
 //! | `stopped.rt` | why such calls stopped |
 //! | `mem_*.rt`, `failing_calls.rt` | the memory forms, and the plan of their failing calls |
 //! | `no_fault_*.rt` | forms that never fail |

@@ -28,13 +28,13 @@ pub trait Form {
     /// The item that the value is written as.
     ghost written: { Self.Value → Term };
 
-    /// The value that the item is made into; `Form` with the first form fault exactly where it is in
-    /// no such form; `Memory` where there is no room.
+    /// The value that the item is made into; `Form` with the first form fault exactly where it is
+    /// in no such form; `Memory` where there is no room.
     fn read(alloc: Global, item: Item) -> Result<Self::Value, FormRefused>
         ensures told { Gives (λ v. is v (view item)) (field_fault (one form) (view item)) result };
 
-    /// Puts the canonical spelling of the item that the value is written as; `Memory` where there is
-    /// no room.
+    /// Puts the canonical spelling of the item that the value is written as; `Memory` where there
+    /// is no room.
     fn spell(out: &mut Octets, value: &Self::Value) -> Result<(), Memory>
         ensures appended { OnOk result (out.new ≡ out.old ++ canon (written value.now)) };
 }

@@ -21,9 +21,9 @@ pub(crate) const MOST_TAGS: usize = 10_000;
 #[derive(Debug, Drop)]
 pub(crate) struct TagList {
     /// The tags.
-    pub tags: List<Tag>,
+    pub(crate) tags: List<Tag>,
     /// What stands after the last.
-    pub behind: Behind,
+    pub(crate) behind: Behind,
 }
 
 /// What stands after the last tag of a list.

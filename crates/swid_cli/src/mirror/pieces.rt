@@ -10,8 +10,8 @@ use std::alloc::Global;
 use validator_core::Mirror;
 use wire_base::{Octets, Sink, Stopped, write_all};
 
-/// How many records' lines are held at once. Making them takes longer than a call of the output, and
-/// they are few beside those that a mirror may hold.
+/// How many records' lines are held at once. Making them takes longer than a call of the output,
+/// and they are few beside those that a mirror may hold.
 const PIECE_RECORDS: u32 = 512;
 
 /// Writes what a mirror holds: its first line, and then the lines of its records. No more of the

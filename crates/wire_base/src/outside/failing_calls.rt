@@ -18,7 +18,7 @@ pub(crate) struct FailingCalls {
 
 impl FailingCalls {
     /// No call was made yet, and none will fail. It takes no memory.
-    pub fn none(alloc: Global) -> Self
+    pub(crate) fn none(alloc: Global) -> Self
         ensures made { result.made ≡ 0 }
         ensures failing { result.failing ≡ [] }
         ensures faults { result.faults ≡ 0 }
@@ -31,7 +31,7 @@ impl FailingCalls {
     }
 
     /// No call was made yet, and those whose numbers are in `failing` will fail.
-    pub fn new(alloc: Global, failing: &[u64]) -> Result<Self, Memory>
+    pub(crate) fn new(alloc: Global, failing: &[u64]) -> Result<Self, Memory>
         ensures made { IfOk result (λ calls. calls.made ≡ 0) }
         ensures failing { IfOk result (λ calls. calls.failing ≡ failing.now) }
         ensures faults { IfOk result (λ calls. calls.faults ≡ 0) }
@@ -45,14 +45,14 @@ impl FailingCalls {
     }
 
     /// How many calls failed.
-    pub fn faults(&self) -> u64
+    pub(crate) fn faults(&self) -> u64
         ensures faults { result ≡ self.now.faults }
     {
         self.faults
     }
 
     /// Adds `count` faults of objects that this one hands out and takes back.
-    pub fn add_faults(&mut self, count: u64)
+    pub(crate) fn add_faults(&mut self, count: u64)
         ensures made { self.new.made ≡ self.old.made }
         ensures failing { self.new.failing ≡ self.old.failing }
         ensures faults { self.new.faults ≡ min (self.old.faults + count) (2 ^ 64 - 1) }
@@ -63,7 +63,7 @@ impl FailingCalls {
 
     /// Counts a call that begins now and says whether it fails: where the object is full, or the
     /// call is one of those that fail. Then it counts the fault.
-    pub fn begin_call(&mut self, is_full: bool) -> bool
+    pub(crate) fn begin_call(&mut self, is_full: bool) -> bool
         ensures answer { result ≡ (is_full || next_fails self.old.made self.old.failing) }
         ensures made { self.new.made ≡ next self.old.made }
         ensures failing { self.new.failing ≡ self.old.failing }

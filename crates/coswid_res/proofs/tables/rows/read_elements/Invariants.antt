@@ -1,5 +1,5 @@
--- With values of the items that are left there are values of all, and the first fault of all is that
--- of those that are left.
+-- With values of the items that are left there are values of all, and the first fault of all is
+-- that of those that are left.
 use Rattle.std.proofs.Common.{◌≡◌, ◌+◌, ◌<◌, ◌^◌, length, map}
 use Rattle.std.specs.Vec.Iter.{into_iter_items, into_iter_len}
 use Rattle.cbor_det.specs.View.{view, terms_of}
