@@ -85,9 +85,9 @@ impl PaError {
         })
     }
 
-    /// An error about the request with an ID, of a code from `SWIMA_ERROR` on
-    /// (`SWIMA_SUBSCRIPTION_DENIED_ERROR` and so on); `max` is the most octets of an answer, which
-    /// `SWIMA_RESPONSE_TOO_LARGE_ERROR` alone has (RFC 8412, section 5.15).
+    /// An error about the request with an ID, of a code from `PaErrorCode::SwimaError` on. `max` is
+    /// the most octets of an answer; `PaErrorCode::SwimaResponseTooLargeError` alone has it (RFC
+    /// 8412, section 5.15).
     #[tactic(auto, unfolding(wire_base::specs::Written::written))]
     pub fn swima(alloc: Global, code: u32, id: u32, max: Option<u32>) -> Result<Self, Memory>
         ensures error { IfOk result (λ error. error ≡ swima_error code id max) }

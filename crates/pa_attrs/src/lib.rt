@@ -56,9 +56,7 @@ pub use fault::{AttrFault, PaFault};
 pub use feed::{AttrFed, AttrFeed};
 pub use header::{Header, read_header};
 pub use numbers::{
-    ERROR, HEADER_OCTETS, IETF, INVALID_PARAMETER, SWIMA_ERROR, SWIMA_RESPONSE_TOO_LARGE_ERROR,
-    SWIMA_SUBSCRIPTION_DENIED_ERROR, SWIMA_SUBSCRIPTION_FULFILLMENT_ERROR,
-    SWIMA_SUBSCRIPTION_ID_REUSE_ERROR, UNSUPPORTED_ATTRIBUTE, VERSION_NOT_SUPPORTED,
+    ERROR, HEADER_OCTETS, IETF, INVALID_PARAMETER, UNSUPPORTED_ATTRIBUTE, VERSION_NOT_SUPPORTED,
 };
 pub use read::{PaRead, is_value_fault_answered, read_message, value_fault};
 pub use write::write_message;

@@ -1,5 +1,4 @@
-//! The numbers of RFC 5792 with the error codes that RFC 8412 adds, and the limits that this
-//! project sets.
+//! The numbers of RFC 5792, and the limits that this project sets.
 
 /// The version of PA-TNC messages (section 3.6).
 pub(crate) const VERSION: u8 = 1;
@@ -35,25 +34,6 @@ pub const VERSION_NOT_SUPPORTED: u32 = 2;
 /// The error code of an attribute that is not supported and may not be passed over: Attribute Type
 /// Not Supported (section 4.2.8.3).
 pub const UNSUPPORTED_ATTRIBUTE: u32 = 3;
-
-/// The error code of a fault that no other code reports: SWIMA Error (RFC 8412, section 5.15).
-pub const SWIMA_ERROR: u32 = 4;
-
-/// The error code of a subscription that is not taken: SWIMA Subscription Denied Error (RFC 8412,
-/// section 5.15).
-pub const SWIMA_SUBSCRIPTION_DENIED_ERROR: u32 = 5;
-
-/// The error code of an answer that would be too large: SWIMA Response Too Large Error (RFC 8412,
-/// section 5.15).
-pub const SWIMA_RESPONSE_TOO_LARGE_ERROR: u32 = 6;
-
-/// The error code of a subscription that could not be fulfilled: SWIMA Subscription Fulfillment
-/// Error (RFC 8412, section 5.15).
-pub const SWIMA_SUBSCRIPTION_FULFILLMENT_ERROR: u32 = 7;
-
-/// The error code of a request that takes the ID of another subscription: SWIMA Subscription ID
-/// Reuse Error (RFC 8412, section 5.15).
-pub const SWIMA_SUBSCRIPTION_ID_REUSE_ERROR: u32 = 8;
 
 /// The most octets of an attribute of a stream.
 pub(crate) const MOST_ATTRIBUTE_OCTETS: u32 = 16_777_216;

@@ -19,7 +19,7 @@ use wire_base::Stopped;
 /// |---|---|
 /// | `Memory` | a session or the sweeping ended since memory ran out |
 /// | `Fault` | a call of a link, a door or a source failed |
-/// | `Findings` | an end refused a session, a link ended within a batch, or sweeping stopped otherwise |
+/// | `Findings` | an end refused, a link ended within a batch, or sweeping stopped otherwise |
 /// | `Whole` | else |
 pub fn collect_ending(
     ends: &[Ends],
