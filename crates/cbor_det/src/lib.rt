@@ -5,7 +5,9 @@
 //! It stands on `wire_base`, and on `thiserror` for the texts of errors. Who calls whom:
 //!
 //! ```text
-//! read_item, CborFeed::feed       read, feed    octets to items
+//! CborFeed::feed                  feed          items from octets that come in pieces
+//! └─ read_on                      piece         one piece, within the limit of octets
+//! read_item, read_on              read, piece   octets to items
 //! └─ run_piece                    step          as many octets as there are
 //!    ├─ read_initial_byte         begin         what an initial byte begins or ends
 //!    │  └─ head_of, initial_of    initial       what an initial byte says (section 3)
@@ -20,6 +22,30 @@
 //! The crates above rest on `found` and `refused` of `read_item`, on `canonical` of `write_item`,
 //! on `appended` of the functions that put parts, on the clauses of the methods of `Pairs` except
 //! `add`, on `equal` of copies, and on `laws`. Their proofs also cite lemmas of `proofs/`.
+//!
+//! | file | what it holds |
+//! |---|---|
+//! | `item.rt` | items as values, and their copies |
+//! | `limits.rt` | what a reader takes at most |
+//! | `fault.rt` | the kinds of faults, a fault with its place, and why a reader refuses |
+//! | `read.rt` | `read_item`: the item at the start of octets |
+//! | `feed.rt` | `CborFeed`: items from octets that come in pieces |
+//! | `piece.rt` | `read_on`: what comes of one piece, for a feed |
+//! | `step.rt` | `run_piece`: the octets of a piece, until an item or a fault ends it |
+//! | `begin.rt` | what begins or ends at an initial byte |
+//! | `initial.rt` | what an initial byte says |
+//! | `head.rt` | what a head with its argument begins |
+//! | `string.rt` | definite strings that ended, as items or as chunks |
+//! | `string_kind.rt` | the two kinds of strings |
+//! | `frame.rt` | what is open round the place of a reader, and what it reads there |
+//! | `nesting.rt` | how an item that ended is taken into what is open round it |
+//! | `members.rt` | the pairs of a map that is still read |
+//! | `pairs.rt` | the pairs of a map, as a caller sees them |
+//! | `key_order.rt` | the order of keys that are integers |
+//! | `write.rt` | the canonical spellings of items and of their parts |
+//! | `parts.rt` | the pairs of a map, put in turns with others |
+//! | `canonical.rt` | the largest limits, and whether octets are a canonical spelling |
+//! | `laws.rt` | what the definitions mean, proved |
 //!
 //! The words of the clauses are in `specs/`:
 //!
