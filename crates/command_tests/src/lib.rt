@@ -1,5 +1,19 @@
 //! Tests of the commands of `swid_cli`: calls that fail, and large inputs. Worked rows of the
 //! commands are tried by the program `conformance`.
+//!
+//! It stands on `swid_cli`. For inputs, outputs and files in memory it stands on `wire_base`, and
+//! for digits on `hex`.
+//!
+//! | file | what it tests |
+//! |---|---|
+//! | `usage_tests.rt` | words that are no command line |
+//! | `tag_tests.rt` | `tag`: calls that fail, and large inputs |
+//! | `verify_tests.rt` | `tag verify`: reads that fail or would fail, and a file that is too long |
+//! | `links_tests.rt` | `links`: calls that fail, and inputs of more octets than it looks at |
+//! | `mirror_tests.rt` | `mirror`: calls that fail, and large inputs |
+//!
+//! `run.rt` runs a command over an input, an output and files in memory. `long_input.rt` has an
+//! input of many octets, of which only few are held.
 #![tactic(auto)]
 
 #[cfg(test)]
