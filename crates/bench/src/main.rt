@@ -1,30 +1,49 @@
-//! Does once what the scripts of `bench/` measure, and prints how much was done. The first word
-//! names the subject, and the file here that has it:
+//! Does once what the scripts of `bench/` measure, and prints how much was done. The words of the
+//! command line say what:
 //!
-//! - `book RECORDS WORK TIMES`: a book of that many records, at least 1; `Work` has the works;
-//! - `batches SIZE large`, `batches SIZE small`: a feed of one batch of 16 MiB, or of batches of 8
-//!   octets, in pieces of that many octets;
-//! - `shelf alone TASK TIMES`, `shelf THREADS TASK TIMES`: a book alone, or on a shelf in 1, 2 or 4
-//!   threads; the tasks are `change`, `read` and `both`, and on a shelf `events`;
-//! - `sessions first RECORDS SIZE`: the first session over a book, in pieces of that many octets;
-//! - `sessions alone RECORDS`: the same report, without a session;
-//! - `sessions octets RECORDS`: the same report, written and read again, without a session;
-//! - `sessions update RECORDS EVENTS TIMES`: that many sessions more, each after that many events;
-//! - `sessions looks RECORDS TIMES`: that many idle turns of a collector with 16 subscriptions;
-//! - `sources ITEMS CHANGES QUIET`: sweeps over a source of that many items, then of that many
-//!   changes, and then that many quiet ones;
-//! - `lines items COUNT`, `lines digits COUNT`: that many lines on standard input, as a source reads
-//!   them, or as the digits of a tag each;
-//! - `cbor read`, `cbor write`, `cbor feed SIZE`: the items on standard input, one after another;
-//! - `links read`, `links check`: the tags on standard input as a list, and the findings on it;
-//! - `tags read`, `tags write`, `tags both`: the tags on standard input, one after another.
+//! | words | file | what is done, or on what |
+//! |---|---|---|
+//! | `book RECORDS WORK TIMES` | `book.rt` | a book of at least 1 record; `Work` has the works |
+//! | `batches SIZE large` | `batches.rt` | a feed of one batch of 16 MiB |
+//! | `batches SIZE small` | `batches.rt` | a feed of batches of 8 octets |
+//! | `shelf alone TASK TIMES` | `shelf.rt` | a book alone |
+//! | `shelf THREADS TASK TIMES` | `shelf.rt` | a book on a shelf, in 1, 2 or 4 threads |
+//! | `sessions first RECORDS SIZE` | `sessions.rt` | the first session over a book |
+//! | `sessions alone RECORDS` | `sessions.rt` | the same report, without a session |
+//! | `sessions octets RECORDS` | `sessions.rt` | the same, written and read again |
+//! | `sessions update RECORDS EVENTS TIMES` | `sessions.rt` | that many sessions more |
+//! | `sessions looks RECORDS TIMES` | `looks.rt` | idle turns of a collector of 16 subscriptions |
+//! | `sources ITEMS CHANGES QUIET` | `sources.rt` | sweeps over a source |
+//! | `lines items COUNT` | `lines.rt` | lines of standard input, as a source reads them |
+//! | `lines digits COUNT` | `lines.rt` | the same lines, as the digits of a tag each |
+//! | `cbor read`, `cbor write`, `cbor feed SIZE` | `cbor.rt` | items of standard input |
+//! | `links read`, `links check` | `links.rt` | tags of standard input as a list; its findings |
+//! | `tags read`, `tags write`, `tags both` | `tags.rt` | tags of standard input |
+//!
+//! - RECORDS is how many records the book has, COUNT how many lines are read, and TIMES how often
+//!   the work is done.
+//! - SIZE is how many octets each piece has of what is fed or carried.
+//! - TASK is `change`, `read` or `both`, and on a shelf also `events`.
+//! - A session of `sessions update` comes after EVENTS events.
+//! - ITEMS is how many items a source has at first, CHANGES how many changes come after them, and
+//!   QUIET how many quiet sweeps come last.
+//! - Items and tags on standard input stand one after another.
+//!
+//! The other files:
+//!
+//! | file | what it holds |
+//! |---|---|
+//! | `main.rt` | what the words ask for |
+//! | `figures.rt` | what is printed: one figure or two |
+//! | `reading.rt` | the octets of standard input |
+//! | `trouble.rt` | why nothing is measured |
 //!
 //! Where nothing is printed, standard error has the reason.
 //!
-//! It stands on `collector_session`, `validator_session` and `session_rules`, on `source_lines`,
-//! `source_set`, `book_lock`, `collector_core`, `validator_core`, `swima_request` and `swima_model`,
-//! on `pb_batch`, on `coswid_links`, `coswid_codec`, `coswid_tag` and `cbor_det`, on `wire_base`, and
-//! on `hex` and `memchr`.
+//! It stands on `collector_session`, `validator_session` and `session_rules`, on `source_lines` and
+//! `source_set`, on `book_lock`, `collector_core` and `validator_core`, and on `swima_reports`,
+//! `swima_request` and `swima_model`. For octets it stands on `pb_batch`, `coswid_links`,
+//! `coswid_codec`, `coswid_tag` and `cbor_det`. Below are `wire_base`, `hex` and `memchr`.
 #![tactic(auto)]
 
 mod batches;
