@@ -6,7 +6,16 @@
 //! in it was made by this program: they are from the RFCs, worked out by hand, or given by two
 //! other readers.
 //!
-//! The libraries `conformance_NAME` have the calls of one family each; `calls.rt` lists them all.
+//! The libraries `conformance_NAME` have the calls of one family each.
+//!
+//! | file | what it holds |
+//! |---|---|
+//! | `main.rt` | reads standard input, and prints what comes of its rows |
+//! | `row.rt` | whether the calls of rows give the answers that are wanted |
+//! | `calls.rt` | all calls by name, with the functions that answer them |
+//! | `held.rt` | a mirror, a log, a book and machines, which rows one after another speak of |
+//! | `command.rt` | the call `command`: a command line over an input and files in memory |
+//! | `text.rt` | the calls `stamp`, `is_stamp`, `escaped`, `unescaped` and `decimal` |
 #![tactic(auto)]
 
 mod calls;

@@ -10,7 +10,8 @@
 //! | `attributes.rt` | `message`, `message_written`, `value_fault` |
 //! | `errors.rt` | `reported`, `error`, `error_read`, `error_written` |
 //! | `stream.rt` | `stream`, `stream_on`, `header` |
-//! | `request.rt`, `status.rt` | `request`, `request_written`, `status`, `status_written`, `status_fits` |
+//! | `request.rt` | `request`, `request_written` |
+//! | `status.rt` | `status`, `status_written`, `status_fits` |
 //! | `report.rt` | `report`, `report_written` |
 //!
 //! `value.rt` has the words of a value and of its place.
