@@ -6,7 +6,7 @@
 //!
 //! - `told` of `Form::read`, of the methods of `Key`, of `payload_of` and of `evidence_of`: the
 //!   value that is read, or the first form fault with its path.
-//! - `appended` of `Form::spell`, and `spelled` of the methods of `Key`: what a value is written as.
+//! - `appended` of `Form::spell`, and `spelled` of the methods of `Key`: how a value is written.
 //! - `left` of the methods of `Key` that take a value out, and `there`.
 //! - `written` of `payload_item` and `evidence_item`: the item of a value.
 //! - `verdicts`, `cause` and `reads` of `verify`: a verdict on each file of a payload.
@@ -14,17 +14,23 @@
 //!
 //! | file | what it holds | its words in `specs/` |
 //! |---|---|---|
+//! | `tables.rt`, `resources.rt`, `verification.rt` | the modules of each folder, listed | |
 //! | `tables/form.rt`, `value_forms.rt` | the forms of values | `Fields`, `Words`, `Items` |
 //! | `tables/key.rt` | a number with its form; a field of a map | `Words`, `Reading`, `Spelled` |
 //! | `tables/map_form.rt` | values that are written as maps | `Columns`, `Schema`, `Reading` |
-//! | `tables/columns.rt` | the keys of one map in their order, and their reader | `Columns`, `ColumnLaws` |
+//! | `tables/columns.rt` | the keys of a map in order; their reader | `Columns`, `ColumnLaws` |
 //! | `tables/rows.rt` | one or more values: an array, or one alone | `Words`, `Items` |
 //! | `tables/missing_key.rt`, `fault.rt` | the first form fault, with its path | `Fault` |
 //! | `fault_kind.rt` | the kinds of form faults, by name | `FaultKinds` |
 //! | `resources/table.rt` | the keys of payload and evidence | `Keys`, `Schema` |
 //! | `resources/file.rt` | files | `Files`, `Sizes` |
-//! | `resources/directory*.rt` | directories, read, spelled and written | `Directories`, `DirectoryItems` |
-//! | the others of `resources/` | the other values | `Resources` |
+//! | `resources/directory.rt` | directories, and what they hold | `Directories`, `DirectoryItems` |
+//! | `resources/directory_read.rt` | how directories are read | `Directories` |
+//! | `resources/directory_spell.rt` | how directories are spelled | `DirectoryItems`, `Spelled` |
+//! | `resources/directory_write.rt` | how directories are written as items | `DirectoryItems` |
+//! | `resources/process.rt`, `resource.rt` | processes; other resources | `Resources` |
+//! | `resources/payload.rt`, `evidence.rt` | payload and evidence, with their items | `Resources` |
+//! | `resources/hash.rt` | hashes as values | |
 //! | `verification/directory_path.rt` | the paths of files | `Listing` |
 //! | `verification/verdict.rt`, `verify.rt` | the verdict on each file | `Verify` |
 //! | `laws.rt` | what the definitions mean, proved | |
