@@ -12,9 +12,9 @@
 //!    ├─ read_initial_byte         begin         what an initial byte begins or ends
 //!    │  └─ head_of, initial_of    initial       what an initial byte says (section 3)
 //!    ├─ item_from_head            head          what a head with its argument begins
-//!    └─ string_ended              string        a definite string: an item or a chunk
-//!       └─ open_frame, close_item nesting       what is open around, from the stack of `frame`
-//!          └─ Members             members       the pairs of an open map
+//!    ├─ string_ended              string        a definite string: an item or a chunk
+//!    └─ open_frame, close_item    nesting       what is open around, from the stack of `frame`
+//!       └─ Members                members       the pairs of an open map
 //! write_item, Pairs::add, put     write, pairs  items to octets; pairs in order of their keys
 //! put_text and its like           write, parts  octets of parts of items, and of pairs in turns
 //! ```

@@ -16,7 +16,7 @@ use Rattle.collector_core.specs.Places.{AreFewEmpty, AreOwn, ArePlaces, IsOwn, P
 
 -- ---- what stands at places one after another
 
-pub standing_append : (xs ys : List Place) → standing (xs ++ ys) ≡ standing xs ++ standing ys
+standing_append : (xs ys : List Place) → standing (xs ++ ys) ≡ standing xs ++ standing ys
 standing_append [] ys = refl
 standing_append (p ∷ xs) ys =
     ap (λ (l : List Record). option_to_list p.1 ++ l) (standing_append xs ys) ∙ sym (append_assoc (option_to_list p.1) (standing xs) (standing ys))

@@ -1,15 +1,14 @@
 //! The live records, in order of their identifiers.
 //!
-//! A hash map that keeps order has a place for each identifier. A record that is removed leaves its
-//! place empty, so that no other record moves. Where more than a quarter of the places is empty,
-//! the records close up. An index says which records have a software identifier.
+//! A hash map that keeps order has a place for the identifier of each record. One that is removed
+//! leaves its place empty, so that no other record moves. Where more than a quarter of the places
+//! is empty, the records close up. An index says which records have a software identifier.
 
-ghost use Rattle.std.specs.Prelude.{◌≡◌, ◌<◌, ◌≤◌, ◌+◌, ◌-◌, ◌^◌, ◌++◌, ◌∷◌, [], IfOk, IsSome, List, None, OnErr, Some, ℕ, OnOk, length, nat_eq};
+ghost use Rattle.std.specs.Prelude.{◌≡◌, ◌<◌, ◌+◌, ◌-◌, ◌^◌, ◌++◌, ◌∷◌, [], IfOk, IsSome, None, OnErr, Some, ℕ, OnOk, length, nat_eq};
 ghost use Rattle.std.specs.List.Sorted.{IsStrictlyIncreasing};
 ghost use Rattle.std.specs.Map.{set_value};
 ghost use Rattle.std.specs.Option.{option_copied};
 ghost use Rattle.indexmap.specs.IndexMap.{get, spare};
-ghost use Rattle.swima_model.specs.declared.record.Record.{Record};
 ghost use Rattle.swima_model.specs.InOrder.{ids};
 ghost use Rattle.swima_model.specs.Live.{record_of};
 ghost use Rattle.collector_core.specs.Index.{IsIndex};
@@ -23,7 +22,7 @@ use std::marker::Model;
 use swima_model::{Content, Record};
 use wire_base::{Memory, TryCopy};
 
-/// The place of each identifier, and the record there; `None` where it was removed.
+/// The places of identifiers, and the record at each; `None` where it was removed.
 type Places = IndexMap<u32, Option<Record>>;
 
 /// The live records, and the identifier of the next.
@@ -48,7 +47,7 @@ impl Model for Live {
 }
 
 impl Live {
-    /// No records, with room for that many; the next has the identifier 1.
+    /// No records; the next has the identifier 1. It takes memory for that many places at once.
     pub(crate) fn with_capacity(alloc: Global, capacity: usize) -> Result<Self, Memory>
         ensures empty { IfOk result (λ live. live ≡ record { next = 1; records = [] }) }
     {
