@@ -41,6 +41,8 @@ pub(crate) enum Work {
     Change,
     /// An alteration of the first record that gives it another software identifier.
     Rename,
+    /// A creation of one more record.
+    Create,
     /// A deletion of the first record, and a creation of another.
     First,
     /// A deletion of the record in the middle, and a creation of another.
@@ -62,6 +64,7 @@ impl Work {
             "events" => Ok(Work::Events),
             "change" => Ok(Work::Change),
             "rename" => Ok(Work::Rename),
+            "create" => Ok(Work::Create),
             "first" => Ok(Work::First),
             "middle" => Ok(Work::Middle),
             "last" => Ok(Work::Last),
@@ -88,6 +91,7 @@ fn done_on(alloc: Global, book: &mut Book, work: Work, times: u32) -> Result<u64
         Work::Events => latest_answers(alloc, book, KEPT - EVENTS + 1, times),
         Work::Change => alterations(alloc, book, times),
         Work::Rename => renames(alloc, book, times),
+        Work::Create => creations(alloc, book, times),
         Work::First => exchanges(alloc, book, 1, times),
         Work::Middle => exchanges(alloc, book, count / 2 + 1, times),
         Work::Last => exchanges(alloc, book, count, times),
@@ -197,6 +201,29 @@ fn alter_in_turns(
     Ok(done)
 }
 
+/// Creates that many records, and gives how many.
+fn creations(alloc: Global, book: &mut Book, times: u32) -> Result<u64, Trouble> {
+    let other = content(alloc, &BODY)?;
+    create_times(book, &other, times)
+}
+
+/// Creates that many records of this content, and gives how many.
+fn create_times(book: &mut Book, content: &Content, times: u32) -> Result<u64, Trouble> {
+    for _ in 0..times {
+        create(book, content)?;
+    }
+    Ok(times as u64)
+}
+
+/// Creates a record of this content.
+fn create(book: &mut Book, content: &Content) -> Result<(), Trouble> {
+    if !is_stamp(&STAMP) {
+        return Err(Trouble::Book);
+    }
+    book.create(&STAMP, content)?;
+    Ok(())
+}
+
 /// Deletes that many records, of the identifier `first` and of those above it, and gives how many.
 fn deletions(book: &mut Book, first: u32, times: u32) -> Result<u64, Trouble> {
     for before in 0..times {
@@ -238,12 +265,8 @@ fn exchange_from(
 
 /// Deletes the record of this identifier, and creates another.
 fn exchange(book: &mut Book, id: u32, content: &Content) -> Result<(), Trouble> {
-    if !is_stamp(&STAMP) {
-        return Err(Trouble::Book);
-    }
-    book.delete(&STAMP, id)?;
-    book.create(&STAMP, content)?;
-    Ok(())
+    delete(book, id)?;
+    create(book, content)
 }
 
 /// How many records or events that many answers have, of whole records and from this event on.

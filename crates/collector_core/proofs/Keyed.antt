@@ -14,9 +14,10 @@ use Rattle.swima_model.specs.declared.record.Record.{Record}
 use Rattle.swima_model.specs.InOrder.{ids}
 use Rattle.swima_model.specs.Live.{record_of}
 use Rattle.swima_model.proofs.Rises.{AllFrom}
-use Rattle.swima_model.proofs.Places.{Climbs, climbs, climbs_left, climbs_right, from_right, none_above, none_before, record_append}
+use Rattle.swima_model.proofs.Places.{Climbs, climbs, climbs_left, climbs_right, from_both, from_left, from_right, none_above, none_before, record_append}
 use Rattle.collector_core.specs.Index.{DropsKey, ExchangesKey, IsIndex, PutsKey, digest, has_key, key_of}
 use Rattle.collector_core.specs.Places.{AreOwn, ArePlaces, IsOwn, Place, Puts, Takes, standing}
+use Rattle.collector_core.proofs.Placed.{above}
 
 -- ---- either of some tests
 
@@ -151,13 +152,8 @@ index_more rs id content index new is puts other =
 
 -- ---- records at their places
 
-above_step : (n id next : ℕ) (held : Option Record) (rest : List Record) → n ≤ id → IsOwn id held → AllFrom n (ids rest ++ next ∷ []) → AllFrom n (ids (option_to_list held ++ rest) ++ next ∷ [])
-above_step n id next None rest le own h = h
-above_step n id next (Some r) rest le own h = (omega (arith, le, own), h)
-
-above : (n next : ℕ) (ps : List Place) → AllFrom n (keys_of ps ++ next ∷ []) → AreOwn ps → AllFrom n (ids (standing ps) ++ next ∷ [])
-above n next [] h own = h
-above n next (p ∷ ps) h own = above_step n p.0 next p.1 (standing ps) h.0 own.0 (above n next ps h.1 own.1)
+over : (n next : ℕ) (ps : List Place) → AllFrom n (keys_of ps ++ next ∷ []) → AreOwn ps → AllFrom n (ids (standing ps) ++ next ∷ [])
+over n next ps h own = from_both n (ids (standing ps)) (next ∷ []) (above n ps (from_left n (keys_of ps) (next ∷ []) h) own) (from_right n (keys_of ps) (next ∷ []) h)
 
 climbs_step : (id next : ℕ) (held : Option Record) (rest : List Record) → IsOwn id held → AllFrom (suc id) (ids rest ++ next ∷ []) → Climbs (ids rest ++ next ∷ [])
     → Climbs (ids (option_to_list held ++ rest) ++ next ∷ [])
@@ -167,7 +163,7 @@ climbs_step id next (Some r) rest own over h = (subst (λ (n : ℕ). AllFrom (su
 standing_climbs : (next : ℕ) (ps : List Place) → Climbs (keys_of ps ++ next ∷ []) → AreOwn ps → Climbs (ids (standing ps) ++ next ∷ [])
 standing_climbs next [] h own = h
 standing_climbs next (p ∷ ps) h own =
-    climbs_step p.0 next p.1 (standing ps) own.0 (above (suc p.0) next ps h.0 own.1) (standing_climbs next ps h.1 own.1)
+    climbs_step p.0 next p.1 (standing ps) own.0 (over (suc p.0) next ps h.0 own.1) (standing_climbs next ps h.1 own.1)
 
 module _ (next empty : ℕ) (ps : List Place) (is : ArePlaces next empty ps) where
   pub all_climb : Climbs (ids (standing ps) ++ next ∷ [])

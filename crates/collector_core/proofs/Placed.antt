@@ -1,10 +1,10 @@
 -- Places of records: what stands there, and what stands there after each change of one.
 use Rattle.std.proofs.Common.{◌≡◌, inl, inr, ℕ, suc, ◌+◌, ◌≤◌, eqb, cond, Bool, true, false, Option, Some, None, List, [], ◌∷◌, ◌++◌, length, refl, sym, ap, ◌∙◌, subst, append_assoc, arith, eq-eqb, eqb-true, ne_eqb}
-use Rattle.std.specs.Prelude.{Result, Ok, Err, IsOk, OnOk, filter, is_some, option_to_list}
+use Rattle.std.specs.Prelude.{filter, is_some, option_to_list}
 use Rattle.std.specs.List.Sorted.{IsStrictlyIncreasing}
 use Rattle.std.specs.Map.{keys_of, lookup, set_value}
 use Rattle.std.specs.Option.{unwrap_or}
-use Rattle.std.proofs.lemmas.Bool.{cases_eq, cond-true, cond-false, true≢false}
+use Rattle.std.proofs.lemmas.Bool.{cases_eq, cond-true, cond-false}
 use Rattle.std.proofs.lemmas.List.{map-append, length-append}
 use Rattle.swima_model.specs.declared.record.Content.{Content}
 use Rattle.swima_model.specs.declared.record.Record.{Record}
@@ -37,7 +37,7 @@ above_step : (n id : ℕ) (held : Option Record) (rest : List Record) → n ≤ 
 above_step n id None rest le own h = h
 above_step n id (Some r) rest le own h = (omega (arith, le, own), h)
 
-above : (n : ℕ) (ps : List Place) → AllFrom n (keys_of ps) → AreOwn ps → AllFrom n (ids (standing ps))
+pub above : (n : ℕ) (ps : List Place) → AllFrom n (keys_of ps) → AreOwn ps → AllFrom n (ids (standing ps))
 above n [] h own = tt
 above n (p ∷ ps) h own = above_step n p.0 p.1 (standing ps) h.0 own.0 (above n ps h.1 own.1)
 
@@ -270,9 +270,3 @@ here_places next empty ps is = record {
   own = here_own ps is.own;
   counted = omega (arith, here_full ps);
 }
-
--- ---- what a call that went well gave
-
-pub ok_gives : {A E : Type 0} {P : Type 0} (result : Result A E) → IsOk result → OnOk result P → P
-ok_gives (Ok a) ok given = given
-ok_gives (Err e) ok given = absurd (true≢false (sym ok))

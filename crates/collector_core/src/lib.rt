@@ -20,7 +20,7 @@
 //! | `desk.rt` | any owner of an inventory, which others may change between two calls |
 //! | `answer.rt`, `report_content.rt` | reports that answer, and what they carry |
 //! | `targets.rt`, `moved.rt` | what a request asks for; whether some of it has changed |
-//! | `live.rt` | the live records, in order of identifier |
+//! | `live.rt`, `identifier_hash.rt` | the live records, in order of identifier; how one is found |
 //! | `index.rt` | which records have a software identifier |
 //! | `records.rt` | contents, and the records that a book begins with |
 //! | `error.rt` | why a change is refused |
@@ -45,6 +45,7 @@ mod book;
 mod chronicle;
 mod desk;
 mod error;
+mod identifier_hash;
 mod index;
 pub mod laws;
 mod live;

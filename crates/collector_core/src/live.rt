@@ -14,16 +14,18 @@ ghost use Rattle.swima_model.specs.Live.{record_of};
 ghost use Rattle.collector_core.specs.Index.{IsIndex};
 ghost use Rattle.collector_core.specs.Places.{AreFewEmpty, ArePlaces, LiveView, Puts, Takes, held_at, present, standing};
 
+use crate::identifier_hash::IdentifierHasher;
 use crate::index::{drop_key, exchange_key, key_of, put_key};
 use indexmap::IndexMap;
 use std::alloc::Global;
 use std::collections::BTreeSet;
+use std::hash::BuildHasherDefault;
 use std::marker::Model;
 use swima_model::{Content, Record};
 use wire_base::{Memory, TryCopy};
 
 /// The places of identifiers, and the record at each; `None` where it was removed.
-type Places = IndexMap<u32, Option<Record>>;
+type Places = IndexMap<u32, Option<Record>, BuildHasherDefault<IdentifierHasher>>;
 
 /// The live records, and the identifier of the next.
 #[derive(Debug, Drop)]
@@ -54,7 +56,7 @@ impl Live {
         Ok(Live {
             next: 1,
             empty: 0,
-            places: IndexMap::with_capacity(alloc, capacity)?,
+            places: IndexMap::with_capacity_and_hasher(alloc, capacity, BuildHasherDefault::new())?,
             index: BTreeSet::new(alloc),
         })
     }

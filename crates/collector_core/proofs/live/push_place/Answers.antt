@@ -1,7 +1,12 @@
-use Rattle.std.proofs.Common.{◌∙◌}
+use Rattle.std.proofs.Common.{◌∙◌, sym}
+use Rattle.std.specs.Prelude.{Result, Ok, Err, IsOk, OnOk}
+use Rattle.std.proofs.lemmas.Bool.{true≢false}
 use Rattle.indexmap.proofs.CallerLemmas.{insert_entry-new}
-use Rattle.collector_core.proofs.Placed.{ok_gives}
 use Rattle.collector_core.proofs.live.push_place.Goals as goal
+
+ok_gives : {A E : Type 0} {P : Type 0} (result : Result A E) → IsOk result → OnOk result P → P
+ok_gives (Ok a) ok given = given
+ok_gives (Err e) ok given = absurd (true≢false (sym ok))
 
 pub returns : goal.returns
 returns c = record {
