@@ -7,6 +7,7 @@
 ghost use Rattle.std.specs.Prelude.{◌≡◌, ◌+◌, ◌*◌, ◌^◌, ◌%◌, ◌/◌};
 ghost use Rattle.std.specs.Int.{swap_bytes, w32};
 ghost use Rattle.std.specs.List.{fold};
+ghost use Rattle.collector_core.specs.declared.identifier_hash.TheConstants.{APART};
 
 use std::hash::Hasher;
 
@@ -31,7 +32,7 @@ impl Default for IdentifierHasher {
 impl Hasher for IdentifierHasher {
     ghost write = { λ hasher octets. record { read = fold (λ n octet. (n * 256 % 2 ^ 32 + octet) % 2 ^ 32) hasher.read octets } };
 
-    ghost finish = { λ hasher. (swap_bytes w32 hasher.read / 4 * 0x9e3779b1 % 2 ^ 32 + swap_bytes w32 hasher.read % 4 * 2 ^ 24) % 2 ^ 32 };
+    ghost finish = { λ hasher. (swap_bytes w32 hasher.read / 4 * APART % 2 ^ 32 + swap_bytes w32 hasher.read % 4 * 2 ^ 24) % 2 ^ 32 };
 
     fn finish(&self) -> u64 {
         // The lowest bits are the group of the table, and the upper octet is compared in its slots.
