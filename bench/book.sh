@@ -30,8 +30,8 @@
 # During the first tenth the allocator puts in order what making the book freed, so it is not
 # counted. Of a deletion alone all are counted.
 #
-# Two tables come after it: how much longer each work takes with 65,536 records than with 1,000, and
-# how long it takes to delete all 65,536 in order.
+# A table and a line come after it: how much longer each work takes with 65,536 records than with
+# 1,000, and how long it takes to delete all 65,536 in order.
 
 set -u
 

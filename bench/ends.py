@@ -1,11 +1,11 @@
 #!/usr/bin/env python3
 """Measures `swid collect` and `swid follow` over TCP on this machine, in one run. It is a measurement and no test: no figure makes it fail.
 
-usage: bench/ends.py [PORT]     4070 if not given
+usage: bench/ends.py [PORT]     4070 if not given; the four ports after it are used too
 
 Builds the program first where that is needed. It serves 65,536 records of about 160 octets, from 64 files of 1,024 lines.
 
-first table    a first report of whole records to several followers at once: the time from their start to their end, the octets that
+first table    a first report of identifiers to several followers at once: the time from their start to their end, the octets that
                the collector sent to all, and those over the time; beside it a plain Python socket pair that carries as many octets
 second table   what the collector sends of such a report, in the kind full, to several clients in Python at once: the longest time until
                the first octet, in which the report is made, and the longest from there to the last; beside it the longest that a plain

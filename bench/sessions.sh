@@ -32,8 +32,8 @@
 #            all runs, less that of runs without a later session, over how many there were
 #
 # The third table has idle turns of a collector with 16 subscriptions of 100 targets each, which
-# matched nothing. Since they were taken 4096 records were altered, and none of their targets: at
-# each turn the events are looked at once for each subscription.
+# matched nothing. Since they were taken the first record was altered 4096 times, which is none of
+# their targets: at each turn the events are looked at once for each subscription.
 #
 # Columns:
 #   records  the records

@@ -2,8 +2,8 @@
 
 An item is an int, bytes, a str, a list (an array), a dict (a map) or a Tagged. What is written is
 the core deterministic encoding (section 4.2.1). Every well-formed item is read, except one deeper
-than 64 and a map with one integer as two keys. Of a map the pairs with an integer as key are kept,
-and a boolean, another simple value or a float is read as None.
+than 64, a text that is not UTF-8, and a map with one integer as two keys. Of a map the pairs with
+an integer as key are kept, and a boolean, another simple value or a float is read as None.
 """
 
 UNSIGNED, NEGATIVE, OCTETS, TEXT, ARRAY, MAP, TAG = range(7)  # the major types, except the last

@@ -33,7 +33,7 @@ class Fault(Exception):
 
 
 def at(octets, place, size):
-    """The number of so many octets at a place."""
+    """The number of that many octets at a place."""
     return int.from_bytes(octets[place : place + size], "big")
 
 
@@ -83,7 +83,7 @@ def batch_in(octets, from_server):
 
 
 def message_in(octets, start, before):
-    """The message at a place of a batch with so many messages before it, and its length."""
+    """The message at a place of a batch with that many messages before it, and its length."""
     left = len(octets) - start
     if before == MOST_MESSAGES or left < 12:
         raise Fault(PB_INVALID, start)
@@ -198,7 +198,7 @@ def attributes_in(body, supported):
 
 
 def attribute_in(body, start, before, supported):
-    """The vendor, the type and the length of the attribute at a place of a message with so many before it."""
+    """The vendor, the type and the length of the attribute at a place of a message with that many before it."""
     left = len(body) - start
     if before == MOST_ATTRIBUTES or left < 12:
         raise Fault(INVALID, start)

@@ -15,7 +15,7 @@ def subscribes(identifier, **more):
 
 
 def held(count):
-    """A batch with so many subscriptions."""
+    """A batch with that many subscriptions."""
     return sdata(*(subscribes(it) for it in range(1, count + 1)))
 
 

@@ -3,7 +3,8 @@
 
 usage: hostile.py SWID [PORT]     4060 if no port is given; the four ports after it are used too
 
-There are nine kinds of clients. All but the last take the batch that the collector begins with.
+There are nine kinds of clients. All except `deaf` and `gone` take the batch that the collector
+begins with.
 
 silent     sends nothing
 slow       sends the first three octets of a request, one at a time
