@@ -7,8 +7,9 @@
 //! The crates above rest on `stands` of each call of `Book`, and on `edits` and `reads` of each
 //! call of `Desk`. Their proofs cite the lemmas of these files of `proofs/`:
 //!
-//! - `Prefixes`, `Marks` and `Owning`: places in a chronicle, and entries that came.
-//! - `Fits` and `WrittenAnswers`: answers. `Editing`: the entry of a change. `BookDesk`:
+//! - `Chronicles`, `Fronts`, `Prefixes`, `Marks` and `Owning`: places in a chronicle, and entries
+//!   that came.
+//! - `Answered` and `Telling`: answers. `Editing`: the entry of a change. `BookDesk`:
 //!   `state_same`.
 //!
 //! | file | what it holds |
@@ -34,7 +35,8 @@
 //! | `Answering`, `BookAnswer` | the answer at a chronicle, and the same by what a book holds |
 //! | `Refusals`, `Edits` | when a change is refused, and which entry it makes |
 //! | `Places`, `Index` | places of records, of which some are empty; keys of records |
-//! | `Standing`, `Desks`, `BookDesk` | which chronicles a book or a desk represents |
+//! | `Book`, `Standing` | what is true of each book; which chronicles it represents |
+//! | `Desks`, `BookDesk` | which chronicles a desk represents |
 //! | `ReportContent`, `Later` | what reports of a kind carry of an event; identifiers of events |
 //! | `OctetOrder`, `Borrowed` | octets in order; lists of borrowed values |
 //! | `Meaning`, `WrittenAnswers`, `InTurn` | the laws |

@@ -3,10 +3,11 @@
 //! how many rows there are and how many do not hold.
 //!
 //! `stdin` has the rows, grouped by the rule that they show, with the rule as a heading. No answer
-//! in it was made by this program: they are from the RFCs, worked out by hand, or given by two
-//! other readers.
+//! in it was made by this program: they are from the RFCs, worked out by hand, given by two other
+//! readers, or computed by `examples/make`.
 //!
-//! The libraries `conformance_NAME` have the calls of one family each.
+//! The libraries `conformance_NAME` have the calls of one family each. It stands on these, on
+//! `swid_cli` for command lines, and on the crates of mirrors, logs, books and machines.
 //!
 //! | file | what it holds |
 //! |---|---|

@@ -8,7 +8,7 @@ ghost use Rattle.coswid_res.specs.Fault.{unless_wrong};
 ghost use Rattle.coswid_res.specs.Reading.{Gives};
 
 use cbor_det::{Item, put_bytes, put_integer, put_text};
-use coswid_res::{Form, FormRefused, WRONG_FORM};
+use coswid_res::{Form, FormFaultKind, FormRefused};
 use coswid_tag::{CodeValue, TagId};
 use std::alloc::Global;
 use wire_base::{Memory, Octets, TryCopy};
@@ -29,7 +29,7 @@ impl Form for IdentifierForm {
         match item {
             Item::Text(text) => Ok(TagId::Text(text)),
             Item::Bytes(octets) => read_uuid(alloc, &octets),
-            _ => Err(FormRefused::new(alloc, WRONG_FORM)),
+            _ => Err(FormRefused::new(alloc, FormFaultKind::WrongForm)),
         }
     }
 
@@ -46,7 +46,7 @@ fn read_uuid(alloc: Global, octets: &Octets) -> Result<TagId, FormRefused>
 {
     match <[u8; 16]>::try_from(octets.as_slice()) {
         Ok(uuid) => Ok(TagId::Uuid(uuid)),
-        Err(_) => Err(FormRefused::new(alloc, WRONG_FORM)),
+        Err(_) => Err(FormRefused::new(alloc, FormFaultKind::WrongForm)),
     }
 }
 
@@ -66,7 +66,7 @@ impl Form for CodeForm {
         match item {
             Item::Int(number) => Ok(CodeValue::Int(number)),
             Item::Text(text) => Ok(CodeValue::Text(text)),
-            _ => Err(FormRefused::new(alloc, WRONG_FORM)),
+            _ => Err(FormRefused::new(alloc, FormFaultKind::WrongForm)),
         }
     }
 

@@ -19,7 +19,7 @@ use crate::key;
 use crate::tag::TagTable;
 use crate::write::COSWID;
 use cbor_det::{CborFault, CborRefused, Item, Limits, read_item};
-use coswid_res::{BOTH, DEEP, Form, FormFault, FormRefused, MapForm};
+use coswid_res::{Form, FormFault, FormFaultKind, FormRefused, MapForm};
 use coswid_tag::Tag;
 use std::alloc::Global;
 use thiserror::Error;
@@ -92,11 +92,11 @@ fn tag_of(alloc: Global, item: Item) -> Result<Tag, FormRefused>
     ensures told { Gives (λ g. TagForm g (view item)) (tag_fault (view item)) result }
 {
     if is_deep(&item) {
-        return Err(FormRefused::new(alloc, DEEP));
+        return Err(FormRefused::new(alloc, FormFaultKind::Deep));
     }
     let content = content(item);
     if has_both(&content) {
-        return Err(FormRefused::new(alloc, BOTH));
+        return Err(FormRefused::new(alloc, FormFaultKind::Both));
     }
     MapForm::<TagTable>::read(alloc, content)
 }

@@ -1,13 +1,10 @@
--- What is wrong between tags, by the numbers of findings.
-use Rattle.std.specs.Prelude.{ℕ, ◌==◌, Option, Some, None, if◌then◌else◌}
+-- The numbers of what is wrong between tags: the table of docs/rules/tags.md.
+use Rattle.std.specs.Prelude.{ℕ}
 use Rattle.coswid_links.specs.declared.link_finding_kind.LinkFindingKind.{LinkFindingKind}
 use Rattle.coswid_links.specs.declared.link_finding_kind.LinkFindingKind.TheVariants as kind
 
--- The kind of a number.
-abbrev pub link_finding_kind : ℕ → Option LinkFindingKind
-link_finding_kind number =
-    if number == 1 then Some kind.NoTag
-    else (if number == 2 then Some kind.NotPrimary
-    else (if number == 3 then Some kind.NotMet
-    else (if number == 4 then Some kind.Rivals
-    else None)))
+abbrev pub finding_number : LinkFindingKind → ℕ
+finding_number kind.NoTag = 1
+finding_number kind.NotPrimary = 2
+finding_number kind.NotMet = 3
+finding_number kind.Rivals = 4

@@ -1,12 +1,13 @@
 //! What is wrong between tags of a list.
 
-ghost use Rattle.std.specs.Prelude.{◌≡◌, ◌≤◌, IfOk};
+ghost use Rattle.std.specs.Prelude.{◌≡◌, ◌≢◌, ◌≤◌, IfOk, MatchOption};
 ghost use Rattle.std.specs.List.{All};
 ghost use Rattle.cbor_det.specs.Term.{depth};
 ghost use Rattle.coswid_codec.specs.Items.{tag_item};
 ghost use Rattle.coswid_codec.specs.SizesFit.{SizesFit};
 ghost use Rattle.coswid_links.specs.LinkFindings.{findings};
-ghost use Rattle.coswid_links.specs.FindingKinds.{link_finding_kind};
+ghost use Rattle.coswid_links.specs.FindingKinds.{finding_number};
+ghost use Rattle.coswid_links.specs.declared.link_finding_kind.LinkFindingKind.{LinkFindingKind as KindValue};
 
 use crate::link::put_link_findings;
 use crate::link_finding_kind::LinkFindingKind;
@@ -19,7 +20,7 @@ use wire_base::{List, Memory, TryCopy};
 /// Something that is wrong between tags of a list.
 #[derive(Clone, Copy, Debug, PartialEq, Eq)]
 pub struct LinkFinding {
-    /// Which finding, 1 to 4, as `LinkFindingKind` numbers them; `what` gives its name.
+    /// The number of its kind: 1 to 4 where `check_links` gives it. `what` names the kind.
     pub kind: u8,
     /// The number of the tag that has the link, or of the first of two tags, from 1.
     pub first: u64,
@@ -28,9 +29,10 @@ pub struct LinkFinding {
 }
 
 impl LinkFinding {
-    /// What is wrong; `None` where its number is not 1 to 4, which `check_links` never gives.
+    /// The kind of the finding; `None` exactly where no kind has the number, so never where
+    /// `check_links` gives it.
     pub fn what(&self) -> Option<LinkFindingKind>
-        ensures kind { result ≡ link_finding_kind self.now.kind }
+        ensures what { MatchOption result ((kind : KindValue) → finding_number kind ≢ self.now.kind) (λ kind. finding_number kind ≡ self.now.kind) }
     {
         LinkFindingKind::from_number(self.kind)
     }

@@ -9,6 +9,7 @@ ghost use Rattle.coswid_links.specs.Listed.{each_from};
 ghost use Rattle.coswid_links.specs.Names.{AreNamesOf, judged, listed, named_in};
 
 use crate::finding::{LinkFinding, LinkFindings};
+use crate::link_finding_kind::LinkFindingKind;
 use crate::names::Names;
 use coswid_tag::{CodeValue, LinkEntry, Rel, Tag};
 use wire_base::Memory;
@@ -78,7 +79,7 @@ fn put_finding_of(
     Ok(())
 }
 
-/// What is wrong with a link.
+/// The number of what is wrong with a link.
 fn finding_of(names: &Names, link: &LinkEntry) -> Option<u8>
     ensures finding { (gs : List declared.Tag) (i j : ℕ) → AreNamesOf gs names.now → listed result i j ≡ link_findings gs i j link.now }
 {
@@ -88,15 +89,17 @@ fn finding_of(names: &Names, link: &LinkEntry) -> Option<u8>
     }
 }
 
-/// What is wrong with a link of this rel to a name: whether a tag of the name is primary, or `None`
-/// where no tag has it.
+/// The number of what is wrong with a link of this rel to a name: whether a tag of the name is
+/// primary, or `None` where no tag has it.
 fn judge(is_primary: Option<bool>, rel: &CodeValue) -> Option<u8>
     ensures judged { result ≡ judged is_primary (requires_it rel.now) (patches rel.now || supplements rel.now) }
 {
     match is_primary {
-        None if Rel::Requires.is(rel) => Some(3),
-        None => Some(1),
-        Some(is_primary) if !is_primary && asks_for_primary(rel) => Some(2),
+        None if Rel::Requires.is(rel) => Some(LinkFindingKind::NotMet as u8),
+        None => Some(LinkFindingKind::NoTag as u8),
+        Some(is_primary) if !is_primary && asks_for_primary(rel) => {
+            Some(LinkFindingKind::NotPrimary as u8)
+        }
         Some(_) => None,
     }
 }

@@ -1,27 +1,39 @@
 //! The kinds of findings between tags, by name.
 
-ghost use Rattle.std.specs.Prelude.{◌≡◌, Some};
-ghost use Rattle.coswid_links.specs.FindingKinds.{link_finding_kind};
+ghost use Rattle.std.specs.Prelude.{◌≡◌, ◌≢◌, MatchOption};
+ghost use Rattle.coswid_links.specs.FindingKinds.{finding_number};
+ghost use Rattle.coswid_links.specs.declared.link_finding_kind.LinkFindingKind.{LinkFindingKind as KindValue};
 
-use std::fmt;
+use thiserror::Error;
 
-/// What is wrong between tags of a list (`docs/rules/tags.md`).
-#[derive(Clone, Copy, Debug, PartialEq, Eq)]
+/// What is wrong between tags of a list, with the numbers of the table of `docs/rules/tags.md`.
+#[derive(Clone, Copy, Debug, PartialEq, Eq, Error)]
 pub enum LinkFindingKind {
     /// A link leads to a tag that is not in the list.
-    NoTag,
+    #[error("leads to no tag")]
+    NoTag = 1,
     /// A link of a patch or a supplement leads to no primary tag.
-    NotPrimary,
+    #[error("leads to no primary tag")]
+    NotPrimary = 2,
     /// A requirement leads to a tag that is not in the list.
-    NotMet,
+    #[error("requires a tag that is not there")]
+    NotMet = 3,
     /// Two tags of one identity have different content.
-    Rivals,
+    #[error("one identity with different content")]
+    Rivals = 4,
 }
 
 impl LinkFindingKind {
-    /// The kind of a number; `None` where it is not 1 to 4.
+    /// The number of the kind, 1 to 4.
+    pub fn number(self) -> u8
+        ensures number { result ≡ finding_number self }
+    {
+        self as u8
+    }
+
+    /// The kind of this number; `None` exactly where no kind has it.
     pub fn from_number(number: u8) -> Option<Self>
-        ensures kind { result ≡ link_finding_kind number }
+        ensures kind { MatchOption result ((kind : KindValue) → finding_number kind ≢ number) (λ kind. finding_number kind ≡ number) }
     {
         match number {
             1 => Some(LinkFindingKind::NoTag),
@@ -30,29 +42,5 @@ impl LinkFindingKind {
             4 => Some(LinkFindingKind::Rivals),
             _ => None,
         }
-    }
-
-    /// Its number, 1 to 4.
-    pub fn number(self) -> u8
-        ensures number { link_finding_kind result ≡ Some self }
-    {
-        match self {
-            LinkFindingKind::NoTag => 1,
-            LinkFindingKind::NotPrimary => 2,
-            LinkFindingKind::NotMet => 3,
-            LinkFindingKind::Rivals => 4,
-        }
-    }
-}
-
-/// Its name.
-impl fmt::Display for LinkFindingKind {
-    fn fmt<W: fmt::Write>(&self, f: &mut fmt::Formatter<W>) -> fmt::Result {
-        f.write_str(match self {
-            LinkFindingKind::NoTag => "leads to no tag",
-            LinkFindingKind::NotPrimary => "leads to no primary tag",
-            LinkFindingKind::NotMet => "requires a tag that is not there",
-            LinkFindingKind::Rivals => "one identity with different content",
-        })
     }
 }

@@ -5,6 +5,7 @@ ghost use Rattle.coswid_links.specs.RivalChains.{AreFollowing, AreBelow, ArePlac
 ghost use Rattle.coswid_links.specs.declared.rival_chain.Following as declared;
 
 use crate::finding::{LinkFinding, LinkFindings};
+use crate::link_finding_kind::LinkFindingKind;
 use std::alloc::Global;
 use wire_base::Memory;
 
@@ -69,7 +70,7 @@ impl RivalChains {
                 at = self.following[second].other;
             } else {
                 found.push(LinkFinding {
-                    kind: 4,
+                    kind: LinkFindingKind::Rivals as u8,
                     first: first as u64 + 1,
                     second: second as u64 + 1,
                 })?;

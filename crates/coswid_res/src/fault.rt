@@ -1,11 +1,12 @@
 //! What is wrong with the form of an item.
 
-ghost use Rattle.std.specs.Prelude.{◌≡◌, ◌<◌, ◌^◌, ◌∷◌, pos, Option, Some, []};
+ghost use Rattle.std.specs.Prelude.{◌≡◌, ◌≢◌, ◌<◌, ◌^◌, ◌∷◌, pos, MatchOption, Option, Some, []};
 ghost use Rattle.coswid_res.specs.Fault.{fault, under};
-ghost use Rattle.coswid_res.specs.FaultKinds.{fault_kind};
+ghost use Rattle.coswid_res.specs.FaultKinds.{fault_number};
 ghost use Rattle.coswid_res.specs.Reading.{Tells};
 ghost use Rattle.coswid_res.specs.declared.fault.FormFault.{FormFault as FaultValue};
 ghost use Rattle.coswid_res.specs.declared.fault.FormRefused.TheVariants as refused;
+ghost use Rattle.coswid_res.specs.declared.fault_kind.FormFaultKind.{FormFaultKind as KindValue};
 
 use crate::fault_kind::FormFaultKind;
 use std::alloc::Global;
@@ -20,7 +21,7 @@ pub type Path = List<i64>;
 /// A form fault: the first in the order in which they are looked for.
 #[derive(Debug, Drop)]
 pub struct FormFault {
-    /// Which fault it is, 1 to 4, as `FormFaultKind` numbers them; `what` gives its name.
+    /// The number of its kind: 1 to 4 where a reader reports it. `what` names the kind.
     pub kind: u8,
     /// Where it is: the path to the missing key, or to the value in a wrong form; empty for kinds 3
     /// and 4.
@@ -28,9 +29,10 @@ pub struct FormFault {
 }
 
 impl FormFault {
-    /// What the fault is; `None` where its number is not 1 to 4, which no reader gives.
+    /// The kind of the fault; `None` exactly where no kind has the number, so never where a reader
+    /// reports it.
     pub fn what(&self) -> Option<FormFaultKind>
-        ensures kind { result ≡ fault_kind self.now.kind }
+        ensures what { MatchOption result ((kind : KindValue) → fault_number kind ≢ self.now.kind) (λ kind. fault_number kind ≡ self.now.kind) }
     {
         FormFaultKind::from_number(self.kind)
     }
@@ -63,18 +65,6 @@ fn write_others<W: fmt::Write>(steps: &[i64], f: &mut fmt::Formatter<W>) -> fmt:
 
 impl error::Error for FormFault {}
 
-/// A required key is not there.
-pub const MISSING_KEY: u8 = 1;
-
-/// A value is in no form that its key has.
-pub const WRONG_FORM: u8 = 2;
-
-/// A tag has both a payload and evidence.
-pub const BOTH: u8 = 3;
-
-/// An untagged item is so deep that it would be too deep under its tag.
-pub const DEEP: u8 = 4;
-
 /// Why no value was read from an item.
 #[derive(Debug, Drop, Error)]
 pub enum FormRefused {
@@ -96,18 +86,20 @@ impl From<Memory> for FormRefused {
 
 impl FormRefused {
     /// A fault of the item itself. It takes no memory.
-    pub fn new(alloc: Global, kind: u8) -> Self
-        ensures fault { result ≡ refused.Form (record { kind = kind; path = [] }) }
+    pub fn new(alloc: Global, kind: FormFaultKind) -> Self
+        ensures fault { result ≡ refused.Form (record { kind = fault_number kind; path = [] }) }
     {
+        let kind = kind.number();
         let path = List::new(alloc);
         FormRefused::Form(FormFault { kind, path })
     }
 
     /// A fault of what stands at the key or index `place` of the item; `Memory` where the path has
     /// no room.
-    pub fn with_place(alloc: Global, kind: u8, place: u32) -> Self
-        ensures told { Tells (fault kind (pos place ∷ [])) result }
+    pub fn with_place(alloc: Global, kind: FormFaultKind, place: u32) -> Self
+        ensures told { Tells (fault (fault_number kind) (pos place ∷ [])) result }
     {
+        let kind = kind.number();
         let mut path = List::new(alloc);
         match path.push(place as i64) {
             Ok(()) => FormRefused::Form(FormFault { kind, path }),

@@ -1,27 +1,39 @@
 //! The kinds of form faults, by name.
 
-ghost use Rattle.std.specs.Prelude.{◌≡◌, Some};
-ghost use Rattle.coswid_res.specs.FaultKinds.{fault_kind};
+ghost use Rattle.std.specs.Prelude.{◌≡◌, ◌≢◌, MatchOption};
+ghost use Rattle.coswid_res.specs.FaultKinds.{fault_number};
+ghost use Rattle.coswid_res.specs.declared.fault_kind.FormFaultKind.{FormFaultKind as KindValue};
 
-use std::fmt;
+use thiserror::Error;
 
-/// What a form fault is (`docs/rules/tags.md`).
-#[derive(Clone, Copy, Debug, PartialEq, Eq)]
+/// The kinds of form faults, with their numbers: the table of `docs/rules/tags.md`.
+#[derive(Clone, Copy, Debug, PartialEq, Eq, Error)]
 pub enum FormFaultKind {
     /// A required key is not there.
-    MissingKey,
+    #[error("missing key")]
+    MissingKey = 1,
     /// A value is in no form that its key has.
-    WrongForm,
+    #[error("wrong form")]
+    WrongForm = 2,
     /// A tag has both a payload and evidence.
-    Both,
+    #[error("both payload and evidence")]
+    Both = 3,
     /// An untagged item is so deep that it would be too deep under its tag.
-    Deep,
+    #[error("too deep")]
+    Deep = 4,
 }
 
 impl FormFaultKind {
-    /// The kind of a number; `None` where it is not 1 to 4.
+    /// The number of the kind, 1 to 4.
+    pub fn number(self) -> u8
+        ensures number { result ≡ fault_number self }
+    {
+        self as u8
+    }
+
+    /// The kind of this number; `None` exactly where no kind has it.
     pub fn from_number(number: u8) -> Option<Self>
-        ensures kind { result ≡ fault_kind number }
+        ensures kind { MatchOption result ((kind : KindValue) → fault_number kind ≢ number) (λ kind. fault_number kind ≡ number) }
     {
         match number {
             1 => Some(FormFaultKind::MissingKey),
@@ -30,29 +42,5 @@ impl FormFaultKind {
             4 => Some(FormFaultKind::Deep),
             _ => None,
         }
-    }
-
-    /// Its number, 1 to 4.
-    pub fn number(self) -> u8
-        ensures number { fault_kind result ≡ Some self }
-    {
-        match self {
-            FormFaultKind::MissingKey => 1,
-            FormFaultKind::WrongForm => 2,
-            FormFaultKind::Both => 3,
-            FormFaultKind::Deep => 4,
-        }
-    }
-}
-
-/// Its name.
-impl fmt::Display for FormFaultKind {
-    fn fmt<W: fmt::Write>(&self, f: &mut fmt::Formatter<W>) -> fmt::Result {
-        f.write_str(match self {
-            FormFaultKind::MissingKey => "missing key",
-            FormFaultKind::WrongForm => "wrong form",
-            FormFaultKind::Both => "both payload and evidence",
-            FormFaultKind::Deep => "too deep",
-        })
     }
 }

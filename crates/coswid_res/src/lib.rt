@@ -4,10 +4,10 @@
 //! It stands on `cbor_det` for items. `wire_base` gives lists and files, `sha2` digests, and
 //! `thiserror` the texts of errors. The crates above rest on:
 //!
-//! - `told` of `Form::read`, of the methods of `Key`, of `payload_of` and of `evidence_of`: the
-//!   value that is read, or the first form fault with its path.
+//! - `told` of `Form::read`, of `read_map`, of `payload_of` and of `evidence_of`: the value that is
+//!   read, or the first form fault with its path.
 //! - `appended` of `Form::spell`, and `spelled` of the methods of `Key`: how a value is written.
-//! - `left` of the methods of `Key` that take a value out, and `there`.
+//! - `left` of `read_map`, what it leaves of a map, and `there` of `Key::is_there`.
 //! - `written` of `payload_item` and `evidence_item`: the item of a value.
 //! - `verdicts`, `cause` and `reads` of `verify`: a verdict on each file of a payload.
 //! - `laws`: what the definitions mean.
@@ -20,8 +20,9 @@
 //! | `tables/map_form.rt` | values that are written as maps | `Columns`, `Schema`, `Reading` |
 //! | `tables/columns.rt` | the keys of a map in order; their reader | `Columns`, `ColumnLaws` |
 //! | `tables/rows.rt` | one or more values: an array, or one alone | `Words`, `Items` |
-//! | `tables/missing_key.rt`, `fault.rt` | the first form fault, with its path | `Fault` |
+//! | `fault.rt` | form faults, with their paths | `Fault` |
 //! | `fault_kind.rt` | the kinds of form faults, by name | `FaultKinds` |
+//! | `tables/missing_key.rt` | the first key that a map has to have and has not | `Fault` |
 //! | `resources/table.rt` | the keys of payload and evidence | `Keys`, `Schema` |
 //! | `resources/file.rt` | files | `Files`, `Sizes` |
 //! | `resources/directory.rt` | directories, and what they hold | `Directories`, `DirectoryItems` |
@@ -43,7 +44,7 @@ mod resources;
 mod tables;
 mod verification;
 
-pub use fault::{BOTH, DEEP, FormFault, FormRefused, MISSING_KEY, Path, WRONG_FORM};
+pub use fault::{FormFault, FormRefused, Path};
 pub use fault_kind::FormFaultKind;
 pub use resources::directory::{DirEntries, DirEntry, PathElements};
 pub use resources::evidence::{Evidence, EvidenceTable, evidence_item, evidence_of};

@@ -1,15 +1,12 @@
--- What is wrong with a tag, by the numbers of findings.
-use Rattle.std.specs.Prelude.{ℕ, ◌==◌, Option, Some, None, if◌then◌else◌}
+-- The numbers of what is wrong with a tag by itself: the table of docs/rules/tags.md.
+use Rattle.std.specs.Prelude.{ℕ}
 use Rattle.coswid_tag.specs.declared.finding_kind.FindingKind.{FindingKind}
 use Rattle.coswid_tag.specs.declared.finding_kind.FindingKind.TheVariants as kind
 
--- The kind of a number.
-abbrev pub finding_kind : ℕ → Option FindingKind
-finding_kind number =
-    if number == 1 then Some kind.PatchAndSupplemental
-    else (if number == 2 then Some kind.PrimaryWithoutVersion
-    else (if number == 3 then Some kind.CorpusWithoutVersion
-    else (if number == 4 then Some kind.PatchWithoutLink
-    else (if number == 5 then Some kind.SupplementalWithoutLink
-    else (if number == 6 then Some kind.WithoutCreator
-    else None)))))
+abbrev pub finding_number : FindingKind → ℕ
+finding_number kind.PatchAndSupplemental = 1
+finding_number kind.PrimaryWithoutVersion = 2
+finding_number kind.CorpusWithoutVersion = 3
+finding_number kind.PatchWithoutLink = 4
+finding_number kind.SupplementalWithoutLink = 5
+finding_number kind.WithoutCreator = 6

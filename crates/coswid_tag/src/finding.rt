@@ -3,9 +3,15 @@
 ghost use Rattle.std.specs.Prelude.{◌≡◌, ◌++◌, IfOk, OnOk};
 ghost use Rattle.std.specs.List.{list_any};
 ghost use Rattle.coswid_tag.specs.Codes.{is_rel};
+ghost use Rattle.coswid_tag.specs.FindingKinds.{finding_number};
 ghost use Rattle.coswid_tag.specs.Findings.{findings, finding, created, all_of};
 
 use crate::entity::Entity;
+use crate::finding_kind::FindingKind;
+use crate::finding_kind::FindingKind::{
+    CorpusWithoutVersion, PatchAndSupplemental, PatchWithoutLink, PrimaryWithoutVersion,
+    SupplementalWithoutLink, WithoutCreator,
+};
 use crate::link::{LinkEntries, LinkEntry};
 use crate::rel::{Rel, is_number};
 use crate::tag::Tag;
@@ -13,7 +19,7 @@ use crate::tag_kind::is_true;
 use std::alloc::Global;
 use wire_base::{List, Memory};
 
-/// Numbers of findings, 1 to 6, in order, by the table of `docs/rules/tags.md`.
+/// Numbers of findings, 1 to 6, in order; `FindingKind` names them.
 pub type Findings = List<u8>;
 
 /// All that is wrong with the tag by itself, in order; `Memory` where there is no room.
@@ -34,24 +40,22 @@ fn note_all(found: &mut Findings, tag: &Tag) -> Result<(), Memory>
     let supplemental = is_true(tag.supplemental);
     let primary = !(corpus || patch || supplemental);
     let versioned = tag.software_version.is_some();
-    note(found, 1, patch && supplemental)?;
-    note(found, 2, primary && !versioned)?;
-    note(found, 3, corpus && !versioned)?;
-    note(found, 4, patch && !any_link(&tag.link, Rel::Patches))?;
-    note(
-        found,
-        5,
-        supplemental && !any_link(&tag.link, Rel::Supplemental),
-    )?;
-    note(found, 6, !has_creator(tag.entity.as_slice()))
+    note(found, PatchAndSupplemental, patch && supplemental)?;
+    note(found, PrimaryWithoutVersion, primary && !versioned)?;
+    note(found, CorpusWithoutVersion, corpus && !versioned)?;
+    let unlinked = patch && !any_link(&tag.link, Rel::Patches);
+    note(found, PatchWithoutLink, unlinked)?;
+    let unlinked = supplemental && !any_link(&tag.link, Rel::Supplemental);
+    note(found, SupplementalWithoutLink, unlinked)?;
+    note(found, WithoutCreator, !has_creator(tag.entity.as_slice()))
 }
 
 /// Notes the finding where it shows.
-fn note(found: &mut Findings, number: u8, shows: bool) -> Result<(), Memory>
-    ensures appended { OnOk result (found.new ≡ found.old ++ finding number shows) }
+fn note(found: &mut Findings, kind: FindingKind, shows: bool) -> Result<(), Memory>
+    ensures appended { OnOk result (found.new ≡ found.old ++ finding (finding_number kind) shows) }
 {
     if shows {
-        found.push(number)?;
+        found.push(kind.number())?;
     }
     Ok(())
 }

@@ -1,31 +1,46 @@
 //! The kinds of findings on a tag, by name.
 
-ghost use Rattle.std.specs.Prelude.{◌≡◌, Some};
-ghost use Rattle.coswid_tag.specs.FindingKinds.{finding_kind};
+ghost use Rattle.std.specs.Prelude.{◌≡◌, ◌≢◌, MatchOption};
+ghost use Rattle.coswid_tag.specs.FindingKinds.{finding_number};
+ghost use Rattle.coswid_tag.specs.declared.finding_kind.FindingKind.{FindingKind as KindValue};
 
-use std::fmt;
+use thiserror::Error;
 
-/// What is wrong with a tag by itself (`docs/rules/tags.md`; RFC 9393, sections 2.4 and 2.7).
-#[derive(Clone, Copy, Debug, PartialEq, Eq)]
+/// What is wrong with a tag by itself, with the numbers of the table of `docs/rules/tags.md`
+/// (RFC 9393, sections 2.4 and 2.7).
+#[derive(Clone, Copy, Debug, PartialEq, Eq, Error)]
 pub enum FindingKind {
     /// It is a patch and supplemental at once.
-    PatchAndSupplemental,
+    #[error("patch and supplemental")]
+    PatchAndSupplemental = 1,
     /// It is primary, and has no software version.
-    PrimaryWithoutVersion,
+    #[error("primary without a version")]
+    PrimaryWithoutVersion = 2,
     /// It is corpus, and has no software version.
-    CorpusWithoutVersion,
+    #[error("corpus without a version")]
+    CorpusWithoutVersion = 3,
     /// It is a patch, and no link of it says what is patched.
-    PatchWithoutLink,
+    #[error("patch without a link to what it patches")]
+    PatchWithoutLink = 4,
     /// It is supplemental, and no link of it says to what.
-    SupplementalWithoutLink,
+    #[error("supplemental without a link to what it adds to")]
+    SupplementalWithoutLink = 5,
     /// No entity created it.
-    WithoutCreator,
+    #[error("no entity is the tag creator")]
+    WithoutCreator = 6,
 }
 
 impl FindingKind {
-    /// The kind of a number; `None` where it is not 1 to 6.
+    /// The number of the kind, 1 to 6.
+    pub fn number(self) -> u8
+        ensures number { result ≡ finding_number self }
+    {
+        self as u8
+    }
+
+    /// The kind of this number; `None` exactly where no kind has it.
     pub fn from_number(number: u8) -> Option<Self>
-        ensures kind { result ≡ finding_kind number }
+        ensures kind { MatchOption result ((kind : KindValue) → finding_number kind ≢ number) (λ kind. finding_number kind ≡ number) }
     {
         match number {
             1 => Some(FindingKind::PatchAndSupplemental),
@@ -36,34 +51,5 @@ impl FindingKind {
             6 => Some(FindingKind::WithoutCreator),
             _ => None,
         }
-    }
-
-    /// Its number, 1 to 6.
-    pub fn number(self) -> u8
-        ensures number { finding_kind result ≡ Some self }
-    {
-        match self {
-            FindingKind::PatchAndSupplemental => 1,
-            FindingKind::PrimaryWithoutVersion => 2,
-            FindingKind::CorpusWithoutVersion => 3,
-            FindingKind::PatchWithoutLink => 4,
-            FindingKind::SupplementalWithoutLink => 5,
-            FindingKind::WithoutCreator => 6,
-        }
-    }
-}
-
-/// Its name.
-impl fmt::Display for FindingKind {
-    fn fmt<W: fmt::Write>(&self, f: &mut fmt::Formatter<W>) -> fmt::Result {
-        f.write_str(match self {
-            FindingKind::PatchAndSupplemental => "patch and supplemental",
-            FindingKind::PrimaryWithoutVersion => "primary without a version",
-            FindingKind::CorpusWithoutVersion => "corpus without a version",
-            FindingKind::PatchWithoutLink => "patch without a link to what it patches",
-            FindingKind::SupplementalWithoutLink =>
-                "supplemental without a link to what it adds to",
-            FindingKind::WithoutCreator => "no entity is the tag creator",
-        })
     }
 }

@@ -38,8 +38,8 @@ is_supported supported vendor kind = (vendor == IETF) && list_any (λ known. kno
 abbrev pub is_refused : List ℕ → Header → Bool
 is_refused supported h = h.noskip && not (is_supported supported h.vendor h.kind)
 
--- The rows on an attribute that begins with these octets, all that are left of a message, where so
--- many attributes more have room in it.
+-- The rows on an attribute that begins with these octets, all that are left of a message, where
+-- that many attributes more have room in it.
 abbrev pub message_rows : List ℕ → ℕ → List ℕ → Header → List Row
 message_rows supported room octets h =
     row (room == 0) INVALID_PARAMETER 0

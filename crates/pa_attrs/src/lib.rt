@@ -19,7 +19,7 @@
 //! | `feed.rt`, `held.rt` | attributes from octets in pieces, and the octets that a feed holds |
 //! | `fault.rt` | what is wrong with a message or an attribute |
 //! | `error.rt`, `error_code.rt`, `error_octets.rt` | Errors, their codes, and their octets |
-//! | `numbers.rt` | the numbers of RFC 5792 and RFC 8412, and our limits |
+//! | `numbers.rt` | the numbers of RFC 5792, and our limits |
 //! | `laws.rt` | what the definitions mean, proved |
 //!
 //! The words of the clauses are in `specs/`:

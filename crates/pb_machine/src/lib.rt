@@ -11,7 +11,7 @@
 //! - two ends that keep to the tables never hear what they do not expect, and agree where nothing
 //!   is on its way.
 //!
-//! Their lemmas for proofs above are in `proofs/Sending.antt` and `proofs/Agreement.antt`.
+//! The lemmas that proofs above cite are in `proofs/Sending.antt`.
 //!
 //! | file | what it holds | its words in `specs/` |
 //! |---|---|---|

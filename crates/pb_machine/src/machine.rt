@@ -47,46 +47,6 @@ pub enum Heard {
     Unexpected,
 }
 
-/// The state in which `role` is once it has sent a batch of the kind in `state`; `None` where it
-/// may not send one.
-fn after_sending(role: Role, state: State, kind: BatchKind) -> Option<State>
-    ensures next { result ≡ sending role state kind }
-{
-    match (role, state, kind) {
-        (_, End, _) => None,
-        (_, _, Close) => Some(End),
-        (Client, Init, Cdata) => Some(ServerWorking),
-        (Client, ClientWorking, Cdata) => Some(ServerWorking),
-        (Client, Decided, Cretry) => Some(ServerWorking),
-        (Server, ServerWorking, Sdata) => Some(ClientWorking),
-        (Server, ServerWorking, Outcome) => Some(Decided),
-        (Server, Decided, Sretry) => Some(ClientWorking),
-        _ => None,
-    }
-}
-
-/// What `role` does with a batch of the kind that it hears in `state`, and the state in which it is
-/// then.
-fn after_hearing(role: Role, state: State, kind: BatchKind) -> (Heard, State)
-    ensures next { result ≡ receiving role state kind }
-{
-    match (role, state, kind) {
-        (_, End, _) => (Heard::Ignored, End),
-        (_, _, Close) => (Heard::Go, End),
-        (Client, Init, Sdata) => (Heard::Go, ClientWorking),
-        (Client, ServerWorking, Sdata) => (Heard::Go, ClientWorking),
-        (Client, ServerWorking, Outcome) => (Heard::Go, Decided),
-        (Client, ServerWorking, Sretry) => (Heard::Ignored, ServerWorking),
-        (Client, Decided, Sretry) => (Heard::Go, ClientWorking),
-        (Server, Init, Cdata) => (Heard::Go, ServerWorking),
-        (Server, ClientWorking, Cdata) => (Heard::Go, ServerWorking),
-        (Server, ClientWorking, Cretry) => (Heard::Go, ServerWorking),
-        (Server, Decided, Cretry) => (Heard::Go, ServerWorking),
-        (Server, ServerWorking, Cretry) => (Heard::Go, ServerWorking),
-        _ => (Heard::Unexpected, state),
-    }
-}
-
 /// The state machine of one end. None of its calls takes memory.
 #[derive(Debug, Drop)]
 pub struct Machine {
@@ -154,5 +114,45 @@ impl Machine {
         let (heard, next) = after_hearing(self.role, self.state, kind);
         self.state = next;
         heard
+    }
+}
+
+/// The state in which `role` is once it has sent a batch of the kind in `state`; `None` where it
+/// may not send one.
+fn after_sending(role: Role, state: State, kind: BatchKind) -> Option<State>
+    ensures next { result ≡ sending role state kind }
+{
+    match (role, state, kind) {
+        (_, End, _) => None,
+        (_, _, Close) => Some(End),
+        (Client, Init, Cdata) => Some(ServerWorking),
+        (Client, ClientWorking, Cdata) => Some(ServerWorking),
+        (Client, Decided, Cretry) => Some(ServerWorking),
+        (Server, ServerWorking, Sdata) => Some(ClientWorking),
+        (Server, ServerWorking, Outcome) => Some(Decided),
+        (Server, Decided, Sretry) => Some(ClientWorking),
+        _ => None,
+    }
+}
+
+/// What `role` does with a batch of the kind that it hears in `state`, and the state in which it is
+/// then.
+fn after_hearing(role: Role, state: State, kind: BatchKind) -> (Heard, State)
+    ensures next { result ≡ receiving role state kind }
+{
+    match (role, state, kind) {
+        (_, End, _) => (Heard::Ignored, End),
+        (_, _, Close) => (Heard::Go, End),
+        (Client, Init, Sdata) => (Heard::Go, ClientWorking),
+        (Client, ServerWorking, Sdata) => (Heard::Go, ClientWorking),
+        (Client, ServerWorking, Outcome) => (Heard::Go, Decided),
+        (Client, ServerWorking, Sretry) => (Heard::Ignored, ServerWorking),
+        (Client, Decided, Sretry) => (Heard::Go, ClientWorking),
+        (Server, Init, Cdata) => (Heard::Go, ServerWorking),
+        (Server, ClientWorking, Cdata) => (Heard::Go, ServerWorking),
+        (Server, ClientWorking, Cretry) => (Heard::Go, ServerWorking),
+        (Server, Decided, Cretry) => (Heard::Go, ServerWorking),
+        (Server, ServerWorking, Cretry) => (Heard::Go, ServerWorking),
+        _ => (Heard::Unexpected, state),
     }
 }

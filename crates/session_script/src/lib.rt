@@ -1,14 +1,14 @@
 //! Scripts of both ends of sessions, over an inventory that changes: what is printed when one is
 //! played.
 //!
-//! It stands on `session_world` for the world that a script changes, on `collector_core` for what
-//! is printed of refusals, on `command_text` for the lines of mirrors and of ends of sessions, on
-//! `line_words` for the values of words, on `jiff_core` in the proof that a second has one stamp,
-//! and on `validator_core`, `swima_model`, `wire_base` and `hex`. The command `replay` rests on
-//! this clause of `replay_answer`:
+//! It stands on `session_world` for the world that a script changes, and on `collector_core` for
+//! what is printed of refusals. `command_text` has the lines of mirrors and of ends of sessions,
+//! and `line_words` the values of words. It stands on `jiff_core` in the proof that a second has
+//! one stamp, and on `validator_core`, `swima_model`, `wire_base` and `hex`. Above it rest:
 //!
-//! - `told`: what is printed, and how it ends, is what `ReplayTells` says of all octets of the
-//!   input.
+//! - the command `replay`, on `told` of `replay_answer`: what is printed, and how it ends, is what
+//!   `ReplayTells` says of all octets of the input;
+//! - `session_day`, on `stands` and `text` of `begin_book`, and on `stamp` of `stamp_at`.
 //!
 //! | file | what it holds | its words in `specs/` |
 //! |---|---|---|

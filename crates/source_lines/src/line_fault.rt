@@ -30,11 +30,13 @@ pub enum LineFault {
 }
 
 /// Why no item was read of a line.
-#[derive(Clone, Copy, Debug)]
+#[derive(Clone, Copy, Debug, Error)]
 pub(crate) enum LineRefused {
     /// It is none.
+    #[error("{0}")]
     Fault(LineFault),
     /// Out of memory.
+    #[error("out of memory")]
     Memory,
 }
 

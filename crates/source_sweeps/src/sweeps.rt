@@ -6,14 +6,17 @@ ghost use Rattle.source_sweeps.specs.Sweepings.{GoesOn, SweepsNext, SweepsOn, Sw
 
 use collector_core::Desk;
 use source_set::{Sources, SweepError, Swept, TagSource};
+use thiserror::Error;
 use wire_base::{Clock, stamp_text};
 
 /// Why sweeping stopped.
-#[derive(Clone, Copy, Debug, PartialEq, Eq)]
+#[derive(Clone, Copy, Debug, PartialEq, Eq, Error)]
 pub enum SweepStop {
     /// A sweep answered this.
+    #[error("{0}")]
     Sweep(SweepError),
     /// The clock gave a moment that has no stamp.
+    #[error("second {secs} is too late for a stamp")]
     ClockRange {
         /// The moment, in seconds since 1970-01-01T00:00:00Z.
         secs: u64,

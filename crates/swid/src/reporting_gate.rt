@@ -4,7 +4,6 @@ use pb_batch::PbFault;
 use session_pool::{Gate, SessionEnd, SweepStop, Watch};
 use std::fmt;
 use std::io::Eprint;
-use wire_base::ClockRange;
 
 /// A gate that says on standard error why a session ended, where no end closed it, and why sweeping
 /// stopped.
@@ -34,13 +33,7 @@ impl<'a, R: Eprint> Gate for ReportingGate<'a, R> {
 
 impl<'a, R: Eprint> Watch for ReportingGate<'a, R> {
     fn stopped(&self, why: SweepStop) {
-        let _ = match why {
-            SweepStop::Sweep(error) => eprintln!(self.system; "swid: sweeping stopped: {error}"),
-            SweepStop::ClockRange { secs } => {
-                let range = ClockRange { secs };
-                eprintln!(self.system; "swid: sweeping stopped: {range}")
-            }
-        };
+        let _ = eprintln!(self.system; "swid: sweeping stopped: {why}");
     }
 }
 

@@ -16,7 +16,8 @@
 //! - `right`: the mirror that is printed at the end is right over each honest history from which
 //!   the reports answer.
 //!
-//! `swid_run` rests on `status` of `status` too: which status comes of how a command ended.
+//! `swid_run` rests on `status` of `status` too, which status comes of how a command ended, and on
+//! `known` of `is_command_line`.
 //!
 //! | file | what it holds | its words in `specs/` |
 //! |---|---|---|
@@ -26,8 +27,12 @@
 //! | `mirror/step.rt`, `first_attribute.rt` | attributes, one after another | `Steps`, `Front` |
 //! | `mirror/pieces.rt` | what the mirror holds | `Text` of `command_text`: `mirror_text` |
 //! | `mirror/supported.rt` | which attributes `mirror` takes | `Front`: `REPORT_TYPES` |
-//! | `tag.rt`, `tag/` | `tag` and `tag verify` | `Tagging`: `TagTells`; `Checking`, `TagReads` |
-//! | `links.rt`, `links/` | `links` | `Links`: `LinksTells`; `TagList` |
+//! | `tag.rt` | `tag` and `tag verify` | `Tagging`: `TagTells`; `Checking`, `TagReads` |
+//! | `tag/lines.rt` | the line of a form fault | `Tagging` |
+//! | `tag/verdict_lines.rt` | the lines of verdicts on files | `Checking` |
+//! | `links.rt` | `links` | `Links`: `LinksTells` |
+//! | `links/tag_list.rt` | tags one after another | `TagList` |
+//! | `links/lines.rt` | the lines of what is wrong between tags | `Links` |
 //! | all of these | what is printed of a whole input; why one stopped | `Telling`, `Causes` |
 //! | `replay.rt` | `replay` | `Replay` of `session_script`: `ReplayTells` |
 //! | `make.rt` | `make` | `Making`; `Day` of `session_day`: `MakeTells` |

@@ -1,14 +1,16 @@
 //! All commands of the program, over any objects of the outside: those that wait for nobody, and
 //! `collect` and `follow`, which hold sessions in threads.
 //!
-//! It stands on `swid_cli` for the commands that wait for nobody, on `command_options` for the
-//! words after `collect` and `follow`, on `session_pool` for their sessions, on `book_lock` and
-//! `collector_core` for the inventory, on `source_set` for its sources, on `validator_core` for
-//! mirrors, on `pool_text` and `command_text` for what is printed, and on `wire_base`. The program
+//! It stands on `swid_cli` for the commands that wait for nobody, and on `command_options` for the
+//! words after `collect` and `follow`. `session_pool` has their sessions, `book_lock` and
+//! `collector_core` the inventory, `source_set` its sources, and `validator_core` mirrors. It
+//! stands on `pool_text` and `command_text` for what is printed, and on `wire_base`. The program
 //! rests on these clauses of `run`:
 //!
-//! - `plain`: all that `run_plain` says of the other words;
-//! - `usage`, `no_line`: status 2 comes exactly where the words are no command line;
+//! - `plain`: all that `run_plain` says of the other words, unless memory ran out while they were
+//!   read;
+//! - `usage`, `no_line`: status 2 comes exactly where the words are no command line, unless memory
+//!   ran out while they were read;
 //! - `fault`, `no_fault`, `counts_never_fall`: status 3 comes exactly where, with neither 2 nor 4,
 //!   a count of faults rose;
 //! - `collect`: every session is one over a single legal chronicle. It begins without a record, and

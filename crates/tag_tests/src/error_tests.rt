@@ -2,7 +2,7 @@
 
 use cbor_det::{CborFault, CborRefused, PairRefused};
 use coswid_codec::TagRefused;
-use coswid_res::{BOTH, FormRefused, MISSING_KEY, VerifyRefused};
+use coswid_res::{FormFaultKind, FormRefused, VerifyRefused};
 use coswid_tag::IdentRefused;
 use std::alloc::Global;
 use std::fmt::Display;
@@ -18,11 +18,11 @@ fn says<E: Display + Drop>(alloc: Global, refused: E, text: &str) -> Result<bool
 #[test]
 fn a_form_fault_says_its_path(rt: HostRuntime) -> Result<(), Fail> {
     let alloc = rt.alloc();
-    let file = FormRefused::with_place(alloc, MISSING_KEY, 24).under(0);
+    let file = FormRefused::with_place(alloc, FormFaultKind::MissingKey, 24).under(0);
     let path = says(alloc, file.under(17).under(6), "missing key at 6/17/0/24")?;
     let item = says(
         alloc,
-        FormRefused::new(alloc, BOTH),
+        FormRefused::new(alloc, FormFaultKind::Both),
         "both payload and evidence at .",
     )?;
     assert!(rt; path && item);

@@ -2,8 +2,7 @@
 
 use cbor_det::{Item, LARGEST, Pairs, read_item};
 use coswid_res::{
-    BoolForm, FormRefused, HashEntry, HashForm, IntForm, Key, MISSING_KEY, TextForm, UriForm,
-    WRONG_FORM,
+    BoolForm, FormFaultKind, FormRefused, HashEntry, HashForm, IntForm, Key, TextForm, UriForm,
 };
 use std::alloc::Global;
 use std::test::Fail;
@@ -113,9 +112,11 @@ fn a_hash_is_read_as_it_was_put(rt: HostRuntime) -> Result<(), Fail> {
 }
 
 /// Whether this was refused with a fault of this kind and path.
-fn is_refused<T: Drop>(read: Result<T, FormRefused>, kind: u8, path: &[i64]) -> bool {
+fn is_refused<T: Drop>(read: Result<T, FormRefused>, kind: FormFaultKind, path: &[i64]) -> bool {
     match read {
-        Err(FormRefused::Form(fault)) => fault.kind == kind && fault.path.as_slice() == path,
+        Err(FormRefused::Form(fault)) => {
+            fault.kind == kind.number() && fault.path.as_slice() == path
+        }
         _ => false,
     }
 }
@@ -138,10 +139,17 @@ fn refuses_forms(alloc: Global) -> Result<bool, Fail> {
     Ok(
         is_refused(
             Numbers::required_row(alloc, &mut pairs),
-            WRONG_FORM,
+            FormFaultKind::WrongForm,
             &[133, 1],
-        ) && is_refused(Print::required(alloc, &mut pairs), WRONG_FORM, &[134, 1])
-            && is_refused(Website::optional(alloc, &mut pairs), WRONG_FORM, &[138]),
+        ) && is_refused(
+            Print::required(alloc, &mut pairs),
+            FormFaultKind::WrongForm,
+            &[134, 1],
+        ) && is_refused(
+            Website::optional(alloc, &mut pairs),
+            FormFaultKind::WrongForm,
+            &[138],
+        ),
     )
 }
 
@@ -149,9 +157,15 @@ fn refuses_forms(alloc: Global) -> Result<bool, Fail> {
 fn refuses_no_key(alloc: Global) -> Result<bool, Fail> {
     let mut pairs = pairs_of(alloc, PAIRS)?;
     Ok(
-        is_refused(Name::required(alloc, &mut pairs), MISSING_KEY, &[131])
-            && is_refused(Name::expect(alloc, &pairs), MISSING_KEY, &[131])
-            && Numbers::expect(alloc, &pairs).is_ok(),
+        is_refused(
+            Name::required(alloc, &mut pairs),
+            FormFaultKind::MissingKey,
+            &[131],
+        ) && is_refused(
+            Name::expect(alloc, &pairs),
+            FormFaultKind::MissingKey,
+            &[131],
+        ) && Numbers::expect(alloc, &pairs).is_ok(),
     )
 }
 

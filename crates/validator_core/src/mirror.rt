@@ -54,7 +54,7 @@ pub enum Taken {
         got: u32,
     },
     /// An event creates a record that is held, alters or deletes one that is not, or deletes one
-    /// with another content than the one that is held, where an empty body counts as equal.
+    /// with another content than the one that is held. An empty body in the event counts as equal.
     Contradiction {
         /// The event identifier of the first such event.
         eid: u32,

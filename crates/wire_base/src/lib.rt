@@ -10,7 +10,7 @@
 //! - `takes`, `gives`, `cause` and `idle` of `Link`, `comes`, `returned` and `cause` of `Door`,
 //!   `moment` of `Clock`.
 //! - `answer`, `cause` and `reads` of `Files`.
-//! - `field` of each method of `Cursor` and of `FieldReader::read`, and `several` of
+//! - `field` of each method of `Cursor` that reads and of `FieldReader::read`, and `several` of
 //!   `read_several`: what a reader gives, or the place of the first fault.
 //! - `appended` of `put_u8` and its kin, of `put_counted_u16` and of `put_counted_u32`.
 //! - `text` of `stamp_text`, `appended` of `put_escaped`, `stamp` of `is_stamp`, `octets` of
@@ -42,6 +42,8 @@
 //! | `cursor.rt`, `field_reader.rt` | reading octets field by field, and several of one kind |
 //! | `field_refused.rt`, `placed.rt` | why octets are not read, and fields with their places |
 //! | `numbers.rt`, `flag.rt`, `counted_octets.rt` | numbers, flags, octets after their count |
+//!
+//! `laws.rt` has what the definitions mean, proved.
 //!
 //! The words of the clauses are in `specs/`:
 //!

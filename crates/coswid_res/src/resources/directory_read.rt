@@ -17,7 +17,8 @@ ghost use Rattle.coswid_res.specs.Schema.{one, a_map, optional_key};
 ghost use Rattle.coswid_res.specs.Schema as schema;
 ghost use Rattle.coswid_res.specs.Words.{Each, OneOrMore, Optional};
 
-use crate::fault::{FormRefused, WRONG_FORM};
+use crate::fault::FormRefused;
+use crate::fault_kind::FormFaultKind;
 use crate::resources::directory::{DirEntry, PathElements};
 use crate::resources::table;
 use cbor_det::{Item, Pairs};
@@ -78,7 +79,7 @@ fn path_of(alloc: Global, item: Item) -> Result<PathElements, FormRefused>
 {
     match item {
         Item::Map(pairs) => read_path(alloc, pairs),
-        _ => Err(FormRefused::new(alloc, WRONG_FORM)),
+        _ => Err(FormRefused::new(alloc, FormFaultKind::WrongForm)),
     }
 }
 
@@ -133,7 +134,7 @@ fn directories_of(alloc: Global, item: Item) -> Result<List<DirEntry>, FormRefus
     match item {
         Item::Array(items) => {
             if items.is_empty() {
-                return Err(FormRefused::new(alloc, WRONG_FORM));
+                return Err(FormRefused::new(alloc, FormFaultKind::WrongForm));
             }
             read_elements(alloc, items)
         }
@@ -179,6 +180,6 @@ fn directory_of(alloc: Global, item: Item) -> Result<DirEntry, FormRefused>
 {
     match item {
         Item::Map(pairs) => read_directory(alloc, pairs),
-        _ => Err(FormRefused::new(alloc, WRONG_FORM)),
+        _ => Err(FormRefused::new(alloc, FormFaultKind::WrongForm)),
     }
 }

@@ -1,6 +1,5 @@
 //! The keys of payload and evidence and of the maps in them, each with its number and the form of
-//! what stands under it (RFC 9393, sections 2.9.2 to 2.9.4). After them stand all keys that each
-//! table lists.
+//! what stands under it (RFC 9393, sections 2.9.2 to 2.9.4).
 
 ghost use Rattle.std.specs.Prelude.{◌≡◌};
 ghost use Rattle.coswid_res.specs.Schema as schema;

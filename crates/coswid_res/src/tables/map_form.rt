@@ -8,7 +8,8 @@ ghost use Rattle.coswid_res.specs.Reading.{Gives, keys_fault};
 ghost use Rattle.coswid_res.specs.Schema.{Name, a_map};
 ghost use Rattle.coswid_res.specs.Words.{IsMap};
 
-use crate::fault::{FormRefused, WRONG_FORM};
+use crate::fault::FormRefused;
+use crate::fault_kind::FormFaultKind;
 use crate::tables::form::{Form, ItemForm};
 use cbor_det::{Item, Pairs};
 use std::alloc::Global;
@@ -68,7 +69,7 @@ impl<M: Mapped> Form for MapForm<M> {
     fn read(alloc: Global, item: Item) -> Result<M::Value, FormRefused> {
         match item {
             Item::Map(pairs) => M::read(alloc, pairs),
-            _ => Err(FormRefused::new(alloc, WRONG_FORM)),
+            _ => Err(FormRefused::new(alloc, FormFaultKind::WrongForm)),
         }
     }
 

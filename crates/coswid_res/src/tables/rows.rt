@@ -11,7 +11,8 @@ ghost use Rattle.coswid_res.specs.Reading.{Gives};
 ghost use Rattle.coswid_res.specs.Schema.{one_or_more};
 ghost use Rattle.coswid_res.specs.Words.{Each, OneOrMore};
 
-use crate::fault::{FormRefused, WRONG_FORM};
+use crate::fault::FormRefused;
+use crate::fault_kind::FormFaultKind;
 use crate::tables::form::{Form, ItemForm, read_at};
 use cbor_det::{Item, put_array_head};
 use std::alloc::Global;
@@ -39,7 +40,7 @@ fn read_row<F: Form>(alloc: Global, item: Item) -> Result<List<F::Value>, FormRe
     match item {
         Item::Array(items) => {
             if items.is_empty() {
-                return Err(FormRefused::new(alloc, WRONG_FORM));
+                return Err(FormRefused::new(alloc, FormFaultKind::WrongForm));
             }
             read_elements::<F>(alloc, items)
         }

@@ -9,7 +9,8 @@ ghost use Rattle.cbor_det.specs.View.{view, terms_of};
 ghost use Rattle.coswid_res.specs.Fault.{under, unless_wrong, is_integer, is_octets, hash_fault};
 ghost use Rattle.coswid_res.specs.Reading.{Gives};
 
-use crate::fault::{FormRefused, WRONG_FORM};
+use crate::fault::FormRefused;
+use crate::fault_kind::FormFaultKind;
 use crate::resources::hash::HashEntry;
 use crate::tables::form::{Form, ItemForm};
 use cbor_det::{
@@ -34,7 +35,7 @@ impl Form for TextForm {
     fn read(alloc: Global, item: Item) -> Result<Text, FormRefused> {
         match item {
             Item::Text(text) => Ok(text),
-            _ => Err(FormRefused::new(alloc, WRONG_FORM)),
+            _ => Err(FormRefused::new(alloc, FormFaultKind::WrongForm)),
         }
     }
 
@@ -66,7 +67,7 @@ impl Form for BoolForm {
     fn read(alloc: Global, item: Item) -> Result<bool, FormRefused> {
         match item {
             Item::Bool(value) => Ok(value),
-            _ => Err(FormRefused::new(alloc, WRONG_FORM)),
+            _ => Err(FormRefused::new(alloc, FormFaultKind::WrongForm)),
         }
     }
 
@@ -98,7 +99,7 @@ impl Form for IntForm {
     fn read(alloc: Global, item: Item) -> Result<i64, FormRefused> {
         match item {
             Item::Int(number) => Ok(number),
-            _ => Err(FormRefused::new(alloc, WRONG_FORM)),
+            _ => Err(FormRefused::new(alloc, FormFaultKind::WrongForm)),
         }
     }
 
@@ -130,7 +131,7 @@ impl Form for UintForm {
     fn read(alloc: Global, item: Item) -> Result<u64, FormRefused> {
         match item {
             Item::Int(number) if number >= 0 => Ok(number as u64),
-            _ => Err(FormRefused::new(alloc, WRONG_FORM)),
+            _ => Err(FormRefused::new(alloc, FormFaultKind::WrongForm)),
         }
     }
 
@@ -167,7 +168,7 @@ impl Form for UriForm {
         match item {
             Item::Text(bare) => Ok(bare),
             Item::Tag(URI_TAG, content) => TextForm::read(alloc, content.into_inner()),
-            _ => Err(FormRefused::new(alloc, WRONG_FORM)),
+            _ => Err(FormRefused::new(alloc, FormFaultKind::WrongForm)),
         }
     }
 
@@ -206,7 +207,7 @@ impl Form for TimeForm {
         match item {
             Item::Int(number) => Ok(number),
             Item::Tag(TIME_TAG, content) => IntForm::read(alloc, content.into_inner()),
-            _ => Err(FormRefused::new(alloc, WRONG_FORM)),
+            _ => Err(FormRefused::new(alloc, FormFaultKind::WrongForm)),
         }
     }
 
@@ -239,7 +240,7 @@ impl Form for HashForm {
     fn read(alloc: Global, item: Item) -> Result<HashEntry, FormRefused> {
         match item {
             Item::Array(parts) => read_hash(alloc, parts),
-            _ => Err(FormRefused::new(alloc, WRONG_FORM)),
+            _ => Err(FormRefused::new(alloc, FormFaultKind::WrongForm)),
         }
     }
 
@@ -265,7 +266,7 @@ fn read_hash(alloc: Global, parts: Items) -> Result<HashEntry, FormRefused>
     ensures told { Gives (λ h. terms_of (map view parts) ≡ term (integer h.algorithm) (term (octets h.value) no_terms)) (hash_fault (terms_of (map view parts))) result }
 {
     if parts.len() != 2 {
-        return Err(FormRefused::new(alloc, WRONG_FORM));
+        return Err(FormRefused::new(alloc, FormFaultKind::WrongForm));
     }
     let mut parts = parts.into_vec();
     let second = parts.remove(1);
@@ -280,7 +281,7 @@ fn algorithm(alloc: Global, item: Item) -> Result<i64, FormRefused>
 {
     match item {
         Item::Int(number) => Ok(number),
-        _ => Err(FormRefused::with_place(alloc, WRONG_FORM, 0)),
+        _ => Err(FormRefused::with_place(alloc, FormFaultKind::WrongForm, 0)),
     }
 }
 
@@ -289,6 +290,6 @@ fn hash_value(alloc: Global, item: Item) -> Result<Octets, FormRefused>
 {
     match item {
         Item::Bytes(octets) => Ok(octets),
-        _ => Err(FormRefused::with_place(alloc, WRONG_FORM, 1)),
+        _ => Err(FormRefused::with_place(alloc, FormFaultKind::WrongForm, 1)),
     }
 }

@@ -106,5 +106,5 @@ fn connected<R: Net>(
     ensures fresh { IfSome result (λ link. link.faults ≡ 0) }
 {
     let stream = TcpStream::connect(system, address).ok()?;
-    TcpLink::set_up(stream, write_seconds).ok()
+    TcpLink::from_stream(stream, write_seconds).ok()
 }

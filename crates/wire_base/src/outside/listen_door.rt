@@ -135,5 +135,5 @@ where
     ensures fresh { IfSome result (λ link. link.faults ≡ 0) }
 {
     let (stream, _) = listener.accept().ok()?;
-    TcpLink::set_up(stream, write_seconds).ok()
+    TcpLink::from_stream(stream, write_seconds).ok()
 }

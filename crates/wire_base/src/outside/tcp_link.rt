@@ -51,7 +51,7 @@ impl<S: Read + Write + OpenStream + Drop> TcpLink<S> {
     /// A link over `stream` that sends each piece at once. A read waits for one second, and a write
     /// for `write_seconds`. `Failed` comes where the system refuses one of these settings; then the
     /// stream is closed.
-    pub fn set_up(stream: S, write_seconds: NonZeroU32) -> Result<Self, Failed>
+    pub fn from_stream(stream: S, write_seconds: NonZeroU32) -> Result<Self, Failed>
         ensures made { IfOk result (λ link. link ≡ record { inner = stream; faults = 0; idles = 0 }) }
     {
         let write_timeout = Duration::from_secs(u64::from(write_seconds.get()));

@@ -9,7 +9,7 @@ use crate::values::memory::Memory;
 use std::alloc::Global;
 use std::marker::Model;
 
-/// What can be copied, which may want memory.
+/// What can be copied, which may run out of memory.
 pub trait TryCopy: Drop + Sized {
     /// A copy that equals the original; `Memory` where there is no room for one.
     fn copy(&self) -> Result<Self, Memory>
