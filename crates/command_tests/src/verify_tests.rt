@@ -30,17 +30,27 @@ fn prints(alloc: Global, input: Vec<u8>, call: u64, wanted: (u8, &str)) -> Resul
     Ok(is_printed(verify(alloc, input, content, call)?, wanted))
 }
 
+/// Whether the fault of an octet that is no tag is printed, where a read of a file would fail.
+fn prints_the_fault(alloc: Global) -> Result<bool, Fail> {
+    let input = Vec::from_slice(alloc, b"\xff")?;
+    prints(alloc, input, 1, (1, "fault 2 0\n"))
+}
+
 #[test]
 fn looks_at_no_file_of_what_is_no_tag(rt: HostRuntime) -> Result<(), Fail> {
-    let input = Vec::from_slice(rt.alloc(), b"\xff")?;
-    assert!(rt; prints(rt.alloc(), input, 1, (1, "fault 2 0\n"))?);
+    assert!(rt; prints_the_fault(rt.alloc())?);
     Ok(())
+}
+
+/// Whether nothing is printed of the tag, where the read of its file fails.
+fn prints_nothing(alloc: Global) -> Result<bool, Fail> {
+    let input = hex::decode(alloc, TAG)?;
+    prints(alloc, input, 1, (3, ""))
 }
 
 #[test]
 fn prints_nothing_where_a_file_was_not_read(rt: HostRuntime) -> Result<(), Fail> {
-    let input = hex::decode(rt.alloc(), TAG)?;
-    assert!(rt; prints(rt.alloc(), input, 1, (3, ""))?);
+    assert!(rt; prints_nothing(rt.alloc())?);
     Ok(())
 }
 
@@ -58,10 +68,15 @@ fn prints_line(alloc: Global, content: Octets, status: u8, line: &str) -> Result
     Ok(is_printed(answer, (status, text.as_str())))
 }
 
+/// Whether a file that holds `abc` has the line of a file that is the same.
+fn prints_that_it_is_the_same(alloc: Global) -> Result<bool, Fail> {
+    let content = List::from_slice(alloc, b"abc")?;
+    prints_line(alloc, content, 0, "file same f\n")
+}
+
 #[test]
 fn reads_a_file_once(rt: HostRuntime) -> Result<(), Fail> {
-    let content = List::from_slice(rt.alloc(), b"abc")?;
-    assert!(rt; prints_line(rt.alloc(), content, 0, "file same f\n")?);
+    assert!(rt; prints_that_it_is_the_same(rt.alloc())?);
     Ok(())
 }
 
@@ -76,9 +91,14 @@ fn zeros(alloc: Global) -> Result<Vec<u8>, Fail> {
     Ok(zeros)
 }
 
+/// Whether a file of one octet too many has the line of a file that is too long.
+fn prints_that_it_is_long(alloc: Global) -> Result<bool, Fail> {
+    let content = List::from_vec(zeros(alloc)?);
+    prints_line(alloc, content, 1, "file long 67108865 f\n")
+}
+
 #[test]
 fn prints_how_long_a_file_is(rt: HostRuntime) -> Result<(), Fail> {
-    let content = List::from_vec(zeros(rt.alloc())?);
-    assert!(rt; prints_line(rt.alloc(), content, 1, "file long 67108865 f\n")?);
+    assert!(rt; prints_that_it_is_long(rt.alloc())?);
     Ok(())
 }

@@ -69,8 +69,9 @@ fn of_most_records(alloc: Global) -> Option<(BookError, bool)> {
 #[test]
 fn a_book_has_so_many_records(rt: HostRuntime) {
     let full = BookError::RecordsFull { count: 65_536 };
-    assert!(rt; of_most_records(rt.alloc()) == Some((full, true)));
-    assert!(rt; base_refused(rt.alloc(), 65_536, 0) == Some(full));
+    let of_book = of_most_records(rt.alloc()) == Some((full, true));
+    let of_base = base_refused(rt.alloc(), 65_536, 0) == Some(full);
+    assert!(rt; of_book & of_base);
 }
 
 /// What a book of 268435456 octets answers to a record of one more, and to a body in which there is

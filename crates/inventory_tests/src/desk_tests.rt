@@ -96,8 +96,9 @@ fn deletes_2_once(book: &mut Book) -> bool {
 
 #[test]
 fn a_desk_takes_changes(rt: HostRuntime) {
-    assert!(rt; creates_and_alters(rt.alloc()) == Some(true));
-    assert!(rt; deletes(rt.alloc()) == Some(true));
+    let altered = creates_and_alters(rt.alloc()) == Some(true);
+    let deleted = deletes(rt.alloc()) == Some(true);
+    assert!(rt; altered & deleted);
 }
 
 const POINT: Point = Point { epoch: 1, eid: 6 };

@@ -39,9 +39,10 @@ fn adopts_up_to_65536_records(rt: HostRuntime) {
         count: 65537,
         octets: 0,
     };
-    assert!(rt; answer_to(rt.alloc(), 65535, 65535) == Some(Taken::Adopted));
-    assert!(rt; answer_to(rt.alloc(), 65536, 65536) == Some(large));
-    assert!(rt; answer_to(rt.alloc(), 65536, 3) == Some(Taken::Doubled { id: 3 }));
+    let adopted = answer_to(rt.alloc(), 65535, 65535) == Some(Taken::Adopted);
+    let one_more = answer_to(rt.alloc(), 65536, 65536) == Some(large);
+    let doubled = answer_to(rt.alloc(), 65536, 3) == Some(Taken::Doubled { id: 3 });
+    assert!(rt; adopted & one_more & doubled);
 }
 
 /// A record more at the event 2, with a locator of one octet, and one less at the event 3, whose

@@ -122,19 +122,20 @@ fn records_go_and_others_stay(rt: HostRuntime) {
         (Creation, 40, b'd'),
         (Deletion, 40, b'd'),
     ];
-    assert!(rt; makes(rt.alloc(), &changes, &[(20, b'b'), (30, b'C')]) == Some(true));
+    let two_go = makes(rt.alloc(), &changes, &[(20, b'b'), (30, b'C')]) == Some(true);
     let changes = [
         (Deletion, 30, b'c'),
         (Creation, 15, b'x'),
         (Deletion, 10, b'a'),
     ];
-    assert!(rt; makes(rt.alloc(), &changes, &[(15, b'x'), (20, b'b')]) == Some(true));
+    let one_comes = makes(rt.alloc(), &changes, &[(15, b'x'), (20, b'b')]) == Some(true);
     let changes = [
         (Deletion, 10, b'a'),
         (Deletion, 30, b'c'),
         (Deletion, 20, b'b'),
     ];
-    assert!(rt; makes(rt.alloc(), &changes, &[]) == Some(true));
+    let all_go = makes(rt.alloc(), &changes, &[]) == Some(true);
+    assert!(rt; two_go & one_comes & all_go);
 }
 
 #[test]
@@ -145,7 +146,7 @@ fn a_record_comes_again(rt: HostRuntime) {
         (Alteration, 20, b'Z'),
     ];
     let wanted = [(10, b'a'), (20, b'Z'), (30, b'c')];
-    assert!(rt; makes(rt.alloc(), &changes, &wanted) == Some(true));
+    let held = makes(rt.alloc(), &changes, &wanted) == Some(true);
     let changes = [
         (Creation, 40, b'd'),
         (Deletion, 40, b'd'),
@@ -153,7 +154,8 @@ fn a_record_comes_again(rt: HostRuntime) {
         (Deletion, 30, b'c'),
     ];
     let wanted = [(10, b'a'), (20, b'b'), (40, b'e')];
-    assert!(rt; makes(rt.alloc(), &changes, &wanted) == Some(true));
+    let created = makes(rt.alloc(), &changes, &wanted) == Some(true);
+    assert!(rt; held & created);
 }
 
 /// The events 2 to 4097: 4,095 that create records, in falling order of their identifiers, and the

@@ -72,11 +72,14 @@ fn are_all(messages: &[Message]) -> bool {
     messages.len() == 5
 }
 
+/// Whether a copy of the messages has all of them.
+fn are_copied(alloc: Global) -> Result<bool, Memory> {
+    let copy = messages(alloc)?.copy()?;
+    Ok(are_all(copy.as_slice()))
+}
+
 #[test]
 fn messages_are_copied(rt: HostRuntime) -> Result<(), Fail> {
-    let copy = messages(rt.alloc())?.copy()?;
-    let are_copied = are_all(copy.as_slice());
-    drop(copy);
-    assert!(rt; are_copied);
+    assert!(rt; are_copied(rt.alloc())?);
     Ok(())
 }

@@ -27,18 +27,20 @@ fn takes_up_to<L: Limit>(alloc: Global, length: usize) -> Result<bool, LongRefus
 
 #[test]
 fn octets_are_taken_up_to_the_limit(rt: HostRuntime) {
-    assert!(rt; takes_up_to::<IdentLimit>(rt.alloc(), 65_535) == Ok(true));
-    assert!(rt; takes_up_to::<LocatorLimit>(rt.alloc(), 65_535) == Ok(true));
-    assert!(rt; takes_up_to::<BodyLimit>(rt.alloc(), 1_048_576) == Ok(true));
+    let idents = takes_up_to::<IdentLimit>(rt.alloc(), 65_535) == Ok(true);
+    let locators = takes_up_to::<LocatorLimit>(rt.alloc(), 65_535) == Ok(true);
+    let bodies = takes_up_to::<BodyLimit>(rt.alloc(), 1_048_576) == Ok(true);
+    assert!(rt; idents & locators & bodies);
 }
 
 #[test]
 fn octets_past_the_limit_are_refused(rt: HostRuntime) {
     let long = Err(LongRefused::TooLong { len: 65_536 });
-    assert!(rt; takes::<IdentLimit>(rt.alloc(), 65_536) == long);
-    assert!(rt; takes::<LocatorLimit>(rt.alloc(), 65_536) == long);
+    let idents = takes::<IdentLimit>(rt.alloc(), 65_536) == long;
+    let locators = takes::<LocatorLimit>(rt.alloc(), 65_536) == long;
     let long = Err(LongRefused::TooLong { len: 1_048_577 });
-    assert!(rt; takes::<BodyLimit>(rt.alloc(), 1_048_577) == long);
+    let bodies = takes::<BodyLimit>(rt.alloc(), 1_048_577) == long;
+    assert!(rt; idents & locators & bodies);
 }
 
 /// Whether of two the greater is found, by each of the ways to compare them.
@@ -51,9 +53,10 @@ fn compares<L: Limit>(alloc: Global) -> Result<bool, LongRefused> {
 
 #[test]
 fn octets_are_compared_one_by_one(rt: HostRuntime) {
-    assert!(rt; compares::<IdentLimit>(rt.alloc()) == Ok(true));
-    assert!(rt; compares::<LocatorLimit>(rt.alloc()) == Ok(true));
-    assert!(rt; compares::<BodyLimit>(rt.alloc()) == Ok(true));
+    let idents = compares::<IdentLimit>(rt.alloc()) == Ok(true);
+    let locators = compares::<LocatorLimit>(rt.alloc()) == Ok(true);
+    let bodies = compares::<BodyLimit>(rt.alloc()) == Ok(true);
+    assert!(rt; idents & locators & bodies);
 }
 
 /// Whether octets that are known to be few are taken, and none too.
@@ -78,6 +81,7 @@ fn says(alloc: Global, refused: LongRefused, wanted: &str) -> bool {
 #[test]
 fn refusals_say_what_happened(rt: HostRuntime) {
     let long = LongRefused::TooLong { len: 65_536 };
-    assert!(rt; says(rt.alloc(), long, "65536 octets are too many"));
-    assert!(rt; says(rt.alloc(), LongRefused::Memory, "out of memory"));
+    let too_long = says(rt.alloc(), long, "65536 octets are too many");
+    let memory = says(rt.alloc(), LongRefused::Memory, "out of memory");
+    assert!(rt; too_long & memory);
 }

@@ -152,12 +152,18 @@ fn is_copied_content(record: Record) -> Result<bool, Memory> {
     Ok(is_record(&Record { id: 7, content }, 7, b"swid"))
 }
 
+/// Whether copies of parts that own no memory equal them.
+fn plain_parts_are_copied() -> Result<bool, Memory> {
+    let parts = (MODEL.copy()?, Kind::Ids.copy()?, POINT.copy()?);
+    let action = Action::Alteration.copy()?;
+    Ok((parts == (MODEL, Kind::Ids, POINT)) & (action == Action::Alteration))
+}
+
 #[test]
 fn parts_of_reports_are_copied(rt: HostRuntime) -> Result<(), Fail> {
-    assert!(rt; is_copied_content(record(rt.alloc(), 7, b"swid")?)?);
-    let parts = (MODEL.copy()?, Kind::Ids.copy()?, POINT.copy()?);
-    assert!(rt; parts == (MODEL, Kind::Ids, POINT));
-    assert!(rt; Action::Alteration.copy()? == Action::Alteration);
+    let content = is_copied_content(record(rt.alloc(), 7, b"swid")?)?;
+    let plain = plain_parts_are_copied()?;
+    assert!(rt; content & plain);
     Ok(())
 }
 
@@ -185,14 +191,12 @@ fn event_sizes(event: Event) -> (u64, u64) {
 #[test]
 fn sizes_are_those_of_the_layouts(rt: HostRuntime) -> Result<(), Fail> {
     let alloc = rt.alloc();
-    let of_record = record_sizes(record(alloc, 7, b"swid")?);
-    assert!(rt; of_record == (4 + 4 + 19, 14 + 4 + 4, 18 + 4 + 4 + 19));
-    let of_event = event_sizes(event(alloc, 8, Action::Creation)?);
-    assert!(rt; of_event == (38 + 4 + 4, 42 + 4 + 4 + 19));
-    let of_records = size(inventory(alloc)?);
-    assert!(rt; of_records == 16 + 18 + 5 + 4 + 19 + 18 + 6 + 4 + 19);
-    let of_events = size(events(alloc)?);
-    assert!(rt; of_events == 20 + 3 * (38 + 4 + 4));
+    let of_record = record_sizes(record(alloc, 7, b"swid")?)
+        == (4 + 4 + 19, 14 + 4 + 4, 18 + 4 + 4 + 19);
+    let of_event = event_sizes(event(alloc, 8, Action::Creation)?) == (38 + 4 + 4, 42 + 4 + 4 + 19);
+    let of_records = size(inventory(alloc)?) == 16 + 18 + 5 + 4 + 19 + 18 + 6 + 4 + 19;
+    let of_events = size(events(alloc)?) == 20 + 3 * (38 + 4 + 4);
+    assert!(rt; of_record & of_event & of_records & of_events);
     Ok(())
 }
 
@@ -203,24 +207,34 @@ fn fulfils(report: Report) -> bool {
     }
 }
 
-#[test]
-fn a_fulfilling_report_has_the_flag_set(rt: HostRuntime) {
+/// Whether an inventory without the flag has it once it is to fulfil.
+fn inventory_fulfils(alloc: Global) -> bool {
     let inventory = Report::Inventory {
         kind: Kind::Full,
         fulfil: false,
         id: 11,
         point: POINT,
-        records: List::new(rt.alloc()),
+        records: List::new(alloc),
     };
-    let of_records = fulfils(inventory.fulfilling());
+    fulfils(inventory.fulfilling())
+}
+
+/// Whether events without the flag have it once they are to fulfil.
+fn events_fulfil(alloc: Global) -> bool {
     let events = Report::Events {
         kind: Kind::Ids,
         fulfil: false,
         id: 12,
         point: POINT,
         consulted: 4,
-        events: List::new(rt.alloc()),
+        events: List::new(alloc),
     };
-    let of_events = fulfils(events.fulfilling());
+    fulfils(events.fulfilling())
+}
+
+#[test]
+fn a_fulfilling_report_has_the_flag_set(rt: HostRuntime) {
+    let of_records = inventory_fulfils(rt.alloc());
+    let of_events = events_fulfil(rt.alloc());
     assert!(rt; of_records & of_events);
 }

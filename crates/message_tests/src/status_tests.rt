@@ -98,15 +98,16 @@ fn is_read(alloc: Global, octets: &[u8]) -> Result<bool, FieldRefused> {
 
 #[test]
 fn subscriptions_are_read(rt: HostRuntime) {
-    assert!(rt; is_read(rt.alloc(), &TWO) == Ok(true));
-    assert!(rt; is_read(rt.alloc(), &TWO[..37]) == Err(FieldRefused::Fault { offset: 35 }));
+    let whole = is_read(rt.alloc(), &TWO) == Ok(true);
+    let cut = is_read(rt.alloc(), &TWO[..37]) == Err(FieldRefused::Fault { offset: 35 });
+    assert!(rt; whole & cut);
 }
 
 /// The numbers that RFC 8412 gives to the messages and attributes, in sections 5.1 and 5.2.
 #[test]
 fn attributes_have_the_numbers_of_the_rfc(rt: HostRuntime) {
-    assert!(rt; SWIMA_ATTRIBUTES == 9);
-    assert!(rt; SWIMA_REQUEST == 13);
-    assert!(rt; SUBSCRIPTION_STATUS_REQUEST == 18);
-    assert!(rt; SUBSCRIPTION_STATUS_RESPONSE == 19);
+    let messages = SWIMA_ATTRIBUTES == 9;
+    let requests = (SWIMA_REQUEST == 13) & (SUBSCRIPTION_STATUS_REQUEST == 18);
+    let responses = SUBSCRIPTION_STATUS_RESPONSE == 19;
+    assert!(rt; messages & requests & responses);
 }

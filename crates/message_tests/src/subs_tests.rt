@@ -38,51 +38,68 @@ fn first_place(subs: &Subs) -> Option<Point> {
     subs.get(0)?.place
 }
 
+/// Whether a request is taken, and its subscription is then the only one, and has no place.
+fn is_taken_without_a_place(alloc: Global) -> bool {
+    let mut subs = Subs::new(alloc);
+    let taken = subs.apply(&request(alloc, false, true, 5)) == SubAnswer::Taken;
+    let is_one = subs.len() == 1;
+    let no_place = first_place(&subs).is_none();
+    taken & is_one & no_place & (first_told(alloc, &subs) == Some((5, 1)))
+}
+
 #[test]
 fn a_subscription_is_taken_without_a_place(rt: HostRuntime) {
-    let alloc = rt.alloc();
-    let mut subs = Subs::new(alloc);
-    assert!(rt; subs.apply(&request(alloc, false, true, 5)) == SubAnswer::Taken);
-    assert!(rt; subs.len() == 1);
-    assert!(rt; first_place(&subs).is_none());
-    assert!(rt; first_told(alloc, &subs) == Some((5, 1)));
+    assert!(rt; is_taken_without_a_place(rt.alloc()));
+}
+
+/// Whether an ID that is held is refused, and is taken once all subscriptions were ended.
+fn is_refused_while_held(alloc: Global) -> bool {
+    let mut subs = established(alloc, 5);
+    let reused = subs.apply(&request(alloc, false, true, 5)) == SubAnswer::Reused { id: 5 };
+    let stay = subs.len() == 5;
+    let taken = subs.apply(&request(alloc, true, true, 5)) == SubAnswer::Taken;
+    reused & stay & taken & (first_told(alloc, &subs) == Some((5, 1)))
 }
 
 #[test]
 fn an_id_that_is_held_is_refused(rt: HostRuntime) {
-    let alloc = rt.alloc();
-    let mut subs = established(alloc, 5);
-    assert!(rt; subs.apply(&request(alloc, false, true, 5)) == SubAnswer::Reused { id: 5 });
-    assert!(rt; subs.len() == 5);
-    assert!(rt; subs.apply(&request(alloc, true, true, 5)) == SubAnswer::Taken);
-    assert!(rt; first_told(alloc, &subs) == Some((5, 1)));
+    assert!(rt; is_refused_while_held(rt.alloc()));
+}
+
+/// Whether a seventeenth is denied and the sixteen stay, until a request ends them all.
+fn is_denied_beside_sixteen(alloc: Global) -> bool {
+    let mut subs = established(alloc, 16);
+    let were_full = subs.len() == 16;
+    let denied = subs.apply(&request(alloc, false, true, 17)) == SubAnswer::Denied { held: 16 };
+    let taken = subs.apply(&request(alloc, false, false, 17)) == SubAnswer::Taken;
+    let stay = subs.len() == 16;
+    let ended = subs.apply(&request(alloc, true, false, 17)) == SubAnswer::Taken;
+    were_full & denied & taken & stay & ended & subs.is_empty()
 }
 
 #[test]
 fn a_seventeenth_is_denied(rt: HostRuntime) {
-    let alloc = rt.alloc();
-    let mut subs = established(alloc, 16);
-    assert!(rt; subs.len() == 16);
-    assert!(rt; subs.apply(&request(alloc, false, true, 17)) == SubAnswer::Denied { held: 16 });
-    assert!(rt; subs.apply(&request(alloc, false, false, 17)) == SubAnswer::Taken);
-    assert!(rt; subs.len() == 16);
-    assert!(rt; subs.apply(&request(alloc, true, false, 17)) == SubAnswer::Taken);
-    assert!(rt; subs.is_empty());
+    assert!(rt; is_denied_beside_sixteen(rt.alloc()));
+}
+
+/// Whether reports on two of three subscriptions set the places of these two alone.
+fn sets_the_place_of_its_own(alloc: Global) -> bool {
+    let mut subs = established(alloc, 3);
+    let point = Point { epoch: 7, eid: 4 };
+    subs.reported(2, point);
+    let not_yet = first_place(&subs).is_none();
+    subs.reported(1, point);
+    let first = first_place(&subs) == Some(point);
+    subs.end(1);
+    let second = first_place(&subs) == Some(point);
+    subs.end(2);
+    let third = first_place(&subs).is_none();
+    not_yet & first & second & third & (subs.len() == 1)
 }
 
 #[test]
 fn a_report_sets_the_place_of_its_own(rt: HostRuntime) {
-    let mut subs = established(rt.alloc(), 3);
-    let point = Point { epoch: 7, eid: 4 };
-    subs.reported(2, point);
-    assert!(rt; first_place(&subs).is_none());
-    subs.reported(1, point);
-    assert!(rt; first_place(&subs) == Some(point));
-    subs.end(1);
-    assert!(rt; first_place(&subs) == Some(point));
-    subs.end(2);
-    assert!(rt; first_place(&subs).is_none());
-    assert!(rt; subs.len() == 1);
+    assert!(rt; sets_the_place_of_its_own(rt.alloc()));
 }
 
 /// The event identifier from which on the first subscription asks; `None` where memory ran out.
@@ -91,12 +108,17 @@ fn asked_from(subs: &Subs, place: Point, now: Point) -> Option<(bool, u32)> {
     Some((next.subscribe, next.earliest))
 }
 
-#[test]
-fn the_next_request_asks_for_what_came_after(rt: HostRuntime) {
-    let subs = established(rt.alloc(), 1);
+/// Whether the next request asks from the event after a place on, and from 0 in another epoch.
+fn asks_for_what_came_after(alloc: Global) -> bool {
+    let subs = established(alloc, 1);
     let place = Point { epoch: 7, eid: 4 };
     let later = Point { epoch: 7, eid: 6 };
     let other = Point { epoch: 8, eid: 6 };
-    assert!(rt; asked_from(&subs, place, later) == Some((false, 5)));
-    assert!(rt; asked_from(&subs, place, other) == Some((false, 0)));
+    let after = asked_from(&subs, place, later) == Some((false, 5));
+    after & (asked_from(&subs, place, other) == Some((false, 0)))
+}
+
+#[test]
+fn the_next_request_asks_for_what_came_after(rt: HostRuntime) {
+    assert!(rt; asks_for_what_came_after(rt.alloc()));
 }

@@ -157,10 +157,11 @@ fn two_inventories_are_followed(rt: HostRuntime) -> Result<(), Fail> {
 
 #[test]
 fn a_door_that_fails_is_a_fault(rt: HostRuntime) -> Result<(), Fail> {
-    let collected = "door 1 failed\nswept 0 0 0 0\nbook 7 0 0\n";
-    assert!(rt; prints_of_no_link(rt.alloc(), &rt, &COLLECT, (3, collected))?);
-    let followed = "door 1 failed\nendpoint 1\nmirror none\n";
-    assert!(rt; prints_of_no_link(rt.alloc(), &rt, &["follow", "a"], (3, followed))?);
+    let text = "door 1 failed\nswept 0 0 0 0\nbook 7 0 0\n";
+    let collects = prints_of_no_link(rt.alloc(), &rt, &COLLECT, (3, text))?;
+    let text = "door 1 failed\nendpoint 1\nmirror none\n";
+    let follows = prints_of_no_link(rt.alloc(), &rt, &["follow", "a"], (3, text))?;
+    assert!(rt; collects & follows);
     Ok(())
 }
 
@@ -173,7 +174,8 @@ fn a_torn_session_is_a_finding(rt: HostRuntime) -> Result<(), Fail> {
 
 #[test]
 fn an_output_that_fails_is_a_fault(rt: HostRuntime) -> Result<(), Fail> {
-    assert!(rt; fails(rt.alloc(), &rt, &COLLECT, VALIDATOR, 3)?);
-    assert!(rt; fails(rt.alloc(), &rt, &["follow", "a"], COLLECTOR, 3)?);
+    let collects = fails(rt.alloc(), &rt, &COLLECT, VALIDATOR, 3)?;
+    let follows = fails(rt.alloc(), &rt, &["follow", "a"], COLLECTOR, 3)?;
+    assert!(rt; collects & follows);
     Ok(())
 }

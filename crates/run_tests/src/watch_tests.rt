@@ -53,7 +53,8 @@ fn told<R: Threads + Wait + Sync>(
 #[test]
 fn a_watch_is_told_of_sessions_and_sweeps(rt: HostRuntime) -> Result<(), Fail> {
     let collect = ["collect", "--listen", "a", "--epoch", "7", "--workers", "2"];
-    assert!(rt; told(rt.alloc(), &rt, &collect)? == (2, 1));
-    assert!(rt; told(rt.alloc(), &rt, &["follow", "a", "b"])? == (2, 0));
+    let of_collect = told(rt.alloc(), &rt, &collect)? == (2, 1);
+    let of_follow = told(rt.alloc(), &rt, &["follow", "a", "b"])? == (2, 0);
+    assert!(rt; of_collect & of_follow);
     Ok(())
 }

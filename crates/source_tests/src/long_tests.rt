@@ -43,8 +43,9 @@ fn waits(alloc: Global, letters: usize) -> Result<bool, Memory> {
 
 #[test]
 fn a_line_has_at_most_4194304_octets(rt: HostRuntime) -> Result<(), Memory> {
-    assert!(rt; waits(rt.alloc(), 4_194_304)?);
-    assert!(rt; is_long(rt.alloc(), 4_194_305)?);
+    let longest = waits(rt.alloc(), 4_194_304)?;
+    let longer = is_long(rt.alloc(), 4_194_305)?;
+    assert!(rt; longest & longer);
     Ok(())
 }
 

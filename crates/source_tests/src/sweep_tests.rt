@@ -19,21 +19,31 @@ fn leaves_nothing(mut set: SourceSet, mut book: Book) -> bool {
     first & left & sweeps(&mut set, &mut book, counts(0, 0, 0, 0), Ok(()))
 }
 
+/// What `leaves_nothing` answers for two listed sources.
+fn listed_leaves_nothing(alloc: Global) -> Result<bool, Memory> {
+    let one = [Step::Add(1, b'a'), Step::Ended];
+    let set = set_of_two(alloc, &one, &[Step::Gone(4)])?;
+    Ok(leaves_nothing(set, empty_book(alloc)?))
+}
+
 #[test]
 fn an_ended_source_leaves_nothing(rt: HostRuntime) -> Result<(), Memory> {
-    let one = [Step::Add(1, b'a'), Step::Ended];
-    let set = set_of_two(rt.alloc(), &one, &[Step::Gone(4)])?;
-    assert!(rt; leaves_nothing(set, empty_book(rt.alloc())?));
+    assert!(rt; listed_leaves_nothing(rt.alloc())?);
     Ok(())
 }
 
 /// A tag's line, and the end.
 const ADD_AND_END: &[u8] = b"add 1 /opt/a da53574944a400616101616202a2181f61631821010c00\nend\n";
 
+/// What `leaves_nothing` answers for two sources of lines.
+fn lines_leave_nothing(alloc: Global) -> Result<bool, Memory> {
+    let set = set_of_two_lines(alloc, ADD_AND_END, b"gone 4\n")?;
+    Ok(leaves_nothing(set, empty_book(alloc)?))
+}
+
 #[test]
 fn lines_that_end_leave_nothing(rt: HostRuntime) -> Result<(), Memory> {
-    let set = set_of_two_lines(rt.alloc(), ADD_AND_END, b"gone 4\n")?;
-    assert!(rt; leaves_nothing(set, empty_book(rt.alloc())?));
+    assert!(rt; lines_leave_nothing(rt.alloc())?);
     Ok(())
 }
 
@@ -54,26 +64,36 @@ fn goes_on(mut set: SourceSet, mut book: Book, source: u8, letter: u8) -> bool {
     quiet & changed & gone & is_at(&book, 3, 0)
 }
 
-#[test]
-fn a_source_goes_on_where_it_was_quiet(rt: HostRuntime) -> Result<(), Memory> {
+/// What `goes_on` answers for a listed source after an empty one.
+fn listed_goes_on(alloc: Global) -> Result<bool, Memory> {
     let steps = [
         Step::Add(1, b'a'),
         Step::Add(1, b'b'),
         Step::Quiet,
         Step::Gone(1),
     ];
-    let set = set_of_two(rt.alloc(), &[], &steps)?;
-    assert!(rt; goes_on(set, empty_book(rt.alloc())?, 1, b'b'));
+    let set = set_of_two(alloc, &[], &steps)?;
+    Ok(goes_on(set, empty_book(alloc)?, 1, b'b'))
+}
+
+#[test]
+fn a_source_goes_on_where_it_was_quiet(rt: HostRuntime) -> Result<(), Memory> {
+    assert!(rt; listed_goes_on(rt.alloc())?);
     Ok(())
 }
 
 /// Lines of one record, which comes, changes and goes.
 const COMES_AND_GOES: &[u8] = b"xml 1 i \\e -\nxml 1 j \\e 00\nquiet\ngone 1\n";
 
+/// What `goes_on` answers for a source of lines.
+fn lines_go_on(alloc: Global) -> Result<bool, Memory> {
+    let set = set_of_lines(alloc, COMES_AND_GOES)?;
+    Ok(goes_on(set, empty_book(alloc)?, 0, b'j'))
+}
+
 #[test]
 fn lines_go_on_where_they_were_quiet(rt: HostRuntime) -> Result<(), Memory> {
-    let set = set_of_lines(rt.alloc(), COMES_AND_GOES)?;
-    assert!(rt; goes_on(set, empty_book(rt.alloc())?, 0, b'j'));
+    assert!(rt; lines_go_on(rt.alloc())?);
     Ok(())
 }
 
@@ -86,11 +106,16 @@ fn stops_and_goes_on(mut set: SourceSet, mut book: Book) -> bool {
     first & stopped & then & is_at(&book, 3, 2)
 }
 
+/// What `stops_and_goes_on` answers for two listed sources.
+fn listed_stops_and_goes_on(alloc: Global) -> Result<bool, Memory> {
+    let one = [Step::Add(1, b'a'), Step::Failed, Step::Change(1, b'b')];
+    let set = set_of_two(alloc, &one, &[Step::Add(1, b'c')])?;
+    Ok(stops_and_goes_on(set, empty_book(alloc)?))
+}
+
 #[test]
 fn a_failed_source_stops_the_sweep(rt: HostRuntime) -> Result<(), Memory> {
-    let one = [Step::Add(1, b'a'), Step::Failed, Step::Change(1, b'b')];
-    let set = set_of_two(rt.alloc(), &one, &[Step::Add(1, b'c')])?;
-    assert!(rt; stops_and_goes_on(set, empty_book(rt.alloc())?));
+    assert!(rt; listed_stops_and_goes_on(rt.alloc())?);
     Ok(())
 }
 
@@ -105,16 +130,21 @@ fn keeps_the_item_alone(mut set: SourceSet, mut book: Book) -> bool {
         & sweeps(&mut set, &mut book, counts(1, 0, 0, 0), Ok(()))
 }
 
-#[test]
-fn what_is_no_item_is_not_kept(rt: HostRuntime) -> Result<(), Memory> {
+/// What `keeps_the_item_alone` answers for a listed source.
+fn listed_keeps_the_item_alone(alloc: Global) -> Result<bool, Memory> {
     let steps = [
         Step::Bad(7),
         Step::Memory,
         Step::Change(2, b'a'),
         Step::Add(2, b'a'),
     ];
-    let set = set_of(rt.alloc(), &steps)?;
-    assert!(rt; keeps_the_item_alone(set, empty_book(rt.alloc())?));
+    let set = set_of(alloc, &steps)?;
+    Ok(keeps_the_item_alone(set, empty_book(alloc)?))
+}
+
+#[test]
+fn what_is_no_item_is_not_kept(rt: HostRuntime) -> Result<(), Memory> {
+    assert!(rt; listed_keeps_the_item_alone(rt.alloc())?);
     Ok(())
 }
 
@@ -140,10 +170,15 @@ fn takes_1024(mut set: SourceSet, mut book: Book) -> bool {
         & sweeps(&mut set, &mut book, counts(0, 1, 0, 0), Ok(()))
 }
 
+/// What `takes_1024` answers for a source of 1025 items.
+fn takes_1024_of_1025(alloc: Global) -> Result<bool, Memory> {
+    let set = set_of_1025(alloc)?;
+    Ok(takes_1024(set, empty_book(alloc)?))
+}
+
 #[test]
 fn a_sweep_takes_1024_items_of_a_source(rt: HostRuntime) -> Result<(), Memory> {
-    let set = set_of_1025(rt.alloc())?;
-    assert!(rt; takes_1024(set, empty_book(rt.alloc())?));
+    assert!(rt; takes_1024_of_1025(rt.alloc())?);
     Ok(())
 }
 
@@ -184,9 +219,14 @@ fn is_done_next_time(mut set: SourceSet, mut book: Book) -> bool {
     refused & deleted & sweeps(&mut set, &mut book, counts(1, 0, 0, 0), Ok(()))
 }
 
+/// What `is_done_next_time` answers for a source of one item and a full book.
+fn item_is_done_next_time(alloc: Global) -> Result<bool, Memory> {
+    let set = set_of(alloc, &[Step::Add(1, b'a')])?;
+    Ok(is_done_next_time(set, full_book(alloc)?))
+}
+
 #[test]
 fn a_refused_item_is_done_next_time(rt: HostRuntime) -> Result<(), Memory> {
-    let set = set_of(rt.alloc(), &[Step::Add(1, b'a')])?;
-    assert!(rt; is_done_next_time(set, full_book(rt.alloc())?));
+    assert!(rt; item_is_done_next_time(rt.alloc())?);
     Ok(())
 }

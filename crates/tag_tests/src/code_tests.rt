@@ -21,10 +21,17 @@ fn a_relation_is_a_number_or_its_name(rt: HostRuntime) -> Result<(), Fail> {
     Ok(())
 }
 
+/// Whether the number is the relation.
+fn is_number(rel: Rel, number: i64) -> bool {
+    let code = CodeValue::Int(number);
+    rel.is(&code)
+}
+
 #[test]
 fn a_relation_has_one_number(rt: HostRuntime) {
-    assert!(rt; Rel::Patches.is(&CodeValue::Int(7)));
-    assert!(rt; Rel::Requires.is(&CodeValue::Int(8)));
-    assert!(rt; Rel::Supplemental.is(&CodeValue::Int(11)));
-    assert!(rt; !Rel::Requires.is(&CodeValue::Int(-8)));
+    let patches = is_number(Rel::Patches, 7);
+    let required = is_number(Rel::Requires, 8);
+    let supplemental = is_number(Rel::Supplemental, 11);
+    let other_number = is_number(Rel::Requires, -8);
+    assert!(rt; patches && required && supplemental && !other_number);
 }

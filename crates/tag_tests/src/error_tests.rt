@@ -14,12 +14,16 @@ fn says<E: Display + Drop>(alloc: Global, refused: E, text: &str) -> Result<bool
     Ok(refused.to_string(alloc)?.as_str() == text)
 }
 
-/// The file at the index 0 in a payload has no name.
+/// Whether the fault of a payload whose file at the index 0 has no name says its path.
+fn says_its_path(alloc: Global) -> Result<bool, Fail> {
+    let file = FormRefused::with_place(alloc, FormFaultKind::MissingKey, 24).under(0);
+    says(alloc, file.under(17).under(6), "missing key at 6/17/0/24")
+}
+
 #[test]
 fn a_form_fault_says_its_path(rt: HostRuntime) -> Result<(), Fail> {
     let alloc = rt.alloc();
-    let file = FormRefused::with_place(alloc, FormFaultKind::MissingKey, 24).under(0);
-    let path = says(alloc, file.under(17).under(6), "missing key at 6/17/0/24")?;
+    let path = says_its_path(alloc)?;
     let item = says(
         alloc,
         FormRefused::new(alloc, FormFaultKind::Both),

@@ -117,12 +117,10 @@ fn each_finding_between_tags_has_a_name(rt: HostRuntime) -> Result<(), Fail> {
 
 #[test]
 fn other_numbers_have_no_kind(rt: HostRuntime) {
-    assert!(rt;
-        CborFaultKind::from_number(0).is_none() && CborFaultKind::from_number(10).is_none()
-    );
-    assert!(rt; FormFaultKind::from_number(0).is_none() && FormFaultKind::from_number(5).is_none());
-    assert!(rt; FindingKind::from_number(0).is_none() && FindingKind::from_number(7).is_none());
-    assert!(rt;
-        LinkFindingKind::from_number(0).is_none() && LinkFindingKind::from_number(5).is_none()
-    );
+    let items = CborFaultKind::from_number(0).is_none() & CborFaultKind::from_number(10).is_none();
+    let forms = FormFaultKind::from_number(0).is_none() & FormFaultKind::from_number(5).is_none();
+    let tags = FindingKind::from_number(0).is_none() & FindingKind::from_number(7).is_none();
+    let links = LinkFindingKind::from_number(0).is_none()
+        & LinkFindingKind::from_number(5).is_none();
+    assert!(rt; items & forms & tags & links);
 }

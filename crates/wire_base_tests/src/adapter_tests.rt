@@ -21,7 +21,7 @@ fn pair(rt: &HostRuntime) -> io::Result<(TcpLink<TcpStream>, TcpStream)> {
     let listener = TcpListener::bind(rt, "127.0.0.1:0")?;
     let peer = TcpStream::connect(rt, listener.local_addr()?)?;
     let (stream, _) = listener.accept()?;
-    match TcpLink::set_up(stream, NonZeroU32::MIN) {
+    match TcpLink::from_stream(stream, NonZeroU32::MIN) {
         Ok(link) => Ok((link, peer)),
         Err(Failed) => Err(io::Error::from(ErrorKind::Other)),
     }
@@ -78,6 +78,18 @@ fn reset(rt: &HostRuntime) -> io::Result<TcpLink<TcpStream>> {
     Ok(link)
 }
 
+/// Whether a write to a link that was reset fails.
+fn does_not_give(rt: &HostRuntime) -> io::Result<bool> {
+    let mut link = reset(rt)?;
+    Ok(link.give(b"abc") == Err(Failed))
+}
+
+/// Whether a read of a link that was reset fails.
+fn does_not_take(rt: &HostRuntime) -> io::Result<bool> {
+    let mut link = reset(rt)?;
+    Ok(answers(&mut link, Took::Failed))
+}
+
 /// Whether writes to a link whose other end reads nothing fail at last.
 fn is_full(rt: &HostRuntime) -> io::Result<bool> {
     let (mut link, _peer) = pair(rt)?;
@@ -92,17 +104,19 @@ fn is_full(rt: &HostRuntime) -> io::Result<bool> {
 
 #[test]
 fn octets_pass_and_ends_are_seen(rt: HostRuntime) -> Result<(), Fail> {
-    assert!(rt; passes_octets(&rt)?);
-    assert!(rt; ends_at_once(&rt)?);
-    assert!(rt; ends_after_octets(&rt)?);
+    let passed = passes_octets(&rt)?;
+    let at_once = ends_at_once(&rt)?;
+    let after_octets = ends_after_octets(&rt)?;
+    assert!(rt; passed & at_once & after_octets);
     Ok(())
 }
 
 #[test]
 fn a_reset_and_a_full_link_are_faults(rt: HostRuntime) -> Result<(), Fail> {
-    assert!(rt; reset(&rt)?.give(b"abc") == Err(Failed));
-    assert!(rt; answers(&mut reset(&rt)?, Took::Failed));
-    assert!(rt; is_full(&rt)?);
+    let at_write = does_not_give(&rt)?;
+    let at_read = does_not_take(&rt)?;
+    let full = is_full(&rt)?;
+    assert!(rt; at_write & at_read & full);
     Ok(())
 }
 
@@ -134,10 +148,16 @@ fn is_idle_and_fails(mut link: TcpLink<Interrupted>) -> bool {
     idle & (link.give(b"abc") == Err(Failed)) & (link.faults() == 1)
 }
 
+/// Whether no link is set up where the system refuses the settings.
+fn is_not_set_up() -> bool {
+    TcpLink::from_stream(Interrupted, NonZeroU32::MIN).is_err()
+}
+
 #[test]
 fn an_interrupted_read_is_idle_and_a_write_fails(rt: HostRuntime) {
-    assert!(rt; is_idle_and_fails(TcpLink::new(Interrupted)));
-    assert!(rt; TcpLink::set_up(Interrupted, NonZeroU32::MIN).is_err());
+    let interrupted = is_idle_and_fails(TcpLink::new(Interrupted));
+    let refused = is_not_set_up();
+    assert!(rt; interrupted & refused);
 }
 
 /// Whether a link comes at the door. It goes back.
@@ -214,10 +234,11 @@ fn fail_at_no_address(rt: &HostRuntime) -> bool {
 
 #[test]
 fn doors_hand_out_links_or_fail(rt: HostRuntime) -> Result<(), Fail> {
-    assert!(rt; comes_to_both(&rt)?);
-    assert!(rt; is_taken(&rt)?);
-    assert!(rt; dials(&rt)?);
-    assert!(rt; fail_at_no_address(&rt));
+    let both = comes_to_both(&rt)?;
+    let in_use = is_taken(&rt)?;
+    let dialled = dials(&rt)?;
+    let no_address = fail_at_no_address(&rt);
+    assert!(rt; both & in_use & dialled & no_address);
     Ok(())
 }
 
@@ -241,8 +262,9 @@ fn is_missing(rt: &HostRuntime) -> bool {
 
 #[test]
 fn files_are_read_or_fail(rt: HostRuntime) -> Result<(), Fail> {
-    assert!(rt; is_read(&rt)?);
-    assert!(rt; is_missing(&rt));
+    let read = is_read(&rt)?;
+    let missing = is_missing(&rt);
+    assert!(rt; read & missing);
     Ok(())
 }
 
@@ -284,9 +306,8 @@ fn two_moments<C: Clock>(clock: &mut C) -> (u64, u64) {
 
 #[test]
 fn clocks_give_seconds(rt: HostRuntime) {
-    let last_again = two_moments(&mut SystemClock::new(Once::new(Some(5))));
-    assert!(rt; last_again == (5, 5));
-    let none_at_first = two_moments(&mut SystemClock::new(Once::new(None)));
-    assert!(rt; none_at_first == (0, 0));
-    assert!(rt; goes_on(&mut SystemClock::new(&rt)));
+    let last_again = two_moments(&mut SystemClock::new(Once::new(Some(5)))) == (5, 5);
+    let none_at_first = two_moments(&mut SystemClock::new(Once::new(None))) == (0, 0);
+    let later = goes_on(&mut SystemClock::new(&rt));
+    assert!(rt; last_again & none_at_first & later);
 }

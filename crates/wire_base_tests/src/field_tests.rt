@@ -97,9 +97,10 @@ fn faults_at_the_end() -> bool {
 
 #[test]
 fn a_cursor_takes_fields_or_faults(rt: HostRuntime) {
-    assert!(rt; takes_fields_in_turn());
-    assert!(rt; faults_at_the_field());
-    assert!(rt; faults_at_the_end());
+    let in_turn = takes_fields_in_turn();
+    let at_the_field = faults_at_the_field();
+    let at_the_end = faults_at_the_end();
+    assert!(rt; in_turn & at_the_field & at_the_end);
 }
 
 /// Reads a number of two octets.

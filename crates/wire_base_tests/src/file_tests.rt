@@ -55,6 +55,17 @@ fn three_files(alloc: Global) -> Result<List<NamedFile>, Memory> {
     Ok(files)
 }
 
+/// Whether each read of the three files answers what is wanted, in turn; the calls with these
+/// numbers fail.
+fn three_answer(
+    alloc: Global,
+    failing: &[u64],
+    reads: &[(&str, usize, Wanted<'_>)],
+) -> Result<bool, Memory> {
+    let files = MemFiles::new(alloc, three_files(alloc)?, failing)?;
+    Ok(all_answer(files, reads))
+}
+
 const READS: [(&str, usize, Wanted<'static>); 6] = [
     ("a", 3, Wanted::Content(b"abc")),
     ("a", usize::MAX, Wanted::Content(b"abc")),
@@ -66,10 +77,9 @@ const READS: [(&str, usize, Wanted<'static>); 6] = [
 
 #[test]
 fn files_in_memory_are_found_by_name(rt: HostRuntime) -> Result<(), Fail> {
-    let files = MemFiles::new(rt.alloc(), three_files(rt.alloc())?, &[])?;
-    assert!(rt; all_answer(files, &READS));
-    let none = MemFiles::empty(rt.alloc());
-    assert!(rt; all_answer(none, &[("a", 9, Wanted::Missing)]));
+    let three = three_answer(rt.alloc(), &[], &READS)?;
+    let none = all_answer(MemFiles::empty(rt.alloc()), &[("a", 9, Wanted::Missing)]);
+    assert!(rt; three & none);
     Ok(())
 }
 
@@ -84,8 +94,7 @@ const FAILING_READS: [(&str, usize, Wanted<'static>); 5] = [
 
 #[test]
 fn reads_of_files_in_memory_fail_by_number(rt: HostRuntime) -> Result<(), Fail> {
-    let files = MemFiles::new(rt.alloc(), three_files(rt.alloc())?, &[4, 1, 3])?;
-    assert!(rt; all_answer(files, &FAILING_READS));
+    assert!(rt; three_answer(rt.alloc(), &[4, 1, 3], &FAILING_READS)?);
     Ok(())
 }
 
@@ -181,8 +190,8 @@ fn a_file_that_may_not_be_read_is_a_fault(rt: HostRuntime) -> Result<(), Fail> {
         Ok(_) => Wanted::Content(b"abc"),
         Err(_) => Wanted::Failed,
     };
-    let files = FolderFiles::new(rt.alloc(), &rt);
-    let answered = all_answer(files, &[("wire_base_unreadable", 9, wanted)]);
+    let reads = [("wire_base_unreadable", 9, wanted)];
+    let answered = all_answer(FolderFiles::new(rt.alloc(), &rt), &reads);
     fs::remove_file(&rt, "wire_base_unreadable")?;
     assert!(rt; answered);
     Ok(())

@@ -13,11 +13,16 @@ fn reads_as(text: Text, wanted: &str) -> Result<bool, Memory> {
     Ok((copy.as_str() == wanted) & (text.as_str() == wanted))
 }
 
+/// Whether a text that is made of a string, and its copy, read as that string.
+fn reads_as_its_string(alloc: Global) -> Result<bool, Fail> {
+    let name = Text::from_string(String::from_str(alloc, "name")?);
+    Ok(reads_as(name, "name")?)
+}
+
 #[test]
 fn a_text_is_its_octets(rt: HostRuntime) -> Result<(), Fail> {
     let made = reads_as(Text::new(rt.alloc(), "caf\u{e9}")?, "caf\u{e9}")?;
-    let name = Text::from_string(String::from_str(rt.alloc(), "name")?);
-    let taken = reads_as(name, "name")?;
+    let taken = reads_as_its_string(rt.alloc())?;
     assert!(rt; made & taken);
     Ok(())
 }
