@@ -91,7 +91,7 @@ fn follow_prints_doors_and_mirrors(rt: HostRuntime) -> Result<(), Memory> {
     Ok(())
 }
 
-/// Whether want of memory counts before a door that failed, and that before what a session found.
+/// Whether running out of memory counts before a door that failed, and that before findings.
 fn first_rows_count(alloc: Global) -> Result<bool, Memory> {
     let doors = two_doors(alloc)?;
     let stop = Some(SweepStop::Sweep(SweepError::Memory));

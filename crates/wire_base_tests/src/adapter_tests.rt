@@ -148,15 +148,15 @@ fn is_idle_and_fails(mut link: TcpLink<Interrupted>) -> bool {
     idle & (link.give(b"abc") == Err(Failed)) & (link.faults() == 1)
 }
 
-/// Whether no link is set up where the system refuses the settings.
-fn is_not_set_up() -> bool {
+/// Whether no link is made where the system refuses the settings.
+fn is_not_made() -> bool {
     TcpLink::from_stream(Interrupted, NonZeroU32::MIN).is_err()
 }
 
 #[test]
 fn an_interrupted_read_is_idle_and_a_write_fails(rt: HostRuntime) {
     let interrupted = is_idle_and_fails(TcpLink::new(Interrupted));
-    let refused = is_not_set_up();
+    let refused = is_not_made();
     assert!(rt; interrupted & refused);
 }
 
