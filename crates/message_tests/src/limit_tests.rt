@@ -1,7 +1,6 @@
 //! Identifiers, locators and bodies: their limits on both sides, and their order.
 
 use std::alloc::Global;
-use std::test::Fail;
 use swima_model::{
     Body, BodyLimit, Bounded, Ident, IdentLimit, Limit, Locator, LocatorLimit, LongRefused,
 };
