@@ -49,36 +49,36 @@ taken words takes =
     taken_rows (built collect_app).top (names_of (built collect_app)) words (is_some (entered (built collect_app) stop)) (entered_fault (built collect_app) stop) refl refl fine takes
 
 -- What each argument has.
-pub record CollectFound (rows : List Row) : Type 0 where
+pub record CollectFound (table : List Row) : Type 0 where
   pub listen : Text
-  pub listen_is : first_of (codes "listen") rows ≡ Some listen
-  pub epoch : HasNumber (codes "epoch") rows MOST_NUMBER
-  pub cap : HasNumber (codes "cap") rows 4096
-  pub workers : HasNumber (codes "workers") rows 64
-  pub sessions : HasNumber (codes "sessions") rows MOST_NUMBER
-  pub sweeps : HasNumber (codes "sweeps") rows MOST_NUMBER
-  pub names : length (texts_of (codes "names") rows) ≤ 255
+  pub listen_is : first_of (codes "listen") table ≡ Some listen
+  pub epoch : HasNumber (codes "epoch") table MOST_NUMBER
+  pub cap : HasNumber (codes "cap") table 4096
+  pub workers : HasNumber (codes "workers") table 64
+  pub sessions : HasNumber (codes "sessions") table MOST_NUMBER
+  pub sweeps : HasNumber (codes "sweeps") table MOST_NUMBER
+  pub names : length (texts_of (codes "names") table) ≤ 255
 
 abbrev rule_at : Text → Rule
 rule_at id = unwrap_or (arg_by_id rules id) (new_rule id)
 
-collect_found : (rows : List Row) → TakenRows rules rows → CollectFound rows
-collect_found rows t =
-    let listen = given_text rules rows t (codes "listen") (rule_at (codes "listen")) refl (omega arith) (t.given.0 refl) in
-    let epoch = given_text rules rows t (codes "epoch") (rule_at (codes "epoch")) refl (omega arith) (t.given.1.0 refl) in
-    let cap = default_text rules rows t (codes "cap") (rule_at (codes "cap")) refl (omega arith) (t.defaults.1.1.0 tt) in
-    let workers = default_text rules rows t (codes "workers") (rule_at (codes "workers")) refl (omega arith) (t.defaults.1.1.1.0 tt) in
-    let sessions = default_text rules rows t (codes "sessions") (rule_at (codes "sessions")) refl (omega arith) (t.defaults.1.1.1.1.0 tt) in
-    let sweeps = default_text rules rows t (codes "sweeps") (rule_at (codes "sweeps")) refl (omega arith) (t.defaults.1.1.1.1.1.0 tt) in
+collect_found : (table : List Row) → TakenRows rules table → CollectFound table
+collect_found table t =
+    let listen = given_text rules table t (codes "listen") (rule_at (codes "listen")) refl (omega arith) (t.given.0 refl) in
+    let epoch = given_text rules table t (codes "epoch") (rule_at (codes "epoch")) refl (omega arith) (t.given.1.0 refl) in
+    let cap = default_text rules table t (codes "cap") (rule_at (codes "cap")) refl (omega arith) (t.defaults.1.1.0 tt) in
+    let workers = default_text rules table t (codes "workers") (rule_at (codes "workers")) refl (omega arith) (t.defaults.1.1.1.0 tt) in
+    let sessions = default_text rules table t (codes "sessions") (rule_at (codes "sessions")) refl (omega arith) (t.defaults.1.1.1.1.0 tt) in
+    let sweeps = default_text rules table t (codes "sweeps") (rule_at (codes "sweeps")) refl (omega arith) (t.defaults.1.1.1.1.1.0 tt) in
     record {
       listen = listen.text;
       listen_is = listen.first;
-      epoch = number_there (codes "epoch") (rule_at (codes "epoch")) rows MOST_NUMBER refl (omega arith) epoch;
-      cap = number_there (codes "cap") (rule_at (codes "cap")) rows 4096 refl (omega arith) cap;
-      workers = number_there (codes "workers") (rule_at (codes "workers")) rows 64 refl (omega arith) workers;
-      sessions = number_there (codes "sessions") (rule_at (codes "sessions")) rows MOST_NUMBER refl (omega arith) sessions;
-      sweeps = number_there (codes "sweeps") (rule_at (codes "sweeps")) rows MOST_NUMBER refl (omega arith) sweeps;
-      names = words_within rules (codes "names") (rule_at (codes "names")) rows t.fits refl;
+      epoch = number_there (codes "epoch") (rule_at (codes "epoch")) table MOST_NUMBER refl (omega arith) epoch;
+      cap = number_there (codes "cap") (rule_at (codes "cap")) table 4096 refl (omega arith) cap;
+      workers = number_there (codes "workers") (rule_at (codes "workers")) table 64 refl (omega arith) workers;
+      sessions = number_there (codes "sessions") (rule_at (codes "sessions")) table MOST_NUMBER refl (omega arith) sessions;
+      sweeps = number_there (codes "sweeps") (rule_at (codes "sweeps")) table MOST_NUMBER refl (omega arith) sweeps;
+      names = words_within rules (codes "names") (rule_at (codes "names")) table t.fits refl;
     }
 
 pub text_is_there : {A : Type 0} (o : Option A) (x : A) → o ≡ Some x → IsSome o
@@ -128,12 +128,12 @@ collect_says words takes =
 pub collect_within : (words : List Text) (options : CollectOptions) → IsCollect words options → CollectWithin options
 collect_within words options is =
     let f = all_found words is.0 in
-    let rows = matches_of collect_app words in
-    let epoch = number_within (codes "epoch") rows MOST_NUMBER options.epoch f.epoch is.1.epoch in
-    let cap = number_within (codes "cap") rows 4096 options.cap f.cap is.1.cap in
-    let workers = number_within (codes "workers") rows 64 options.workers f.workers is.1.workers in
-    let sessions = number_within (codes "sessions") rows MOST_NUMBER options.sessions f.sessions is.1.sessions in
-    let sweeps = number_within (codes "sweeps") rows MOST_NUMBER options.sweeps f.sweeps is.1.sweeps in
+    let table = matches_of collect_app words in
+    let epoch = number_within (codes "epoch") table MOST_NUMBER options.epoch f.epoch is.1.epoch in
+    let cap = number_within (codes "cap") table 4096 options.cap f.cap is.1.cap in
+    let workers = number_within (codes "workers") table 64 options.workers f.workers is.1.workers in
+    let sessions = number_within (codes "sessions") table MOST_NUMBER options.sessions f.sessions is.1.sessions in
+    let sweeps = number_within (codes "sweeps") table MOST_NUMBER options.sweeps f.sweeps is.1.sweeps in
     record {
       epoch = epoch.0;
       cap = cap.0;

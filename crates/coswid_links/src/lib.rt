@@ -2,8 +2,8 @@
 //! right kind, and tags that claim one identity with different content.
 //!
 //! It stands on `coswid_tag` for tags, on `coswid_codec` for their canonical spelling, on
-//! `cbor_det`, on `wire_base`, and on `uuid` for the text of a UUID. The crates above rest on
-//! `findings` of `check_links`: all that is wrong, in order.
+//! `cbor_det`, on `wire_base`, on `uuid` for the text of a UUID, and on `thiserror` for the texts
+//! of errors. The crates above rest on `findings` of `check_links`: all that is wrong, in order.
 //!
 //! | file | what it holds | its words in `specs/` |
 //! |---|---|---|

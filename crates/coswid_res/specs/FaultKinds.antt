@@ -1,4 +1,4 @@
--- The numbers of the kinds of form faults: the table of docs/rules/tags.md.
+-- The numbers of the kinds of form faults: 'Form faults' in docs/rules/tags.md.
 use Rattle.std.specs.Prelude.{ℕ}
 use Rattle.coswid_res.specs.declared.fault_kind.FormFaultKind.{FormFaultKind}
 use Rattle.coswid_res.specs.declared.fault_kind.FormFaultKind.TheVariants as kind

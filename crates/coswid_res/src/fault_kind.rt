@@ -6,7 +6,7 @@ ghost use Rattle.coswid_res.specs.declared.fault_kind.FormFaultKind.{FormFaultKi
 
 use thiserror::Error;
 
-/// The kinds of form faults, with their numbers: the table of `docs/rules/tags.md`.
+/// The kinds of form faults, with their numbers: 'Form faults' in `docs/rules/tags.md`.
 #[derive(Clone, Copy, Debug, PartialEq, Eq, Error)]
 pub enum FormFaultKind {
     /// A required key is not there.

@@ -22,7 +22,7 @@
 //! | `tables/rows.rt` | one or more values: an array, or one alone | `Words`, `Items` |
 //! | `fault.rt` | form faults, with their paths | `Fault` |
 //! | `fault_kind.rt` | the kinds of form faults, by name | `FaultKinds` |
-//! | `tables/missing_key.rt` | the first key that a map has to have and has not | `Fault` |
+//! | `tables/missing_key.rt` | the fault that a key is missing | `Fault` |
 //! | `resources/table.rt` | the keys of payload and evidence | `Keys`, `Schema` |
 //! | `resources/file.rt` | files | `Files`, `Sizes` |
 //! | `resources/directory.rt` | directories, and what they hold | `Directories`, `DirectoryItems` |

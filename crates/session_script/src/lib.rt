@@ -8,7 +8,7 @@
 //!
 //! - the command `replay`, on `told` of `replay_answer`: what is printed, and how it ends, is what
 //!   `ReplayTells` says of all octets of the input;
-//! - `session_day`, on `stands` and `text` of `begin_book`, and on `stamp` of `stamp_at`.
+//! - `session_day`, on `stands` of `begin_book`, and on `text` and `stamp` of `stamp_at`.
 //!
 //! | file | what it holds | its words in `specs/` |
 //! |---|---|---|

@@ -1,10 +1,6 @@
 //! The keys of payload and evidence and of the maps in them, each with its number and the form of
 //! what stands under it (RFC 9393, sections 2.9.2 to 2.9.4).
 
-ghost use Rattle.std.specs.Prelude.{◌≡◌};
-ghost use Rattle.coswid_res.specs.Schema as schema;
-ghost use Rattle.coswid_res.specs.Schema.{keys_of};
-
 use crate::resources::directory::DirectoryTable;
 use crate::resources::file::FileTable;
 use crate::resources::process::ProcessTable;
