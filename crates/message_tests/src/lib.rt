@@ -14,7 +14,7 @@
 //! | `report_tests.rt` | copies, sizes and the flag of reports |
 //! | `written_tests.rt` | what is written of reports, and reports as large as they may be |
 //! | `request_tests.rt` | a copy of a request |
-//! | `status_tests.rt` | what is written and read of subscriptions, and the numbers of attributes |
+//! | `status_tests.rt` | what is written of subscriptions, and the numbers of attributes |
 //! | `subs_tests.rt` | what requests and reports do to the subscriptions of a session |
 #![tactic(auto)]
 

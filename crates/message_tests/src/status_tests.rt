@@ -1,13 +1,13 @@
-//! Subscriptions that are made by hand: what is written of them, and what is read. The octets are
-//! worked out by hand from the figures of RFC 8412, sections 5.6 and 5.12.
+//! Subscriptions that are made by hand: what is written of them. The octets are worked out by hand
+//! from the figures of RFC 8412, sections 5.6 and 5.12.
 
 use std::alloc::Global;
 use swima_model::{Ident, Kind, LongRefused};
 use swima_request::{
     Idents, Request, Requests, SUBSCRIPTION_STATUS_REQUEST, SUBSCRIPTION_STATUS_RESPONSE,
-    SWIMA_ATTRIBUTES, SWIMA_REQUEST, read_status, status_fits, write_status,
+    SWIMA_ATTRIBUTES, SWIMA_REQUEST, status_fits, write_status,
 };
-use wire_base::{FieldRefused, Octets};
+use wire_base::Octets;
 
 /// Two subscriptions.
 const TWO: [u8; 38] = [
@@ -70,37 +70,6 @@ fn is_written(alloc: Global) -> Result<bool, LongRefused> {
 #[test]
 fn subscriptions_are_written(rt: HostRuntime) {
     assert!(rt; is_written(rt.alloc()) == Ok(true));
-}
-
-/// Whether these are the requests in `TWO`.
-fn are_two(requests: &Requests) -> bool {
-    match requests.as_slice() {
-        [first, second] => {
-            let numbers = (first.id, first.earliest, second.id, second.earliest);
-            let flags = (first.clear, first.subscribe, second.clear, second.subscribe);
-            let kinds = (first.kind == Kind::Full) & (second.kind == Kind::Ids);
-            let targets = (first.targets.len(), second.targets.len()) == (2, 1);
-            let numbers = numbers == (0x0102_0304, 0, 5, 3);
-            numbers & kinds & targets & (flags == (false, true, true, true))
-        }
-        _ => false,
-    }
-}
-
-/// Whether what the octets are read as are the requests in `TWO`.
-fn is_read(alloc: Global, octets: &[u8]) -> Result<bool, FieldRefused> {
-    if octets.len() > 38 {
-        return Ok(false);
-    }
-    let requests = read_status(alloc, octets, 0)?;
-    Ok(are_two(&requests))
-}
-
-#[test]
-fn subscriptions_are_read(rt: HostRuntime) {
-    let whole = is_read(rt.alloc(), &TWO) == Ok(true);
-    let cut = is_read(rt.alloc(), &TWO[..37]) == Err(FieldRefused::Fault { offset: 35 });
-    assert!(rt; whole & cut);
 }
 
 /// The numbers that RFC 8412 gives to the messages and attributes, in sections 5.1 and 5.2.

@@ -5,6 +5,15 @@
 //! session is a talk (`session_talk`) that follows from what the end hears (`session_hear`). The
 //! crates above have the calls that make these talks.
 //!
+//! It stands above all on `session_hear` and `session_talk`, and for what the ends keep on
+//! `collector_core`, `swima_subs` and `validator_core`. The crates above rest on these definitions,
+//! which their clauses cite, and on these laws of `laws.rt`:
+//!
+//! - `served_is_so` and `followed_is_so`: the functions that give a session are its definition.
+//! - `later_entries_change_nothing` and `later_entries_change_no_part`: a collector's session stays
+//!   so, whatever comes after its places.
+//! - `stays_right_in_sessions` and `stays_right_in_parts`: a mirror that was right stays right.
+//!
 //! | file | what it holds |
 //! |---|---|
 //! | `config.rt`, `end.rt`, `record.rt` | how a session is configured, ended, and was noted |

@@ -18,11 +18,6 @@ use std::num::NonZeroU32;
 use swid_run::IDLE_TURNS;
 use wire_base::{DialDoor, FileSource, ListenDoor, Memory, Text};
 
-/// How many seconds a write to a connection waits for the other end: as long as a session waits.
-fn write_seconds() -> NonZeroU32 {
-    NonZeroU32::new(IDLE_TURNS).unwrap()
-}
-
 /// Says on standard error that a text is no address, where it is none: the network is not asked
 /// then.
 pub(crate) fn say_no_address<R: Net + Eprint>(rt: &R, address: &str) {
@@ -31,14 +26,6 @@ pub(crate) fn say_no_address<R: Net + Eprint>(rt: &R, address: &str) {
             // Nobody is left to inform where standard error fails.
             let _ = eprintln!(rt; "swid: {address} is no address: a host, a colon and a port");
         }
-    }
-}
-
-/// Says on standard error that a file is not there or can't be looked at, and why.
-fn say_unreadable<R: fs::Files + Eprint>(rt: &R, name: &str) {
-    if let Err(error) = rt.metadata(name) {
-        // Nobody is left to inform where standard error fails.
-        let _ = eprintln!(rt; "swid: cannot open {name}: {}", error.kind());
     }
 }
 
@@ -95,6 +82,11 @@ pub(crate) fn dialling<'a, R: Net>(
     Ok(stands)
 }
 
+/// How many seconds a write to a connection waits for the other end: as long as a session waits.
+fn write_seconds() -> NonZeroU32 {
+    NonZeroU32::new(IDLE_TURNS).unwrap()
+}
+
 /// The set of the sources that the lines of these files are.
 pub(crate) fn line_sources<'a, R: fs::Files + Eprint>(
     alloc: Global,
@@ -112,4 +104,12 @@ pub(crate) fn line_sources<'a, R: fs::Files + Eprint>(
         sources.push(ReportingLines::new(rt, name.as_str(), LineSource::new(alloc, file)?))?;
     }
     Sources::new(alloc, sources)
+}
+
+/// Says on standard error that a file is not there or can't be looked at, and why.
+fn say_unreadable<R: fs::Files + Eprint>(rt: &R, name: &str) {
+    if let Err(error) = rt.metadata(name) {
+        // Nobody is left to inform where standard error fails.
+        let _ = eprintln!(rt; "swid: cannot open {name}: {}", error.kind());
+    }
 }

@@ -1,6 +1,6 @@
 //! A gate, which says on standard error why a session ended and why sweeping stopped.
 
-use pb_batch::PbFault;
+use pb_batch::{PbErrorCode, PbFault};
 use session_pool::{Gate, SessionEnd, SweepStop, Watch};
 use std::fmt;
 use std::io::Eprint;
@@ -46,12 +46,7 @@ impl fmt::Display for Why {
         match self.0 {
             SessionEnd::Closed => f.write_str("it was closed here"),
             SessionEnd::PeerClosed => f.write_str("the peer closed it"),
-            SessionEnd::PeerError { vendor, code } => {
-                write!(
-                    f,
-                    "the peer reported the error {code} of the vendor {vendor}"
-                )
-            }
+            SessionEnd::PeerError { vendor, code } => fmt_peer_error(f, vendor, code),
             SessionEnd::Refused { code, offset } => {
                 let version = 0;
                 let fault = PbFault {
@@ -71,4 +66,17 @@ impl fmt::Display for Why {
             SessionEnd::Memory => f.write_str("out of memory"),
         }
     }
+}
+
+/// A PB-Error of the peer: by name where the IETF gave the code, else by its numbers.
+fn fmt_peer_error<W: fmt::Write>(f: &mut fmt::Formatter<W>, vendor: u32, code: u16) -> fmt::Result {
+    if vendor == 0 {
+        if let Some(code) = PbErrorCode::from_number(code) {
+            return write!(f, "the peer reported the error {code}");
+        }
+    }
+    write!(
+        f,
+        "the peer reported the error {code} of the vendor {vendor}"
+    )
 }

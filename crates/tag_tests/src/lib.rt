@@ -1,7 +1,7 @@
 //! Tests of the crates for CoSWID tags: `cbor_det`, `coswid_res`, `coswid_tag`, `coswid_codec` and
 //! `coswid_links`. Worked rows of octets are tried by the program `conformance`.
 //!
-//! It stands on these crates, on `wire_base`, and on `hex` for digits.
+//! It stands on these crates and on `wire_base`.
 //!
 //! | file | what it tests |
 //! |---|---|
@@ -9,7 +9,7 @@
 //! | `map_tests.rt` | maps of that many pairs that their count needs a longer head |
 //! | `pair_tests.rt` | pairs of a map, put in one by one and taken out |
 //! | `key_tests.rt` | keys with the form of what stands under them: put, read and refused |
-//! | `every_key_tests.rt` | tags with each key of each map, and directories as deep as may be |
+//! | `depth_tests.rt` | tags with directories as deep as they may be |
 //! | `code_tests.rt` | relations of links: numbers, and texts that name them |
 //! | `resource_tests.rt` | payload and evidence, written as items and read again |
 //! | `verify_tests.rt` | the check of a payload against files in memory |
@@ -28,9 +28,9 @@ mod code_tests;
 #[cfg(test)]
 mod copy_tests;
 #[cfg(test)]
-mod error_tests;
+mod depth_tests;
 #[cfg(test)]
-mod every_key_tests;
+mod error_tests;
 #[cfg(test)]
 mod feed_tests;
 #[cfg(test)]
