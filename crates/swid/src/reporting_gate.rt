@@ -72,11 +72,11 @@ impl fmt::Display for Why {
 fn fmt_peer_error<W: fmt::Write>(f: &mut fmt::Formatter<W>, vendor: u32, code: u16) -> fmt::Result {
     if vendor == 0 {
         if let Some(code) = PbErrorCode::from_number(code) {
-            return write!(f, "the peer reported the error {code}");
+            return write!(f, "the peer reported an error: {code}");
         }
     }
     write!(
         f,
-        "the peer reported the error {code} of the vendor {vendor}"
+        "the peer reported an error: code {code} of the vendor {vendor}"
     )
 }
