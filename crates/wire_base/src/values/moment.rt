@@ -37,13 +37,35 @@ impl Moment {
     pub(crate) fn from_text(text: &[u8; 20]) -> Self
         ensures moment { result ≡ moment_at text.now }
     {
+        let [
+            y1,
+            y2,
+            y3,
+            y4,
+            _,
+            m1,
+            m2,
+            _,
+            d1,
+            d2,
+            _,
+            h1,
+            h2,
+            _,
+            n1,
+            n2,
+            _,
+            s1,
+            s2,
+            _,
+        ] = *text;
         Moment {
-            year: spelled(&text[0..4]),
-            month: spelled(&text[5..7]),
-            day: spelled(&text[8..10]),
-            hour: spelled(&text[11..13]),
-            minute: spelled(&text[14..16]),
-            second: spelled(&text[17..19]),
+            year: spelled(&[y1, y2, y3, y4]),
+            month: spelled(&[m1, m2]),
+            day: spelled(&[d1, d2]),
+            hour: spelled(&[h1, h2]),
+            minute: spelled(&[n1, n2]),
+            second: spelled(&[s1, s2]),
         }
     }
 
