@@ -1,12 +1,13 @@
-//! Tests of the commands of `swid_cli`: calls that fail, and large inputs. Worked rows of the
-//! commands are tried by the program `conformance`.
+//! Tests of the commands of `swid_cli`: calls that fail, and large inputs; and of the options of
+//! `command_options`. Worked rows of the commands are tried by the program `conformance`.
 //!
-//! It stands on `swid_cli`. For inputs, outputs and files in memory it stands on `wire_base`, and
-//! for digits on `hex`.
+//! It stands on `swid_cli`, on `command_options`, and on `swima_model` for kinds. For inputs,
+//! outputs and files in memory it stands on `wire_base`, and for digits on `hex`.
 //!
 //! | file | what it tests |
 //! |---|---|
 //! | `usage_tests.rt` | words that are no command line |
+//! | `option_tests.rt` | words that are options of `collect` or `follow`, and words that are none |
 //! | `tag_tests.rt` | `tag`: calls that fail, and large inputs |
 //! | `verify_tests.rt` | `tag verify`: reads that fail or would fail, and a file that is too long |
 //! | `links_tests.rt` | `links`: calls that fail, and inputs of more octets than it looks at |
@@ -22,6 +23,8 @@ mod links_tests;
 mod long_input;
 #[cfg(test)]
 mod mirror_tests;
+#[cfg(test)]
+mod option_tests;
 #[cfg(test)]
 mod run;
 #[cfg(test)]

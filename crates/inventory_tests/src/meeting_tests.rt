@@ -2,7 +2,7 @@
 
 ghost use Rattle.std.specs.Prelude.{◌≡◌, true};
 
-use crate::values::{content, count_from, create, inventory, is_at, opened};
+use crate::shelf_values::{content, count_from, create, inventory, is_at, opened};
 use book_lock::{Pass, Shelf};
 use std::alloc::Global;
 use std::sync::Wait;

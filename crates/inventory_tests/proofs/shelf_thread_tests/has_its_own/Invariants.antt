@@ -1,5 +1,5 @@
 use Rattle.std.proofs.Common.{◌≡◌, true}
-use Rattle.book_lock_tests.proofs.thread_tests.has_its_own.Given as goal
+use Rattle.inventory_tests.proofs.shelf_thread_tests.has_its_own.Given as goal
 
 abbrev pub invariant-loop-number : goal.invariant-loop-number
 invariant-loop-number g l = (l.pass.shelf ≡ l.shelf) × (l.pass.may_change ≡ true)

@@ -2,7 +2,7 @@
 
 ghost use Rattle.std.specs.Prelude.{◌≡◌, true};
 
-use crate::values::{STAMP, content, count_from, inventory, opened};
+use crate::shelf_values::{STAMP, content, count_from, inventory, opened};
 use book_lock::Clerk;
 use collector_core::{BookError, Desk};
 use std::alloc::Global;
