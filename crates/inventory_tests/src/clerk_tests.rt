@@ -2,7 +2,8 @@
 
 ghost use Rattle.std.specs.Prelude.{◌≡◌, true};
 
-use crate::shelf_values::{STAMP, content, count_from, inventory, opened};
+use crate::books::STAMP;
+use crate::shelf_values::{content, count_from, inventory, opened};
 use book_lock::Clerk;
 use collector_core::{BookError, Desk};
 use std::alloc::Global;

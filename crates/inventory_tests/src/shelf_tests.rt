@@ -2,7 +2,8 @@
 
 ghost use Rattle.std.specs.Prelude.{◌≡◌, true};
 
-use crate::shelf_values::{STAMP, content, count_from, create, inventory, is_at, opened};
+use crate::books::STAMP;
+use crate::shelf_values::{content, count_from, create, inventory, is_at, opened};
 use book_lock::{Closed, Pass, Shelf};
 use collector_core::{BookError, Changed, Edit};
 use std::alloc::Global;

@@ -3,16 +3,14 @@
 
 ghost use Rattle.std.specs.Prelude.{◌≡◌, IfSome, true};
 
+use crate::books::{STAMP, request};
 use book_lock::{Pass, Shelf};
 use collector_core::{Answer, Book, Edit};
 use std::alloc::Global;
 use std::sync::Wait;
-use swima_model::{Body, Content, Ident, Kind, Locator, Model, Point, Report};
+use swima_model::{Body, Content, Ident, Locator, Model, Point, Report};
 use swima_request::Request;
 use wire_base::{List, is_stamp};
-
-/// The moment of each change.
-pub(crate) const STAMP: [u8; 20] = *b"2026-02-03T04:05:06Z";
 
 /// A shelf of a book at epoch 7 without records, which keeps 400 events, and its pass.
 pub(crate) fn opened(alloc: Global) -> Option<(Shelf, Pass)>
@@ -64,14 +62,7 @@ pub(crate) fn content(alloc: Global, ident: &[u8], source: u8) -> Option<Content
 
 /// A request for the inventory of all records.
 pub(crate) fn inventory(alloc: Global) -> Request {
-    Request {
-        clear: false,
-        subscribe: false,
-        kind: Kind::Full,
-        id: 1,
-        earliest: 0,
-        targets: List::new(alloc),
-    }
+    request(0, List::new(alloc))
 }
 
 /// How many records of a source an inventory has.
